@@ -1,0 +1,5 @@
+-- The laws that the functions' proofs cite.
+pub mod Bits
+pub mod Words
+pub mod Range
+pub mod Rules

@@ -1,0 +1,17 @@
+-- `add_named` meets its contract, by those of the two functions that it calls.
+use mathlib.Core.Path.{_∙_}
+use borrow.Author.Needs.{needs}
+use Rattle.charset.proofs.add_named.Statement.{statement}
+use Rattle.charset.proofs.add_named.Tie as tie
+
+class-of-requires : tie.Need-class-of-requires
+class-of-requires c κs = search needs
+
+add-class-requires : tie.Need-add-class-requires
+add-class-requires c κs = search needs
+
+returns : tie.Need-returns
+returns c x h = c .add-class .ensures x h ∙ rw (c .before .class-of .ensures x h)
+
+pub add-named-spec : {M : Type 1} → statement M
+add-named-spec = tie.close (tie.spec class-of-requires add-class-requires returns)

@@ -1,0 +1,136 @@
+-- The two calls as a caller meets them: what is handed in, what is answered, and what is left behind.
+use mathlib.Core.List.{List, [], _∷_, _++_}
+use mathlib.Core.Option.{Option, none, some}
+use Prim.Native.Nat.{ℕ, _*_, _/_, _^_}
+use lib.ListN.{length, drop, replicate}
+use lib.Dec.{ltb, leb}
+use Rattle.syntax.specs.declared.Reason.{Reason}
+use Rattle.syntax.specs.declared.Reason.the-variants.{RuleTooLong, SubjectTooLong, UnknownFlag, BudgetTooLarge, RuleAreaShort, WorkAreaShort, ResultAreaShort}
+use Rattle.syntax.specs.Limits.{ruleLimit, subjectLimit, budgetLimit, ruleAreaNeed, workPerStep, flagBits, rowLength}
+use Rattle.syntax.specs.Read.{if_then_else_, Read, sound, refused}
+use Rattle.syntax.specs.Tree.{Rule}
+use Rattle.syntax.specs.Reading.{reading}
+use Rattle.semantics.specs.States.{Row, row}
+use Rattle.semantics.specs.Answers.{Outcome, matched, notMatched, exhausted, Answer, answer, Ending, complete, full, exhaustedAt, Listing, listing}
+
+-- What is handed in ---------------------------------------------------------
+
+pub record Call : Type 0 where
+  pub rule : List ℕ
+  pub flags : ℕ
+  pub subject : List ℕ
+  pub budget : ℕ
+  pub ruleArea : List ℕ  -- lent, with whatever stands in them
+  pub workArea : List ℕ
+  pub resultArea : List ℕ
+
+-- "the work area 16 x budget of them"
+unfoldable pub workAreaNeed : ℕ → ℕ
+workAreaNeed budget = workPerStep * budget
+
+-- refusals 1 to 7, "tested in this order"
+unfoldable pub unacceptable : Call → Option Reason
+unacceptable c =
+    if ltb ruleLimit (length (c .rule)) then some RuleTooLong
+    else if ltb subjectLimit (length (c .subject)) then some SubjectTooLong
+    else if leb (2 ^ flagBits) (c .flags) then some UnknownFlag
+    else if ltb budgetLimit (c .budget) then some BudgetTooLarge
+    else if ltb (length (c .ruleArea)) ruleAreaNeed then some RuleAreaShort
+    else if ltb (length (c .workArea)) (workAreaNeed (c .budget)) then some WorkAreaShort
+    else if ltb (length (c .resultArea)) rowLength then some ResultAreaShort
+    else none
+
+-- What is left behind ---------------------------------------------------------
+
+-- what a call answers, and what stands in the areas when it returns
+pub record Return (A : Type 0) : Type 0 where
+  pub outcome : A
+  pub ruleArea : List ℕ
+  pub workArea : List ℕ
+  pub resultArea : List ℕ
+
+-- numbers written over the first ones of an area: "All other numbers in the area stay unchanged"
+unfoldable pub over : List ℕ → List ℕ → List ℕ
+over numbers area = numbers ++ drop (length numbers) area
+
+-- "their needed first part is zero and the rest unchanged"
+unfoldable pub cleared : ℕ → List ℕ → List ℕ
+cleared need area = over (replicate need 0) area
+
+module _ {A : Type 0} where
+  -- "After refusals 1 to 7 both areas are unchanged"
+  unfoldable pub untouched : A → Call → Return A
+  untouched a c = record { outcome = a; ruleArea = c .ruleArea; workArea = c .workArea; resultArea = c .resultArea }
+
+  -- after any other return, with these numbers written into the result area
+  unfoldable pub leaving : A → List ℕ → Call → Return A
+  leaving a numbers c = record {
+    outcome = a;
+    ruleArea = cleared ruleAreaNeed (c .ruleArea);
+    workArea = cleared (workAreaNeed (c .budget)) (c .workArea);
+    resultArea = over numbers (c .resultArea);
+  }
+
+-- A call of either kind: how it tells a refusal, by place and reason, and what it makes of a rule that is sound.
+module _ {A : Type 0} (refusal : ℕ → Reason → A) (answered : Call → Rule → Return A) where
+  unfoldable pub withReading : Call → Read (Rule × ℕ) → Return A
+  withReading c (sound r at) = answered c (r .0)
+  withReading c (refused place why) = leaving (refusal place why) [] c
+
+  -- "For 1 to 7 .. the place is 0."
+  unfoldable pub unlessRefused : Call → Option Reason → Return A
+  unlessRefused c (some why) = untouched (refusal 0 why) c
+  unlessRefused c none = withReading c (reading (c .rule) (c .flags))
+
+  unfoldable pub call : Call → Return A
+  call c = unlessRefused c (unacceptable c)
+
+-- A match -----------------------------------------------------------------------
+
+pub data MatchOutcome : Type 0 where
+  Matched : ℕ → MatchOutcome  -- the steps
+  NotMatched : ℕ → MatchOutcome  -- the steps
+  Exhausted : ℕ → ℕ → MatchOutcome  -- the start and the steps
+  Refused : ℕ → Reason → MatchOutcome  -- the place and the reason
+
+-- "A match writes one row when matched and otherwise none."
+unfoldable pub matchReturns : Call → Outcome → ℕ → Return MatchOutcome
+matchReturns c (matched start t) steps = leaving (Matched steps) (row start t) c
+matchReturns c notMatched steps = leaving (NotMatched steps) [] c
+matchReturns c (exhausted start) steps = leaving (Exhausted start steps) [] c
+
+unfoldable pub matchRule : Call → Rule → Return MatchOutcome
+matchRule c r = let a = answer (c .subject) r (c .budget) in matchReturns c (a .outcome) (a .steps)
+
+unfoldable pub matchCall : Call → Return MatchOutcome
+matchCall c = call Refused matchRule c
+
+-- A listing ---------------------------------------------------------------------
+
+pub data ListOutcome : Type 0 where
+  Complete : ℕ → ℕ → ListOutcome  -- the rows written and the steps
+  Full : ℕ → ℕ → ListOutcome  -- the rows written and the steps
+  ListExhausted : ℕ → ℕ → ℕ → ListOutcome  -- the start, the rows written and the steps
+  ListRefused : ℕ → Reason → ListOutcome  -- the place and the reason
+
+unfoldable pub listOutcome : Ending → ℕ → ℕ → ListOutcome
+listOutcome complete rows steps = Complete rows steps
+listOutcome full rows steps = Full rows steps
+listOutcome (exhaustedAt start) rows steps = ListExhausted start rows steps
+
+-- the numbers of rows, one after another
+unfoldable pub joined : List Row → List ℕ
+joined [] = []
+joined (x ∷ rows) = x ++ joined rows
+
+-- "A listing has as many rows as 66 fits into its area"
+unfoldable pub room : List ℕ → ℕ
+room area = length area / rowLength
+
+unfoldable pub listRule : Call → Rule → Return ListOutcome
+listRule c r =
+    let l = listing (c .subject) r (c .budget) (room (c .resultArea)) in
+    leaving (listOutcome (l .ending) (length (l .rows)) (l .steps)) (joined (l .rows)) c
+
+unfoldable pub listCall : Call → Return ListOutcome
+listCall c = call ListRefused listRule c

@@ -1,0 +1,15 @@
+-- What a rule means on a subject, in the order in which to read it; Laws has the facts that are proved of it.
+pub mod Assertions
+pub mod States
+pub mod Items
+pub mod Repeats
+pub mod Derivations
+pub mod Walk
+pub mod Theorem
+pub mod Runs
+pub mod Answers
+pub mod Calls
+pub mod Laws
+pub mod Computing
+pub mod Starred
+pub mod Traps

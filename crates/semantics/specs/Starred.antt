@@ -1,0 +1,86 @@
+-- 01, "Checked readings": those marked *, from the rules' bytes, of the calls themselves. One statement over one list.
+use mathlib.Core.Path.{_≡_, refl}
+use mathlib.Core.List.{List, [], _∷_, _++_, map}
+use Prim.Native.Nat.{ℕ, _+_, _-_, _*_}
+use Prim.Native.String.{String}
+use lib.ListN.{length, take, replicate}
+use Rattle.syntax.specs.declared.Reason.{Reason}
+use Rattle.syntax.specs.declared.Reason.the-variants.{UnclosedGroup, RepeatOnRepeat, NoSuchGroup, BadRange}
+use Rattle.syntax.specs.Limits.{ruleAreaNeed, unset, spansLength, rowLength}
+use Rattle.syntax.specs.Read.{bytes}
+use Rattle.semantics.specs.States.{Row}
+use Rattle.semantics.specs.Calls.{Call, workAreaNeed, Return, MatchOutcome, Matched, NotMatched, Exhausted, Refused, matchCall, ListOutcome, Complete, listCall, joined}
+use Rattle.semantics.specs.Computing.{computing-calls}
+
+-- One call and what it gives --------------------------------------------------
+
+-- a rule, flags, a subject and a budget, with areas just large enough, the last for so many rows
+unfoldable pub lending : String → ℕ → String → ℕ → ℕ → Call
+lending rule flags subject budget rows = record {
+  rule = bytes rule;
+  flags = flags;
+  subject = bytes subject;
+  budget = budget;
+  ruleArea = replicate ruleAreaNeed 7;
+  workArea = replicate (workAreaNeed budget) 7;
+  resultArea = replicate (rows * rowLength) 7;
+}
+
+-- a row: start, end and the spans of the groups that the rule has
+unfoldable pub rowOf : ℕ → ℕ → List ℕ → Row
+rowOf start stop spans = start ∷ stop ∷ spans ++ replicate (spansLength - length spans) unset
+
+pub data Checked : Type 0 where
+  -- rule, flags, subject, budget; the outcome and the rows written
+  matching : String → ℕ → String → ℕ → MatchOutcome → List Row → Checked
+  -- the same, with the rows that there is room for
+  listing : String → ℕ → String → ℕ → ℕ → ListOutcome → List Row → Checked
+
+-- an outcome, and the first numbers of the result area
+pub data Gives : Type 0 where
+  matches : MatchOutcome → List ℕ → Gives
+  lists : ListOutcome → List ℕ → Gives
+
+unfoldable pub calls : Checked → Gives
+calls (matching rule flags subject budget outcome rows) =
+    let after = matchCall (lending rule flags subject budget 1) in
+    matches (after .outcome) (take (length (joined rows)) (after .resultArea))
+calls (listing rule flags subject budget limit outcome rows) =
+    let after = listCall (lending rule flags subject budget limit) in
+    lists (after .outcome) (take (length (joined rows)) (after .resultArea))
+
+unfoldable pub expected : Checked → Gives
+expected (matching rule flags subject budget outcome rows) = matches outcome (joined rows)
+expected (listing rule flags subject budget limit outcome rows) = lists outcome (joined rows)
+
+unfoldable pub computing-checks : Unit {0}
+unfolding computing-calls lending rowOf calls expected
+computing-checks = tt
+
+-- The list ------------------------------------------------------------------------
+
+unfoldable pub starred : List Checked
+starred =
+    matching "" 0 "" 1000 (Matched 1) (rowOf 0 0 [] ∷ [])
+    ∷ matching "a" 0 "a" 1000 (Matched 2) (rowOf 0 1 [] ∷ [])
+    ∷ matching "a" 0 "b" 1000 (NotMatched 2) []
+    ∷ matching "a|b" 0 "b" 1000 (Matched 5) (rowOf 0 1 [] ∷ [])
+    ∷ matching "a*" 0 "aa" 1000 (Matched 7) (rowOf 0 2 [] ∷ [])
+    ∷ matching "a*" 0 "aa" 6 (Exhausted 0 6) []
+    ∷ matching "(\\d+),(\\d+)" 0 "1,5" 1000 (Matched 14) (rowOf 0 3 (0 ∷ 1 ∷ 2 ∷ 3 ∷ []) ∷ [])
+    ∷ matching "(a?)*" 0 "b" 1000 (Matched 7) (rowOf 0 0 (0 ∷ 0 ∷ []) ∷ [])
+    ∷ listing "(a?)*" 0 "b" 1000 9 (Complete 4 16) (rowOf 0 0 (0 ∷ 0 ∷ []) ∷ rowOf 0 0 [] ∷ rowOf 1 1 (1 ∷ 1 ∷ []) ∷ rowOf 1 1 [] ∷ [])
+    ∷ listing "^(?:(\\d{1,3},\\d{3})|(\\d+,\\d+)) L$" 0 "1,500 L" 1000 9 (Complete 2 51) (rowOf 0 7 (0 ∷ 5 ∷ []) ∷ rowOf 0 7 (unset ∷ unset ∷ 0 ∷ 5 ∷ []) ∷ [])
+    ∷ matching "[][]" 0 "]" 1000 (Matched 2) (rowOf 0 1 [] ∷ [])
+    ∷ matching "[[]]" 0 "[]" 1000 (Matched 3) (rowOf 0 2 [] ∷ [])
+    ∷ matching "." 0 "\n" 1000 (NotMatched 2) []
+    ∷ matching "." 1 "\n" 1000 (Matched 2) (rowOf 0 1 [] ∷ [])
+    ∷ matching "(" 0 "" 1000 (Refused 0 UnclosedGroup) []
+    ∷ matching "a**" 0 "" 1000 (Refused 2 RepeatOnRepeat) []
+    ∷ matching "\\1" 0 "" 1000 (Refused 0 NoSuchGroup) []
+    ∷ matching "[z-a]" 0 "" 1000 (Refused 1 BadRange) []
+    ∷ []
+
+pub starred-readings : map calls starred ≡ map expected starred
+unfolding computing-checks starred
+starred-readings = refl

@@ -1,0 +1,67 @@
+-- 01's traps and the inputs that tell the readings of its open points apart (docs/DECISIONS.md), of the calls themselves, as in Starred.
+use mathlib.Core.Path.{_≡_, refl}
+use mathlib.Core.List.{List, [], _∷_, map}
+use Rattle.syntax.specs.declared.Reason.the-variants.{UnknownFlag, BudgetTooLarge}
+use Rattle.syntax.specs.Limits.{unset}
+use Rattle.semantics.specs.Calls.{Matched, NotMatched, Exhausted, Refused, Complete, Full, ListExhausted}
+use Rattle.semantics.specs.Starred.{rowOf, Checked, matching, listing, calls, expected, computing-checks}
+
+unfoldable pub traps : List Checked
+traps =
+    -- trap 1: the first branch wins, not the longest
+    matching "a|ab" 0 "ab" 99 (Matched 3) (rowOf 0 1 [] ∷ [])
+    -- trap 2: captures of a branch that was given up are gone
+    ∷ matching "(a)b|a" 0 "a" 99 (Matched 8) (rowOf 0 1 [] ∷ [])
+    ∷ matching "(?:()a|()b){2}" 0 "bb" 99 (Matched 20) (rowOf 0 2 (unset ∷ unset ∷ 1 ∷ 1 ∷ []) ∷ [])
+    ∷ matching "\\1*?(a)$" 0 "aa" 99 (Matched 12) (rowOf 1 2 (1 ∷ 2 ∷ []) ∷ [])
+    -- trap 3: the empty round counts
+    ∷ matching "(a?)*" 0 "" 99 (Matched 7) (rowOf 0 0 (0 ∷ 0 ∷ []) ∷ [])
+    ∷ matching "(|a){2,3}$" 0 "a" 99 (Matched 20) (rowOf 0 1 (1 ∷ 1 ∷ []) ∷ [])
+    ∷ matching "(){3}" 0 "" 99 (Matched 11) (rowOf 0 0 (0 ∷ 0 ∷ []) ∷ [])
+    -- trap 4: `$` before a final newline; `^` under `m` not after it
+    ∷ matching "a$" 0 "a\n" 99 (Matched 3) (rowOf 0 1 [] ∷ [])
+    ∷ matching "a\\z" 0 "a\n" 99 (NotMatched 4) []
+    ∷ matching "a$" 0 "a\nb" 99 (NotMatched 5) []
+    ∷ matching "a$" 2 "a\nb" 99 (Matched 3) (rowOf 0 1 [] ∷ [])
+    ∷ listing "^" 2 "a\nb\n" 99 9 (Complete 2 7) (rowOf 0 0 [] ∷ rowOf 2 2 [] ∷ [])
+    ∷ listing "$" 0 "a\n" 99 9 (Complete 2 5) (rowOf 1 1 [] ∷ rowOf 2 2 [] ∷ [])
+    ∷ listing "\\b" 0 "ab c" 99 9 (Complete 4 9) (rowOf 0 0 [] ∷ rowOf 2 2 [] ∷ rowOf 3 3 [] ∷ rowOf 4 4 [] ∷ [])
+    ∷ listing "\\B" 0 "ab" 99 9 (Complete 1 4) (rowOf 1 1 [] ∷ [])
+    -- trap 5: equal spans whose captures differ are two readings
+    ∷ listing "(a)|a" 0 "a" 99 9 (Complete 2 13) (rowOf 0 1 (0 ∷ 1 ∷ []) ∷ rowOf 0 1 [] ∷ [])
+    -- D1: a round keeps a span that it doesn't set again
+    ∷ matching "((a)*)*" 0 "a" 99 (Matched 18) (rowOf 0 1 (1 ∷ 1 ∷ 0 ∷ 1 ∷ []) ∷ [])
+    -- a reference inside its own group sees the former span
+    ∷ matching "(a|b\\1)+" 0 "aba" 99 (Matched 20) (rowOf 0 3 (1 ∷ 3 ∷ []) ∷ [])
+    -- S1: the decision at the maximum costs its step
+    ∷ matching "a?" 0 "a" 99 (Matched 4) (rowOf 0 1 [] ∷ [])
+    ∷ matching "a{1}" 0 "a" 99 (Matched 4) (rowOf 0 1 [] ∷ [])
+    ∷ matching "a{0}" 0 "" 99 (Matched 2) (rowOf 0 0 [] ∷ [])
+    -- S2, S3: a walk is exhausted only if it needs a further step, and that ends the call
+    ∷ matching "a" 0 "b" 1 (NotMatched 2) []
+    ∷ matching "" 0 "" 0 (Exhausted 0 0) []
+    ∷ matching "a*" 0 "aa" 7 (Matched 7) (rowOf 0 2 [] ∷ [])
+    -- S4: the end needs its step before it can find no room
+    ∷ listing "(a)|a" 0 "a" 8 1 (Full 1 8) (rowOf 0 1 (0 ∷ 1 ∷ []) ∷ [])
+    ∷ listing "(a)|a" 0 "a" 7 1 (ListExhausted 0 1 7) (rowOf 0 1 (0 ∷ 1 ∷ []) ∷ [])
+    -- S5: the same reading again needs no room
+    ∷ listing "a|a" 0 "a" 99 1 (Complete 1 10) (rowOf 0 1 [] ∷ [])
+    ∷ listing "a|a|(a)" 0 "a" 99 1 (Full 1 11) (rowOf 0 1 [] ∷ [])
+    -- S6: room for one row, and for two
+    ∷ listing "" 0 "a" 99 1 (Full 1 2) (rowOf 0 0 [] ∷ [])
+    ∷ listing "" 0 "a" 99 2 (Complete 2 2) (rowOf 0 0 [] ∷ rowOf 1 1 [] ∷ [])
+    -- S7: a reference to an unset group costs one step
+    ∷ matching "\\1(a)" 0 "a" 99 (NotMatched 2) []
+    -- S8: an empty branch of two costs its step, a single branch none
+    ∷ matching "(?:|a)" 0 "" 99 (Matched 2) (rowOf 0 0 [] ∷ [])
+    ∷ matching "(?:)" 0 "" 99 (Matched 1) (rowOf 0 0 [] ∷ [])
+    -- lazy repeats go on first
+    ∷ listing "a*?" 0 "aa" 99 9 (Complete 6 18) (rowOf 0 0 [] ∷ rowOf 0 1 [] ∷ rowOf 0 2 [] ∷ rowOf 1 1 [] ∷ rowOf 1 2 [] ∷ rowOf 2 2 [] ∷ [])
+    -- refusals 3 and 4
+    ∷ matching "(" 4 "" 99 (Refused 0 UnknownFlag) []
+    ∷ matching "(" 0 "" 100001 (Refused 0 BudgetTooLarge) []
+    ∷ []
+
+pub traps-avoided : map calls traps ≡ map expected traps
+unfolding computing-checks traps
+traps-avoided = refl

@@ -1,0 +1,83 @@
+-- Bracketed classes. `from` is the position of the class's `[`, the place of "class not closed".
+use mathlib.Core.List.{List, [], _∷_}
+use mathlib.Core.Bool.{Bool, true, false, not, _&&_}
+use mathlib.Core.Option.{Option, none, some}
+use Prim.Native.Nat.{ℕ, zero, suc, _+_}
+use Prim.Native.Char.{code}
+use lib.ListN.{length, drop}
+use lib.Dec.{leb}
+use Rattle.syntax.specs.declared.Reason.the-variants.{UnclosedClass, BadRange, UnknownSet}
+use Rattle.syntax.specs.Read.{if_then_else_, byte, isEnd, is, between, Read, sound, refused, andThen}
+use Rattle.charset.specs.declared.Named.{Named}
+use Rattle.syntax.specs.Sets.{setNamed, Member, single, range, named, notNamed, Class}
+use Rattle.syntax.specs.Numbers.{run}
+use Rattle.syntax.specs.Escapes.{classEscape}
+
+-- "lower-case letters (maybe none)"
+unfoldable pub letters : List ℕ → ℕ → List ℕ
+letters s at = run (between "a" "z") (drop at s)
+
+unfoldable pub posixMember : ℕ → Bool → Option Named → ℕ → Read Member
+posixMember at negated none next = refused at UnknownSet
+posixMember at true (some n) next = sound (notNamed n) next
+posixMember at false (some n) next = sound (named n) next
+
+-- letters and `:]` make a named set; "any other `[` is literal"
+unfoldable pub posixName : List ℕ → ℕ → Bool → ℕ → Read Member
+posixName s at negated start =
+    let name = letters s start in
+    let next = start + length name in
+    if is ":" (byte s next) && is "]" (byte s (next + 1)) then posixMember at negated (setNamed name) (next + 2)
+    else sound (single (code "[")) (at + 1)
+
+-- "`[:`, an optional `^` (the complement)"
+unfoldable pub posix : List ℕ → ℕ → Read Member
+posix s at =
+    if not (is ":" (byte s (at + 1))) then sound (single (code "[")) (at + 1)
+    else if is "^" (byte s (at + 2)) then posixName s at true (at + 3)
+    else posixName s at false (at + 2)
+
+-- a byte or a set, as a member or as a range's end
+unfoldable pub element : List ℕ → ℕ → ℕ → Read Member
+element s from at =
+    let b = byte s at in
+    if isEnd b then refused from UnclosedClass
+    else if is "\\" b then classEscape s at
+    else if is "[" b then posix s at
+    else sound (single b) (at + 1)
+
+unfoldable pub rangeEnd : Member → Option ℕ
+rangeEnd (single b) = some b
+rangeEnd (range low high) = none
+rangeEnd (named n) = none
+rangeEnd (notNamed n) = none
+
+-- "A range whose low end exceeds its high end, or with a set at either end, is refused": its place is its first byte's
+unfoldable pub rangeOf : ℕ → Option ℕ → Option ℕ → ℕ → Read Member
+rangeOf at none high next = refused at BadRange
+rangeOf at (some a) none next = refused at BadRange
+rangeOf at (some a) (some b) next = if leb a b then sound (range a b) next else refused at BadRange
+
+-- whether a `-` behind an element makes a range: it does unless it is last
+unfoldable pub makesRange : List ℕ → ℕ → Bool
+makesRange s at = is "-" (byte s at) && not (is "]" (byte s (at + 1)))
+
+-- One element or one range. A `-` that is first, last or right after a range is read as an element here. A range is refused
+-- "once both its ends have been read soundly".
+unfoldable pub member : List ℕ → ℕ → ℕ → Read Member
+member s from at = andThen (element s from at) (λ low next.
+    if makesRange s next then andThen (element s from (next + 1)) (λ high after. rangeOf at (rangeEnd low) (rangeEnd high) after)
+    else sound low next)
+
+-- The members up to the closing `]`, the latest first. "`]` first (or just after that `^`) is literal." Each member takes a byte
+-- or more: the first number bounds them.
+unfoldable pub members : ℕ → List ℕ → ℕ → Bool → List Member → ℕ → Read (List Member)
+members zero s from first before at = refused from UnclosedClass
+members (suc f) s from first before at =
+    if is "]" (byte s at) && not first then sound before (at + 1)
+    else andThen (member s from at) (λ m next. members f s from false (m ∷ before) next)
+
+unfoldable pub class : List ℕ → ℕ → Read Class
+class s from =
+    if is "^" (byte s (from + 1)) then andThen (members (length s) s from true [] (from + 2)) (λ ms next. sound (record { negated = true; members = ms }) next)
+    else andThen (members (length s) s from true [] (from + 1)) (λ ms next. sound (record { negated = false; members = ms }) next)

@@ -1,0 +1,260 @@
+-- A sound reading's tree is well formed.
+use mathlib.Core.Path.{_≡_, refl}
+use mathlib.Core.List.{List}
+use mathlib.Core.Bool.{Bool, true, false, not, _||_}
+use mathlib.Core.Option.{Option, none, some}
+use Prim.Native.Nat.{ℕ, zero, suc, _+_, _≤_, _<_}
+use native.Mathlib.Omega.{arith}
+use lib.ListN.{length}
+use lib.Dec.{eqb, leb, ltb}
+use borrow.Author.Tests.{ltb-true, leb-true, eqb-false, not-false}
+use Rattle.syntax.specs.Limits.{groupLimit, nestingLimit}
+use Rattle.syntax.specs.Read.{if_then_else_, byte, isEnd, is, Read, sound, refused}
+use Rattle.syntax.specs.Tree.{Item, byteIn, assert, reference, Greed, Most, Rule, empty, item, seq, alt, group, repeat, Branches, one, also, alternatives}
+use Rattle.syntax.specs.Quantifiers.{Quantifier, absent, stray, unfit, times, quantifier}
+use Rattle.syntax.specs.Grammar.{atom, Inner, closing, capturing, grouped, Sequence, unrepeatable, repeatable, repeated, whole, withItem, unfitFor, repeating, nextItem, part, ends, sequence, branch, further, alternation, inside}
+use Rattle.syntax.specs.Reading.{parsed, firstOf, dangling, unresolved, unresolvedIn, resolved, reading}
+use Rattle.syntax.specs.WellFormed.{BoundsFit, Proper, Propers, Refers, Resolved, ResolvedIn, groupDepth, groupDepths, repeatDepth, repeatDepths, WellFormed}
+use Rattle.syntax.specs.Laws.Forward.{Given, if-given, test-given, then-given, given-less, Holding, Bounded, quantifier-on}
+
+-- Trees among so many groups, in which groups and repeats nest so deep ---------
+
+mutual
+  proper-more : (t : Rule) (g h : ℕ) → g ≤ h → Proper g t → Proper h t
+  proper-more empty g h l p = tt
+  proper-more (item at i) g h l p = tt
+  proper-more (seq a b) g h l p = (proper-more a g h l (p .0), proper-more b g h l (p .1))
+  proper-more (alt bs b) g h l p = (propers-more bs g h l (p .0), proper-more b g h l (p .1))
+  proper-more (group n a) g h l p = (p .0, omega (arith, p .1), proper-more a g h l (p .2))
+  proper-more (repeat at n m x a) g h l p = (p .0, proper-more a g h l (p .1))
+
+  propers-more : (bs : Branches) (g h : ℕ) → g ≤ h → Propers g bs → Propers h bs
+  propers-more (one a) g h l p = proper-more a g h l p
+  propers-more (also bs b) g h l p = (propers-more bs g h l (p .0), proper-more b g h l (p .1))
+
+pub record Fits (g d e : ℕ) (t : Rule) : Type 0 where
+  pub proper : Proper g t
+  pub groups : groupDepth t ≤ d
+  pub repeats : repeatDepth t ≤ e
+
+fits-more : (t : Rule) (g h d e : ℕ) → g ≤ h → Fits g d e t → Fits h d e t
+fits-more t g h d e l f = record { proper = proper-more t g h l (f .proper); groups = f .groups; repeats = f .repeats }
+
+fits-empty : (g d e : ℕ) → Fits g d e empty
+fits-empty g d e = record { proper = tt; groups = omega arith; repeats = omega arith }
+
+fits-item : (g d e at : ℕ) (i : Item) → Fits g d e (item at i)
+fits-item g d e at i = record { proper = tt; groups = omega arith; repeats = omega arith }
+
+fits-seq : (g d e : ℕ) (a b : Rule) → Fits g d e a → Fits g d e b → Fits g d e (seq a b)
+fits-seq g d e a b f h = record { proper = (f .proper, h .proper); groups = omega (arith, f .groups, h .groups); repeats = omega (arith, f .repeats, h .repeats) }
+
+fits-group : (g d e n : ℕ) (a : Rule) → 1 ≤ n → n ≤ g → suc (groupDepth a) ≤ d → Fits g d e a → Fits g d e (group n a)
+fits-group g d e n a l m k f = record { proper = (l, m, f .proper); groups = k; repeats = f .repeats }
+
+fits-repeat : (g d e at n : ℕ) (m : Most) (x : Greed) (a : Rule) → BoundsFit n m → Fits g d e a → Fits g d (suc e) (repeat at n m x a)
+fits-repeat g d e at n m x a b f = record { proper = (b, f .proper); groups = f .groups; repeats = omega (arith, f .repeats) }
+
+fits-wider : (g d e : ℕ) (a : Rule) → Fits g d e a → Fits g d (suc e) a
+fits-wider g d e a f = record { proper = f .proper; groups = f .groups; repeats = omega (arith, f .repeats) }
+
+-- branches of an alternation
+pub record AllFit (g d e : ℕ) (bs : Branches) : Type 0 where
+  pub proper : Propers g bs
+  pub groups : groupDepths bs ≤ d
+  pub repeats : repeatDepths bs ≤ e
+
+all-more : (bs : Branches) (g h d e : ℕ) → g ≤ h → AllFit g d e bs → AllFit h d e bs
+all-more bs g h d e l f = record { proper = propers-more bs g h l (f .proper); groups = f .groups; repeats = f .repeats }
+
+all-one : (g d e : ℕ) (a : Rule) → Fits g d e a → AllFit g d e (one a)
+all-one g d e a f = record { proper = f .proper; groups = f .groups; repeats = f .repeats }
+
+all-also : (g d e : ℕ) (bs : Branches) (b : Rule) → AllFit g d e bs → Fits g d e b → AllFit g d e (also bs b)
+all-also g d e bs b f h = record { proper = (f .proper, h .proper); groups = omega (arith, f .groups, h .groups); repeats = omega (arith, f .repeats, h .repeats) }
+
+alternatives-fit : (g d e : ℕ) (bs : Branches) → AllFit g d e bs → Fits g d e (alternatives bs)
+unfolding alternatives
+alternatives-fit g d e (one a) f = record { proper = f .proper; groups = f .groups; repeats = f .repeats }
+alternatives-fit g d e (also bs b) f = record { proper = f .proper; groups = f .groups; repeats = f .repeats }
+
+-- a sequence whose groups nest d deep: its last item may still be repeated
+abbrev FitsIn : ℕ → ℕ → Sequence → Type 0
+FitsIn g d (unrepeatable t) = Fits g d (suc d) t
+FitsIn g d (repeatable b l) = Fits g d (suc d) b × Fits g d d l
+FitsIn g d (repeated t) = Fits g d (suc d) t
+
+whole-fits : (g d : ℕ) (q : Sequence) → FitsIn g d q → Fits g d (suc d) (whole q)
+unfolding whole
+whole-fits g d (unrepeatable t) f = f
+whole-fits g d (repeatable b l) f = fits-seq g d (suc d) b l (f .0) (fits-wider g d d l (f .1))
+whole-fits g d (repeated t) f = f
+
+-- What readings give ---------------------------------------------------------
+
+-- more groups have been opened, within the limit
+abbrev Grown : ℕ → ℕ → Type 0
+Grown old new = (old ≤ new) × (new ≤ groupLimit)
+
+abbrev Good : ℕ → ℕ → ℕ → (Rule × ℕ) → ℕ → Type 0
+Good old d e r p = Grown old (r .1) × Fits (r .1) d e (r .0)
+
+abbrev GoodIn : ℕ → ℕ → (Sequence × ℕ) → ℕ → Type 0
+GoodIn old d r p = Grown old (r .1) × FitsIn (r .1) d (r .0)
+
+-- the inside of a group whose own nesting counts
+abbrev GoodInside : ℕ → ℕ → (Rule × ℕ) → ℕ → Type 0
+GoodInside old d r p = Grown old (r .1) × Fits (r .1) d d (r .0) × (suc (groupDepth (r .0)) ≤ d)
+
+unfoldable InnerFits : ℕ → Inner → Type 0
+InnerFits d inner = (opening at opened : ℕ) → opened ≤ groupLimit → Given (inner opening at opened) (GoodInside opened d)
+
+closing-fits : (s : List ℕ) (opening : ℕ) (t : Rule) (old new at d e : ℕ) → Grown old new → Fits new d e t → Given (closing s opening t new at) (Good old d e)
+unfolding closing
+closing-fits s opening t old new at d e g f = if-given _ _ _ (is ")" (byte s at)) (g, f) tt
+
+grouped-fits : (s : List ℕ) (inner : Inner) (at opened d : ℕ) → InnerFits d inner → opened ≤ groupLimit → Given (grouped s inner at opened) (Good opened d d)
+unfolding grouped capturing InnerFits
+grouped-fits s inner at opened d h l =
+    if-given _ _ _ (not (is "?" (byte s (at + 1))))
+    (test-given _ _ _ (ltb opened groupLimit) (λ e. let k : opened < groupLimit = ltb-true opened groupLimit e in
+    then-given (GoodInside (opened + 1) d) (Good opened d d) (inner at (at + 1) (opened + 1)) _ (h at (at + 1) (opened + 1) (omega arith)) (λ r p f.
+    closing-fits s at (group (opened + 1) (r .0)) opened (r .1) p d d (omega (arith, f .0 .0), f .0 .1) (fits-group (r .1) d d (opened + 1) (r .0) (omega arith) (f .0 .0) (f .2) (f .1))))
+    (λ e. tt))
+    (if-given _ _ _ (is ":" (byte s (at + 2)))
+    (then-given (GoodInside opened d) (Good opened d d) (inner at (at + 3) opened) _ (h at (at + 3) opened l) (λ r p f. closing-fits s at (r .0) opened (r .1) p d d (f .0) (f .1)))
+    tt)
+
+withItem-fits : (g d : ℕ) (q : Sequence) (at : ℕ) (i : Item) → FitsIn g d q → FitsIn g d (withItem q at i)
+unfolding withItem
+withItem-fits g d q at (byteIn c) f = (whole-fits g d q f, fits-item g d d at (byteIn c))
+withItem-fits g d q at (assert a) f = fits-seq g d (suc d) (whole q) (item at (assert a)) (whole-fits g d q f) (fits-item g d (suc d) at (assert a))
+withItem-fits g d q at (reference n) f = (whole-fits g d q f, fits-item g d d at (reference n))
+
+nextItem-fits : (s : List ℕ) (flags : ℕ) (inner : Inner) (q : Sequence) (opened at d : ℕ) → InnerFits d inner → opened ≤ groupLimit → FitsIn opened d q → Given (nextItem s flags inner q opened at) (GoodIn opened d)
+unfolding nextItem
+nextItem-fits s flags inner q opened at d h l f = if-given _ _ _ (is "(" (byte s at))
+    (then-given (Good opened d d) (GoodIn opened d) (grouped s inner at opened) _ (grouped-fits s inner at opened d h l) (λ r p k.
+    (k .0, (fits-more (whole q) opened (r .1) d (suc d) (k .0 .0) (whole-fits opened d q f), k .1))))
+    (then-given (λ i p. Unit) (GoodIn opened d) (atom s flags opened at) _ (any-given (atom s flags opened at)) (λ i p k. ((omega arith, l), withItem-fits opened d q at i f)))
+  where
+    any-given : {A : Type 0} (a : Read A) → Given a (λ x n. Unit)
+    any-given (sound a n) = tt
+    any-given (refused p r) = tt
+
+unfitFor-fits : (q : Sequence) (at opened d : ℕ) → Given (unfitFor q at) (GoodIn opened d)
+unfolding unfitFor
+unfitFor-fits (unrepeatable t) at opened d = tt
+unfitFor-fits (repeatable b l) at opened d = tt
+unfitFor-fits (repeated t) at opened d = tt
+
+repeating-fits : (q : Sequence) (at n : ℕ) (m : Most) (x : Greed) (opened next d : ℕ) → opened ≤ groupLimit → BoundsFit n m → FitsIn opened d q → Given (repeating q at n m x opened next) (GoodIn opened d)
+unfolding repeating
+repeating-fits (unrepeatable t) at n m x opened next d l b f = tt
+repeating-fits (repeatable before last) at n m x opened next d l b f =
+    ((omega arith, l), fits-seq opened d (suc d) before (repeat at n m x last) (f .0) (fits-repeat opened d d at n m x last b (f .1)))
+repeating-fits (repeated t) at n m x opened next d l b f = tt
+
+part-fits : (s : List ℕ) (flags : ℕ) (inner : Inner) (q : Sequence) (opened at d : ℕ) (x : Quantifier) → InnerFits d inner → opened ≤ groupLimit → FitsIn opened d q → Holding x (Bounded (at + 1))
+    → Given (part s flags inner q opened at x) (GoodIn opened d)
+unfolding part
+part-fits s flags inner q opened at d absent h l f b = nextItem-fits s flags inner q opened at d h l f
+part-fits s flags inner q opened at d stray h l f b = tt
+part-fits s flags inner q opened at d unfit h l f b = unfitFor-fits q at opened d
+part-fits s flags inner q opened at d (times n m x next) h l f b = repeating-fits q at n m x opened next d l (b .0) f
+
+sequence-fits : (k : ℕ) (s : List ℕ) (flags : ℕ) (inner : Inner) (q : Sequence) (old opened at d : ℕ) → InnerFits d inner → Grown old opened → FitsIn opened d q → Given (sequence k s flags inner q opened at) (Good old d (suc d))
+unfolding sequence
+sequence-fits zero s flags inner q old opened at d h l f = (l, whole-fits opened d q f)
+sequence-fits (suc k) s flags inner q old opened at d h l f = if-given _ _ _ (ends (byte s at)) (l, whole-fits opened d q f)
+    (then-given (GoodIn opened d) (Good old d (suc d)) (part s flags inner q opened at (quantifier s at)) _ (part-fits s flags inner q opened at d (quantifier s at) h (l .1) f (quantifier-on s at))
+    (λ r p g. sequence-fits k s flags inner (r .0) old (r .1) p d h (omega (arith, l .0, g .0 .0), g .0 .1) (g .1)))
+
+branch-fits : (s : List ℕ) (flags : ℕ) (inner : Inner) (old opened at d : ℕ) → InnerFits d inner → Grown old opened → Given (branch s flags inner opened at) (Good old d (suc d))
+unfolding branch
+branch-fits s flags inner old opened at d h l = sequence-fits (length s) s flags inner (unrepeatable empty) old opened at d h l (fits-empty opened d (suc d))
+
+further-fits : (k : ℕ) (s : List ℕ) (flags : ℕ) (inner : Inner) (bs : Branches) (old opened at d : ℕ) → InnerFits d inner → Grown old opened → AllFit opened d (suc d) bs → Given (further k s flags inner bs opened at) (Good old d (suc d))
+unfolding further
+further-fits zero s flags inner bs old opened at d h l f = (l, alternatives-fit opened d (suc d) bs f)
+further-fits (suc k) s flags inner bs old opened at d h l f = if-given _ _ _ (is "|" (byte s at))
+    (then-given (Good opened d (suc d)) (Good old d (suc d)) (branch s flags inner opened (at + 1)) _ (branch-fits s flags inner opened opened (at + 1) d h (omega arith, l .1)) (λ r p g.
+    further-fits k s flags inner (also bs (r .0)) old (r .1) p d h (omega (arith, l .0, g .0 .0), g .0 .1) (all-also (r .1) d (suc d) bs (r .0) (all-more bs opened (r .1) d (suc d) (g .0 .0) f) (g .1))))
+    (l, alternatives-fit opened d (suc d) bs f)
+
+alternation-fits : (s : List ℕ) (flags : ℕ) (inner : Inner) (opened at d : ℕ) → InnerFits d inner → opened ≤ groupLimit → Given (alternation s flags inner opened at) (Good opened d (suc d))
+unfolding alternation
+alternation-fits s flags inner opened at d h l = then-given (Good opened d (suc d)) (Good opened d (suc d)) (branch s flags inner opened at) _ (branch-fits s flags inner opened opened at d h (omega arith, l)) (λ r p g.
+    further-fits (length s) s flags inner (one (r .0)) opened (r .1) p d h (g .0) (all-one (r .1) d (suc d) (r .0) (g .1)))
+
+inside-fits : (d : ℕ) (s : List ℕ) (flags : ℕ) → InnerFits d (inside d s flags)
+unfolding inside InnerFits
+inside-fits zero s flags opening at opened l = tt
+inside-fits (suc d) s flags opening at opened l = given-less (Good opened d (suc d)) (GoodInside opened (suc d)) (alternation s flags (inside d s flags) opened at)
+    (alternation-fits s flags (inside d s flags) opened at d (inside-fits d s flags) l)
+    (λ r p g. (g .0, record { proper = g .1 .proper; groups = omega (arith, g .1 .groups); repeats = g .1 .repeats }, omega (arith, g .1 .groups)))
+
+-- References -----------------------------------------------------------------
+
+first-none : (p q : Option ℕ) → firstOf p q ≡ none → (p ≡ none) × (q ≡ none)
+unfolding firstOf
+first-none none q e = (refl, e)
+first-none (some x) q e = (e, absurd (some-none x e))
+  where
+    some-none : (x : ℕ) → some x ≡ none → ⊥
+    some-none x e = let bad : _≡_ {A = ℕ} 0 1 = cc in omega arith
+
+or-false : (a b : Bool) → (a || b) ≡ false → (a ≡ false) × (b ≡ false)
+or-false true b e = (e, true-false e)
+  where
+    true-false : true ≡ false → b ≡ false
+    true-false e = cc
+or-false false b e = (refl, e)
+
+tested : (b : Bool) (at : ℕ) → (if b then some at else none) ≡ none → b ≡ false
+tested true at e = cc
+tested false at e = refl
+
+refers : (groups at : ℕ) (i : Item) → dangling groups at i ≡ none → Refers groups i
+unfolding dangling
+refers groups at (byteIn c) e = tt
+refers groups at (assert a) e = tt
+refers groups at (reference n) e =
+    let t = or-false (eqb n 0) (not (leb n groups)) (tested (eqb n 0 || not (leb n groups)) at e) in
+    let z : n ≡ 0 → ⊥ = eqb-false n 0 (t .0) in
+    (positive n z, leb-true n groups (not-false (leb n groups) (t .1)))
+  where
+    positive : (n : ℕ) → (n ≡ 0 → ⊥) → 1 ≤ n
+    positive zero h = absurd (h refl)
+    positive (suc n) h = omega arith
+
+mutual
+  unfolding unresolved unresolvedIn
+
+  resolves : (groups : ℕ) (t : Rule) → unresolved groups t ≡ none → Resolved groups t
+  resolves groups empty e = tt
+  resolves groups (item at i) e = refers groups at i e
+  resolves groups (seq a b) e = let n = first-none (unresolved groups a) (unresolved groups b) e in (resolves groups a (n .0), resolves groups b (n .1))
+  resolves groups (alt bs b) e = let n = first-none (unresolvedIn groups bs) (unresolved groups b) e in (resolvesIn groups bs (n .0), resolves groups b (n .1))
+  resolves groups (group n a) e = resolves groups a e
+  resolves groups (repeat at n m g a) e = resolves groups a e
+
+  resolvesIn : (groups : ℕ) (bs : Branches) → unresolvedIn groups bs ≡ none → ResolvedIn groups bs
+  resolvesIn groups (one a) e = resolves groups a e
+  resolvesIn groups (also bs b) e = let n = first-none (unresolvedIn groups bs) (unresolved groups b) e in (resolvesIn groups bs (n .0), resolves groups b (n .1))
+
+-- The whole rule -------------------------------------------------------------
+
+parsed-fits : (s : List ℕ) (flags : ℕ) → Given (parsed s flags) (Good 0 nestingLimit (suc nestingLimit))
+unfolding parsed
+parsed-fits s flags = then-given (Good 0 nestingLimit (suc nestingLimit)) (Good 0 nestingLimit (suc nestingLimit)) (alternation s flags (inside nestingLimit s flags) 0 0) _
+    (alternation-fits s flags (inside nestingLimit s flags) 0 0 nestingLimit (inside-fits nestingLimit s flags) (omega arith)) (λ r p g. if-given _ _ _ (isEnd (byte s p)) g tt)
+
+resolved-fits : (r : Rule × ℕ) (at : ℕ) (o : Option ℕ) → unresolved (r .1) (r .0) ≡ o → Good 0 nestingLimit (suc nestingLimit) r at → Given (resolved r at o) (λ x p. WellFormed (x .1) (x .0))
+unfolding resolved
+resolved-fits r at none e g = record { few = g .0 .1; proper = g .1 .proper; resolved = resolves (r .1) (r .0) e; groupsNest = g .1 .groups; repeatsNest = g .1 .repeats }
+resolved-fits r at (some place) e g = tt
+
+pub well-formed : (s : List ℕ) (flags : ℕ) → Given (reading s flags) (λ r at. WellFormed (r .1) (r .0))
+unfolding reading
+well-formed s flags = then-given (Good 0 nestingLimit (suc nestingLimit)) _ (parsed s flags) _ (parsed-fits s flags) (λ r at g. resolved-fits r at (unresolved (r .1) (r .0)) refl g)

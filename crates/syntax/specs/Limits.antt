@@ -1,0 +1,64 @@
+-- The quantities of 01, each named once.
+use Prim.Native.Nat.{ℕ, _+_, _*_}
+
+-- What a call takes ---------------------------------------------------------
+
+-- the longest rule and the longest subject, in bytes
+unfoldable pub ruleLimit : ℕ
+ruleLimit = 1000
+
+unfoldable pub subjectLimit : ℕ
+subjectLimit = 65535
+
+unfoldable pub budgetLimit : ℕ
+budgetLimit = 100000
+
+-- the numbers that the rule area needs, and the work area for each step of the budget
+unfoldable pub ruleAreaNeed : ℕ
+ruleAreaNeed = 16384
+
+unfoldable pub workPerStep : ℕ
+workPerStep = 16
+
+-- "Flags: bit 0 is `s`, bit 1 is `m`", and there are no others
+unfoldable pub dotAllBit : ℕ
+dotAllBit = 0
+
+unfoldable pub multilineBit : ℕ
+multilineBit = 1
+
+unfoldable pub flagBits : ℕ
+flagBits = 2
+
+-- What a rule may hold --------------------------------------------------------
+
+-- the most capturing groups that a rule can have
+unfoldable pub groupLimit : ℕ
+groupLimit = 32
+
+-- "groups nest at most 24 deep"
+unfoldable pub nestingLimit : ℕ
+nestingLimit = 24
+
+-- the greatest bound of a repeat
+unfoldable pub boundLimit : ℕ
+boundLimit = 255
+
+-- the greatest value of a byte, which an escape's number cannot exceed
+unfoldable pub byteLimit : ℕ
+byteLimit = 255
+
+-- Rows --------------------------------------------------------------------------
+
+-- "an unset or missing group is 4294967295 twice"
+unfoldable pub unset : ℕ
+unset = 4294967295
+
+-- two numbers for each group, "start, end, then 32 pairs"
+unfoldable pub spansLength : ℕ
+unfolding groupLimit
+spansLength = 2 * groupLimit
+
+unfoldable pub rowLength : ℕ
+unfolding spansLength
+rowLength = 2 + spansLength

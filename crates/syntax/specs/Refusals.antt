@@ -1,0 +1,30 @@
+-- 01, "Refusal numbers".
+use Prim.Native.Nat.{ℕ}
+use Rattle.syntax.specs.declared.Reason.{Reason}
+use Rattle.syntax.specs.declared.Reason.the-variants.{RuleTooLong, SubjectTooLong, UnknownFlag, BudgetTooLarge, RuleAreaShort, WorkAreaShort, ResultAreaShort, TrailingBackslash, UnknownEscape, MalformedEscape, NoSuchGroup, UnclosedClass, BadRange, UnknownSet, NothingToRepeat, BadBraces, RepeatOnRepeat, UnclosedGroup, UnopenedGroup, UnknownGroup, TooManyGroups, TooDeep}
+
+abbrev pub numberOf : Reason → ℕ
+-- of a call, before its rule is read
+numberOf RuleTooLong = 1
+numberOf SubjectTooLong = 2
+numberOf UnknownFlag = 3
+numberOf BudgetTooLarge = 4
+numberOf RuleAreaShort = 5
+numberOf WorkAreaShort = 6
+numberOf ResultAreaShort = 7
+-- of a rule
+numberOf TrailingBackslash = 10
+numberOf UnknownEscape = 11
+numberOf MalformedEscape = 12
+numberOf NoSuchGroup = 13
+numberOf UnclosedClass = 14
+numberOf BadRange = 15
+numberOf UnknownSet = 16
+numberOf NothingToRepeat = 17
+numberOf BadBraces = 18
+numberOf RepeatOnRepeat = 19
+numberOf UnclosedGroup = 20
+numberOf UnopenedGroup = 21
+numberOf UnknownGroup = 22
+numberOf TooManyGroups = 23
+numberOf TooDeep = 24

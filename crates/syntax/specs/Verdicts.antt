@@ -1,0 +1,210 @@
+-- The inputs that tell the readings of 01's open points apart (docs/DECISIONS.md), with the verdict that the reading of a rule gives.
+use mathlib.Core.Path.{_≡_, refl}
+use mathlib.Core.List.{List, [], _∷_, map}
+use Prim.Native.Nat.{ℕ}
+use Prim.Native.String.{String}
+use Rattle.syntax.specs.Refusals.{numberOf}
+use Rattle.syntax.specs.Read.{bytes, Read, sound, refused}
+use Rattle.syntax.specs.Tree.{Rule}
+use Rattle.syntax.specs.Reading.{reading}
+use Rattle.syntax.specs.Computing.{computing-readings}
+
+infix 70 _gives_at_
+infix 70 _holds_
+pub data Verdict : Type 0 where
+  _gives_at_ : String → ℕ → ℕ → Verdict  -- the rule is refused with a number at a place
+  _holds_ : String → ℕ → Verdict  -- the rule is sound and has so many groups
+
+unfoldable pub verdict : String → Read (Rule × ℕ) → Verdict
+verdict rule (sound r end) = rule holds (r .1)
+verdict rule (refused place why) = rule gives (numberOf why) at place
+
+-- what the reading of the rule says, without flags
+unfoldable pub read : Verdict → Verdict
+read (rule gives n at place) = verdict rule (reading (bytes rule) 0)
+read (rule holds n) = verdict rule (reading (bytes rule) 0)
+
+unfoldable pub verdicts : List Verdict
+verdicts =
+    -- P16: what the rule's end cuts off
+    "[\\" gives 10 at 1
+    ∷ "(\\" gives 10 at 1
+    ∷ "({" gives 18 at 1
+    ∷ "[\\c" gives 12 at 1
+    ∷ "[\\x{4" gives 12 at 1
+    -- P7: 23 and 24 are met before 20
+    ∷ "(((((((((((((((((((((((((" gives 24 at 24
+    ∷ "()()()()()()()()()()()()()()()()()()()()()()()()()()()()()()()()(" gives 23 at 64
+    ∷ "(((((((((((((((((((((((())))))))))))))))))))))))" holds 24
+    ∷ "()()()()()()()()()()()()()()()()()()()()()()()()()()()()()()()()" holds 32
+    ∷ "(?:(?:(?:(?:(?:(?:(?:(?:(?:(?:(?:(?:(?:(?:(?:(?:(?:(?:(?:(?:(?:(?:(?:(?:(?:" gives 24 at 72
+    -- P8, A1, A2: `(?`
+    ∷ "(?" gives 22 at 0
+    ∷ "(" gives 20 at 0
+    ∷ "a(?b" gives 22 at 1
+    ∷ "(((((((((((((((((((((((((?a" gives 22 at 24
+    ∷ "(?:)(?:)(?:)(?:)(?:)(?:)(?:)(?:)(?:)(?:)(?:)(?:)(?:)(?:)(?:)(?:)(?:)(?:)(?:)(?:)(?:)(?:)(?:)(?:)(?:)(?:)(?:)(?:)(?:)(?:)(?:)(?:)(?:)" holds 0
+    ∷ "()()()()()()()()()()()()()()()()()()()()()()()()()()()()()()()()(?:(?:(?:(?:(?:(?:(?:(?:(?:(?:(?:(?:(?:(?:(?:(?:(?:(?:(?:(?:(?:(?:(?:(?:(" gives 23 at 136
+    -- P9, P10, P12: 17, 18 and 19
+    ∷ "{1,0}" gives 17 at 0
+    ∷ "{256}" gives 17 at 0
+    ∷ "\\b{256}" gives 17 at 2
+    ∷ "(?:{256}" gives 17 at 3
+    ∷ "a*{1,0}" gives 18 at 2
+    ∷ "a*{256}" gives 18 at 2
+    ∷ "a*{" gives 18 at 2
+    ∷ "a*{2}" gives 19 at 2
+    ∷ "a{1,0}" gives 18 at 1
+    ∷ "a{255}" holds 0
+    ∷ "a{256}" gives 18 at 1
+    ∷ "a{256,}" gives 18 at 1
+    ∷ "a{1,256}" gives 18 at 1
+    ∷ "a{,3}" gives 18 at 1
+    ∷ "a{1, 2}" gives 18 at 1
+    ∷ "{" gives 18 at 0
+    ∷ "a{" gives 18 at 1
+    ∷ "\\N{2}" holds 0
+    ∷ "\\N{U}" gives 18 at 2
+    ∷ "\\b{" gives 18 at 2
+    -- P11, P14, P15: ranges
+    ∷ "[\\w-\\q]" gives 11 at 4
+    ∷ "[a-[:no:]]" gives 16 at 3
+    ∷ "[a-\\" gives 10 at 3
+    ∷ "[z-a]" gives 15 at 1
+    ∷ "[b-a" gives 15 at 1
+    ∷ "[z-\\d" gives 15 at 1
+    ∷ "[[:no:]" gives 16 at 1
+    ∷ "[\\d-" gives 14 at 0
+    ∷ "[a-" gives 14 at 0
+    -- P18, P13: escapes that lack something
+    ∷ "\\c\\" gives 12 at 0
+    ∷ "\\c\\\\" gives 12 at 0
+    ∷ "\\g" gives 12 at 0
+    ∷ "\\o" gives 12 at 0
+    ∷ "\\x" gives 12 at 0
+    ∷ "\\c" gives 12 at 0
+    ∷ "\\o1" gives 12 at 0
+    ∷ "\\gx" gives 12 at 0
+    ∷ "\\g{}" gives 12 at 0
+    ∷ "\\g{a}" gives 12 at 0
+    ∷ "\\g+1" gives 12 at 0
+    ∷ "\\g{ 1}" gives 12 at 0
+    ∷ "[\\g" gives 11 at 1
+    ∷ "\\" gives 10 at 0
+    ∷ "\\q" gives 11 at 0
+    ∷ "\\_" gives 11 at 0
+    ∷ "\\8" gives 13 at 0
+    ∷ "[\\8]" gives 11 at 1
+    ∷ "[\\N]" gives 11 at 1
+    ∷ "\\x4" gives 12 at 0
+    ∷ "\\x4g" gives 12 at 0
+    ∷ "\\x{100}" gives 12 at 0
+    ∷ "\\x{ff}" holds 0
+    ∷ "\\x{}" gives 12 at 0
+    ∷ "\\o{377}" holds 0
+    ∷ "\\o{400}" gives 12 at 0
+    ∷ "\\o{8}" gives 12 at 0
+    ∷ "\\c1" gives 12 at 0
+    ∷ "\\cA\\ca\\c?" holds 0
+    -- A3: the innermost opening that is still open
+    ∷ "(a(b)" gives 20 at 0
+    ∷ "((" gives 20 at 1
+    ∷ "([" gives 14 at 1
+    -- A4: 13 comes last of all
+    ∷ "\\1**" gives 19 at 3
+    ∷ "\\1(" gives 20 at 2
+    ∷ "\\2\\1" gives 13 at 0
+    ∷ "()\\2\\3" gives 13 at 2
+    ∷ "\\1" gives 13 at 0
+    ∷ "\\1()" holds 1
+    -- A5: the lazy mark takes one `?`
+    ∷ "a??" holds 0
+    ∷ "a???" gives 19 at 3
+    ∷ "a*?+" gives 19 at 3
+    ∷ "a{2}??" gives 19 at 5
+    ∷ "a{2}?" holds 0
+    ∷ "a**" gives 19 at 2
+    ∷ "a*+" gives 19 at 2
+    -- A6: what can be repeated
+    ∷ "(*" gives 17 at 1
+    ∷ "(?*" gives 22 at 0
+    ∷ "(?:*" gives 17 at 3
+    ∷ "^**" gives 17 at 1
+    ∷ "()*" holds 1
+    ∷ "(^)*" holds 1
+    ∷ "a|*" gives 17 at 2
+    ∷ "$+" gives 17 at 1
+    -- P1, P2, B1: numbers by their value
+    ∷ "a{00}" holds 0
+    ∷ "a{0255}" holds 0
+    ∷ "a{0256}" gives 18 at 1
+    ∷ "()\\g01" holds 1
+    ∷ "()\\g{-01}" holds 1
+    ∷ "\\g00" gives 13 at 0
+    ∷ "()\\18446744073709551617" gives 13 at 2
+    ∷ "()\\g{4294967297}" gives 13 at 2
+    ∷ "a{4294967297}" gives 18 at 1
+    ∷ "\\x{00000000000000000041}" holds 0
+    -- P3: octal in a class
+    ∷ "[\\400]" gives 12 at 1
+    ∷ "[\\400" gives 12 at 1
+    ∷ "[\\377]" holds 0
+    ∷ "[\\18]" holds 0
+    -- B2, B3, B4: references
+    ∷ "\\g-1" gives 13 at 0
+    ∷ "\\g-1()" gives 13 at 0
+    ∷ "(a)|\\g-1" holds 1
+    ∷ "(a\\g-1)" holds 1
+    ∷ "()\\g-2" gives 13 at 2
+    ∷ "\\g0" gives 13 at 0
+    ∷ "\\g{0}" gives 13 at 0
+    ∷ "\\g-0" gives 13 at 0
+    ∷ "\\g{-0}" gives 13 at 0
+    ∷ "()\\10" gives 13 at 2
+    ∷ "\\08" holds 0
+    ∷ "\\0123" holds 0
+    -- P4, P5, P6: `-` in a class
+    ∷ "[a--" gives 15 at 1
+    ∷ "[+--a]" holds 0
+    ∷ "[--+" gives 15 at 1
+    ∷ "[--a]" holds 0
+    ∷ "[a-a--a]" holds 0
+    ∷ "[a-c--+]" gives 15 at 4
+    -- P17, C1, C2: named sets
+    ∷ "[[:word:]]" holds 0
+    ∷ "[[:h:]]" gives 16 at 1
+    ∷ "[[:v:]]" gives 16 at 1
+    ∷ "[[::]]" gives 16 at 1
+    ∷ "[[:^:]]" gives 16 at 1
+    ∷ "[[:Alpha:]]" holds 0
+    ∷ "[[:al1:]]" holds 0
+    ∷ "[[.a.]]" holds 0
+    ∷ "[[:alpha]" holds 0
+    ∷ "[[:^alpha:]]" holds 0
+    -- C3, C4: ends of ranges, and `\c]`
+    ∷ "[\\d-]" holds 0
+    ∷ "[-\\d]" holds 0
+    ∷ "[a-c-\\d]" holds 0
+    ∷ "[\\d-a]" gives 15 at 1
+    ∷ "[a-\\d]" gives 15 at 1
+    ∷ "[[:alpha:]-z]" gives 15 at 1
+    ∷ "[a-[:digit:]]" gives 15 at 1
+    ∷ "[\\b-\\n]" holds 0
+    ∷ "[\\1-\\3]" holds 0
+    ∷ "[\\c]" gives 14 at 0
+    ∷ "[\\c]]" holds 0
+    -- brackets and braces that stand for themselves, and those that do not
+    ∷ ")" gives 21 at 0
+    ∷ "a)" gives 21 at 1
+    ∷ "]" holds 0
+    ∷ "}" holds 0
+    ∷ "[]" gives 14 at 0
+    ∷ "[]]" holds 0
+    ∷ "[^]" gives 14 at 0
+    ∷ "[^]]" holds 0
+    ∷ "[" gives 14 at 0
+    ∷ []
+
+pub verdicts-hold : map read verdicts ≡ verdicts
+unfolding computing-readings verdict read verdicts
+verdicts-hold = refl

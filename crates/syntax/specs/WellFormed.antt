@@ -1,0 +1,77 @@
+-- What the semantics needs of a rule's tree, and a sound reading gives.
+use Prim.Native.Nat.{ℕ, suc, max, _≤_}
+use Rattle.syntax.specs.Limits.{groupLimit, boundLimit, nestingLimit}
+use Rattle.syntax.specs.Tree.{Item, byteIn, assert, reference, Most, atMost, unlimited, Rule, empty, item, seq, alt, group, repeat, Branches, one, also}
+
+-- bounds are at most 255, and the minimum is at most the maximum
+abbrev pub BoundsFit : ℕ → Most → Type 0
+BoundsFit n (atMost m) = (n ≤ m) × (m ≤ boundLimit)
+BoundsFit n unlimited = n ≤ boundLimit
+
+-- groups are numbered from 1 up to their count, and every repeat's bounds fit
+abbrev mutual
+  pub Proper : ℕ → Rule → Type 0
+  Proper groups empty = Unit
+  Proper groups (item at i) = Unit
+  Proper groups (seq a b) = Proper groups a × Proper groups b
+  Proper groups (alt bs b) = Propers groups bs × Proper groups b
+  Proper groups (group n a) = (1 ≤ n) × (n ≤ groups) × Proper groups a
+  Proper groups (repeat at n m g a) = BoundsFit n m × Proper groups a
+
+  pub Propers : ℕ → Branches → Type 0
+  Propers groups (one a) = Proper groups a
+  Propers groups (also bs b) = Propers groups bs × Proper groups b
+
+abbrev pub Refers : ℕ → Item → Type 0
+Refers groups (byteIn c) = Unit
+Refers groups (assert a) = Unit
+Refers groups (reference n) = (1 ≤ n) × (n ≤ groups)
+
+-- every reference is to a group of the rule
+abbrev mutual
+  pub Resolved : ℕ → Rule → Type 0
+  Resolved groups empty = Unit
+  Resolved groups (item at i) = Refers groups i
+  Resolved groups (seq a b) = Resolved groups a × Resolved groups b
+  Resolved groups (alt bs b) = ResolvedIn groups bs × Resolved groups b
+  Resolved groups (group n a) = Resolved groups a
+  Resolved groups (repeat at n m g a) = Resolved groups a
+
+  pub ResolvedIn : ℕ → Branches → Type 0
+  ResolvedIn groups (one a) = Resolved groups a
+  ResolvedIn groups (also bs b) = ResolvedIn groups bs × Resolved groups b
+
+-- how deep capturing groups nest
+abbrev mutual
+  pub groupDepth : Rule → ℕ
+  groupDepth empty = 0
+  groupDepth (item at i) = 0
+  groupDepth (seq a b) = max (groupDepth a) (groupDepth b)
+  groupDepth (alt bs b) = max (groupDepths bs) (groupDepth b)
+  groupDepth (group n a) = suc (groupDepth a)
+  groupDepth (repeat at n m g a) = groupDepth a
+
+  pub groupDepths : Branches → ℕ
+  groupDepths (one a) = groupDepth a
+  groupDepths (also bs b) = max (groupDepths bs) (groupDepth b)
+
+-- how deep repeats nest
+abbrev mutual
+  pub repeatDepth : Rule → ℕ
+  repeatDepth empty = 0
+  repeatDepth (item at i) = 0
+  repeatDepth (seq a b) = max (repeatDepth a) (repeatDepth b)
+  repeatDepth (alt bs b) = max (repeatDepths bs) (repeatDepth b)
+  repeatDepth (group n a) = repeatDepth a
+  repeatDepth (repeat at n m g a) = suc (repeatDepth a)
+
+  pub repeatDepths : Branches → ℕ
+  repeatDepths (one a) = repeatDepth a
+  repeatDepths (also bs b) = max (repeatDepths bs) (repeatDepth b)
+
+pub record WellFormed (groups : ℕ) (r : Rule) : Type 0 where
+  pub few : groups ≤ groupLimit
+  pub proper : Proper groups r
+  pub resolved : Resolved groups r
+  pub groupsNest : groupDepth r ≤ nestingLimit
+  pub repeatsNest : repeatDepth r ≤ suc nestingLimit

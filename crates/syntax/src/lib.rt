@@ -1,0 +1,65 @@
+// What a rule is refused for. Rules themselves are defined in specs/.
+ghost use mathlib.Core.Path.{_≡_};
+ghost use Rattle.syntax.specs.Refusals.{numberOf};
+
+// Why a call is refused. The place stands beside it, in the refusal.
+pub enum Reason {
+    RuleTooLong,
+    SubjectTooLong,
+    UnknownFlag,
+    BudgetTooLarge,
+    RuleAreaShort,
+    WorkAreaShort,
+    ResultAreaShort,
+    TrailingBackslash,
+    UnknownEscape,
+    MalformedEscape,
+    NoSuchGroup,
+    UnclosedClass,
+    BadRange,
+    UnknownSet,
+    NothingToRepeat,
+    BadBraces,
+    RepeatOnRepeat,
+    UnclosedGroup,
+    UnopenedGroup,
+    UnknownGroup,
+    TooManyGroups,
+    TooDeep,
+}
+
+// A refusal: the place in the rule, and the reason.
+pub struct Refusal {
+    pub place: u32,
+    pub reason: Reason,
+}
+
+// The number of a reason.
+pub fn number(reason: Reason) -> u32
+    ensures { λ r. ⌜ r ≡ numberOf reason ⌝ }
+{
+    match reason {
+        Reason::RuleTooLong => 1,
+        Reason::SubjectTooLong => 2,
+        Reason::UnknownFlag => 3,
+        Reason::BudgetTooLarge => 4,
+        Reason::RuleAreaShort => 5,
+        Reason::WorkAreaShort => 6,
+        Reason::ResultAreaShort => 7,
+        Reason::TrailingBackslash => 10,
+        Reason::UnknownEscape => 11,
+        Reason::MalformedEscape => 12,
+        Reason::NoSuchGroup => 13,
+        Reason::UnclosedClass => 14,
+        Reason::BadRange => 15,
+        Reason::UnknownSet => 16,
+        Reason::NothingToRepeat => 17,
+        Reason::BadBraces => 18,
+        Reason::RepeatOnRepeat => 19,
+        Reason::UnclosedGroup => 20,
+        Reason::UnopenedGroup => 21,
+        Reason::UnknownGroup => 22,
+        Reason::TooManyGroups => 23,
+        Reason::TooDeep => 24,
+    }
+}
