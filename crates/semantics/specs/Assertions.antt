@@ -6,8 +6,9 @@ use lib.ListN.{length}
 use lib.Dec.{ltb, eqb}
 use Rattle.charset.specs.declared.Named.the-variants.{Word}
 use Rattle.charset.specs.Named.{inNamed}
+use Rattle.syntax.specs.declared.Assertion.{Assertion}
+use Rattle.syntax.specs.declared.Assertion.the-variants.{TextStart, LineStart, TextEnd, LastLineEnd, LineEnd, WordBoundary, NoWordBoundary}
 use Rattle.syntax.specs.Read.{byte}
-use Rattle.syntax.specs.Tree.{Assertion, textStart, lineStart, textEnd, lastLineEnd, lineEnd, wordBoundary, noWordBoundary}
 
 -- the byte before a position, and 256 if there is none
 unfoldable pub byteBefore : List ℕ → ℕ → ℕ
@@ -27,15 +28,15 @@ exactlyOne false b = b
 
 unfoldable pub holds : List ℕ → Assertion → ℕ → Bool
 -- "`\A`: 0", and `^` without `m`
-holds sub textStart at = eqb at 0
+holds sub TextStart at = eqb at 0
 -- "`^`: 0; under `m` also after an 0A that is not the last byte"
-holds sub lineStart at = eqb at 0 || (isNewline (byteBefore sub at) && ltb at (length sub))
+holds sub LineStart at = eqb at 0 || (isNewline (byteBefore sub at) && ltb at (length sub))
 -- "`\z`: the end"
-holds sub textEnd at = eqb at (length sub)
+holds sub TextEnd at = eqb at (length sub)
 -- "`\Z` and plain `$`: the end, or before an 0A that is the last byte"
-holds sub lastLineEnd at = eqb at (length sub) || (isNewline (byte sub at) && eqb (suc at) (length sub))
+holds sub LastLineEnd at = eqb at (length sub) || (isNewline (byte sub at) && eqb (suc at) (length sub))
 -- "`$` under `m`: the end or before any 0A"
-holds sub lineEnd at = eqb at (length sub) || isNewline (byte sub at)
+holds sub LineEnd at = eqb at (length sub) || isNewline (byte sub at)
 -- "`\b`: exactly one neighbour is a word byte"; "`\B`: not `\b`"
-holds sub wordBoundary at = exactlyOne (isWord (byteBefore sub at)) (isWord (byte sub at))
-holds sub noWordBoundary at = not (exactlyOne (isWord (byteBefore sub at)) (isWord (byte sub at)))
+holds sub WordBoundary at = exactlyOne (isWord (byteBefore sub at)) (isWord (byte sub at))
+holds sub NoWordBoundary at = not (exactlyOne (isWord (byteBefore sub at)) (isWord (byte sub at)))

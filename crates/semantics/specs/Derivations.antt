@@ -6,7 +6,9 @@ use mathlib.Core.Logic.{_⊎_}
 use mathlib.Core.Bool.{Bool, false}
 use Prim.Native.Nat.{ℕ, suc}
 use lib.Dec.{eqb}
-use Rattle.syntax.specs.Tree.{Greed, Most, Rule, empty, item, seq, alt, group, repeat, Branches, one, also}
+use Rattle.syntax.specs.declared.Greed.{Greed}
+use Rattle.syntax.specs.declared.Most.{Most}
+use Rattle.syntax.specs.Tree.{Rule, empty, item, seq, alt, group, repeat, Branches, one, also}
 use Rattle.semantics.specs.States.{branch, again, goOn, State, starting, chose, closed}
 use Rattle.semantics.specs.Items.{goes, try}
 use Rattle.semantics.specs.Repeats.{Next, round, leave, either, decision}

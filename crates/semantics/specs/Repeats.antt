@@ -2,7 +2,9 @@
 use mathlib.Core.Bool.{Bool, true, false}
 use Prim.Native.Nat.{ℕ}
 use lib.Dec.{ltb, leb}
-use Rattle.syntax.specs.Tree.{Greed, Most, atMost, unlimited}
+use Rattle.syntax.specs.declared.Greed.{Greed}
+use Rattle.syntax.specs.declared.Most.{Most}
+use Rattle.syntax.specs.declared.Most.the-variants.{AtMost, Unlimited}
 
 pub data Next : Type 0 where
   round : Next  -- it must make another round
@@ -10,8 +12,8 @@ pub data Next : Type 0 where
   either : Greed → Next  -- it may do both: a choice
 
 unfoldable pub isFull : Most → ℕ → Bool
-isFull (atMost m) n = leb m n
-isFull unlimited n = false
+isFull (AtMost m) n = leb m n
+isFull Unlimited n = false
 
 -- "Repeat at its decision after n rounds: below the minimum a round; at the maximum go on; if the minimum is reached and the last round
 -- took no bytes, go on; else both". The three tests, in this order: is a round owed, is the maximum reached, did the last round take

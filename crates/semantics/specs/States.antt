@@ -2,8 +2,9 @@
 use mathlib.Core.List.{List, [], _∷_, _++_}
 use Prim.Native.Nat.{ℕ, _+_, _-_, _*_, _<_}
 use lib.ListN.{set, replicate}
+use Rattle.syntax.specs.declared.Greed.{Greed}
+use Rattle.syntax.specs.declared.Greed.the-variants.{Greedy, Lazy}
 use Rattle.syntax.specs.Limits.{unset, spansLength}
-use Rattle.syntax.specs.Tree.{Greed, greedy, lazy}
 
 -- Choices ---------------------------------------------------------------
 
@@ -17,8 +18,8 @@ pub data Choice : Type 0 where
 -- when lazy".
 pub data Sooner : Choice → Choice → Type 0 where
   earlier : {i j : ℕ} → i < j → Sooner (branch i) (branch j)
-  roundFirst : Sooner (again greedy) (goOn greedy)
-  goOnFirst : Sooner (goOn lazy) (again lazy)
+  roundFirst : Sooner (again Greedy) (goOn Greedy)
+  goOnFirst : Sooner (goOn Lazy) (again Lazy)
 
 -- Priority. "Derivations from one start are ordered at the first choice in which they differ." No run of choices comes before one
 -- that it begins, so that the order is strict.

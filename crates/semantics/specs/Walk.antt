@@ -5,7 +5,10 @@ use mathlib.Core.Bool.{Bool, false}
 use Prim.Native.Nat.{ℕ, zero, suc, _+_, _-_, _*_}
 use lib.ListN.{length}
 use lib.Dec.{eqb}
-use Rattle.syntax.specs.Tree.{Greed, greedy, lazy, Most, Rule, empty, item, seq, alt, group, repeat, Branches, one, also}
+use Rattle.syntax.specs.declared.Greed.{Greed}
+use Rattle.syntax.specs.declared.Greed.the-variants.{Greedy, Lazy}
+use Rattle.syntax.specs.declared.Most.{Most}
+use Rattle.syntax.specs.Tree.{Rule, empty, item, seq, alt, group, repeat, Branches, one, also}
 use Rattle.semantics.specs.States.{branch, again, goOn, State, starting, chose, closed}
 use Rattle.semantics.specs.Items.{Tried, fails, goes, try}
 use Rattle.semantics.specs.Repeats.{Next, round, leave, either, decision}
@@ -44,8 +47,8 @@ tried place s (goes t) = step ∷ done t
 unfoldable pub decide : Next → State → Go → Trace
 decide round s r = r s
 decide leave s r = done s
-decide (either greedy) s r = r (chose (again greedy) s) ++ done (chose (goOn greedy) s)
-decide (either lazy) s r = done (chose (goOn lazy) s) ++ r (chose (again lazy) s)
+decide (either Greedy) s r = r (chose (again Greedy) s) ++ done (chose (goOn Greedy) s)
+decide (either Lazy) s r = done (chose (goOn Lazy) s) ++ r (chose (again Lazy) s)
 
 module _ (body : Go) (least : ℕ) (most : Most) (g : Greed) where
   -- The walk from a repeat's decision. The first number bounds the decisions that follow one another: it never runs out

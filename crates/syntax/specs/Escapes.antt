@@ -5,13 +5,14 @@ use Prim.Native.Nat.{ℕ, _+_, _-_, _/_, _%_}
 use Prim.Native.Char.{Char}
 use lib.ListN.{length, take}
 use lib.Dec.{leb, eqb}
+use Rattle.syntax.specs.declared.Assertion.the-variants.{TextStart, TextEnd, LastLineEnd, WordBoundary, NoWordBoundary}
 use Rattle.syntax.specs.declared.Reason.the-variants.{TrailingBackslash, UnknownEscape, MalformedEscape}
 use Rattle.syntax.specs.Limits.{groupLimit, byteLimit}
 use Rattle.syntax.specs.Read.{if_then_else_, byte, isEnd, is, between, Read, sound, refused, andThen}
 use Rattle.charset.specs.declared.Named.the-variants.{Digit, Word, Space, Horizontal, Vertical}
 use Rattle.charset.specs.Named.{inNamed}
 use Rattle.syntax.specs.Sets.{Member, single, named, notNamed, only, notNewline}
-use Rattle.syntax.specs.Tree.{textStart, textEnd, lastLineEnd, wordBoundary, noWordBoundary, Item, byteIn, assert, reference}
+use Rattle.syntax.specs.Tree.{Item, byteIn, assert, reference}
 use Rattle.syntax.specs.Numbers.{digits, value, isNone}
 
 infix 70 _means_
@@ -144,11 +145,11 @@ unfoldable pub escape : List ℕ → ℕ → ℕ → Read Item
 escape s opened at =
     let b = byte s (at + 1) in
     if is "N" b then sound (byteIn notNewline) (at + 2)
-    else if is "A" b then sound (assert textStart) (at + 2)
-    else if is "z" b then sound (assert textEnd) (at + 2)
-    else if is "Z" b then sound (assert lastLineEnd) (at + 2)
-    else if is "b" b then sound (assert wordBoundary) (at + 2)
-    else if is "B" b then sound (assert noWordBoundary) (at + 2)
+    else if is "A" b then sound (assert TextStart) (at + 2)
+    else if is "z" b then sound (assert TextEnd) (at + 2)
+    else if is "Z" b then sound (assert LastLineEnd) (at + 2)
+    else if is "b" b then sound (assert WordBoundary) (at + 2)
+    else if is "B" b then sound (assert NoWordBoundary) (at + 2)
     else if is "0" b then andThen (octal s at) (λ m next. sound (byteIn (only m)) next)
     else if between "1" "9" b then andThen (decimal s at (at + 1)) (λ n next. sound (reference (forward n)) next)
     else if is "g" b then andThen (groupNumber s opened at) (λ n next. sound (reference n) next)

@@ -4,15 +4,20 @@ use mathlib.Core.Bool.{Bool, not, _||_}
 use Prim.Native.Nat.{ℕ, zero, suc, _+_}
 use lib.ListN.{length}
 use lib.Dec.{ltb}
+use Rattle.syntax.specs.declared.Assertion.the-variants.{TextStart, LineStart, LastLineEnd, LineEnd}
+use Rattle.syntax.specs.declared.Greed.{Greed}
+use Rattle.syntax.specs.declared.Most.{Most}
+use Rattle.syntax.specs.declared.Quantifier.{Quantifier}
+use Rattle.syntax.specs.declared.Quantifier.the-variants.{Absent, Stray, Unfit, Times}
 use Rattle.syntax.specs.declared.Reason.the-variants.{NothingToRepeat, BadBraces, RepeatOnRepeat, UnclosedGroup, UnknownGroup, TooManyGroups, TooDeep}
 use Rattle.syntax.specs.Limits.{dotAllBit, multilineBit, groupLimit}
 use Rattle.charset.specs.Class.{bit}
 use Rattle.syntax.specs.Read.{if_then_else_, byte, isEnd, is, Read, sound, refused, andThen}
 use Rattle.syntax.specs.Sets.{single, only, notNewline, anyByte}
-use Rattle.syntax.specs.Tree.{textStart, lineStart, lastLineEnd, lineEnd, Item, byteIn, assert, reference, Greed, Most, Rule, empty, item, seq, group, repeat, Branches, one, also, alternatives}
+use Rattle.syntax.specs.Tree.{Item, byteIn, assert, reference, Rule, empty, item, seq, group, repeat, Branches, one, also, alternatives}
 use Rattle.syntax.specs.Escapes.{escape}
 use Rattle.syntax.specs.Classes.{class}
-use Rattle.syntax.specs.Quantifiers.{Quantifier, absent, stray, unfit, times, quantifier}
+use Rattle.syntax.specs.Quantifiers.{quantifier}
 
 -- "Flags: bit 0 is `s`, bit 1 is `m`."
 unfoldable pub dotAll : ℕ → Bool
@@ -30,8 +35,8 @@ atom s flags opened at =
     if is "\\" b then escape s opened at
     else if is "[" b then andThen (class s at) (λ c next. sound (byteIn c) next)
     else if is "." b then sound (byteIn (if dotAll flags then anyByte else notNewline)) (at + 1)
-    else if is "^" b then sound (assert (if multiline flags then lineStart else textStart)) (at + 1)
-    else if is "$" b then sound (assert (if multiline flags then lineEnd else lastLineEnd)) (at + 1)
+    else if is "^" b then sound (assert (if multiline flags then LineStart else TextStart)) (at + 1)
+    else if is "$" b then sound (assert (if multiline flags then LineEnd else LastLineEnd)) (at + 1)
     else sound (byteIn (only (single b))) (at + 1)
 
 -- Groups --------------------------------------------------------------------
@@ -93,10 +98,10 @@ nextItem s flags inner q opened at =
 
 -- one part of a sequence: an item, or a repeat of the item before it
 unfoldable pub part : List ℕ → ℕ → Inner → Sequence → ℕ → ℕ → Quantifier → Read (Sequence × ℕ)
-part s flags inner q opened at absent = nextItem s flags inner q opened at
-part s flags inner q opened at stray = refused at BadBraces
-part s flags inner q opened at unfit = unfitFor q at
-part s flags inner q opened at (times n m g next) = repeating q at n m g opened next
+part s flags inner q opened at Absent = nextItem s flags inner q opened at
+part s flags inner q opened at Stray = refused at BadBraces
+part s flags inner q opened at Unfit = unfitFor q at
+part s flags inner q opened at (Times n m g next) = repeating q at n m g opened next
 
 -- a sequence ends at a bar, at a closing bracket and at the rule's end
 unfoldable pub ends : ℕ → Bool

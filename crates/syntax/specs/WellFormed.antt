@@ -1,12 +1,14 @@
 -- What the semantics needs of a rule's tree, and a sound reading gives.
 use Prim.Native.Nat.{ℕ, suc, max, _≤_}
+use Rattle.syntax.specs.declared.Most.{Most}
+use Rattle.syntax.specs.declared.Most.the-variants.{AtMost, Unlimited}
 use Rattle.syntax.specs.Limits.{groupLimit, boundLimit, nestingLimit}
-use Rattle.syntax.specs.Tree.{Item, byteIn, assert, reference, Most, atMost, unlimited, Rule, empty, item, seq, alt, group, repeat, Branches, one, also}
+use Rattle.syntax.specs.Tree.{Item, byteIn, assert, reference, Rule, empty, item, seq, alt, group, repeat, Branches, one, also}
 
 -- bounds are at most 255, and the minimum is at most the maximum
 abbrev pub BoundsFit : ℕ → Most → Type 0
-BoundsFit n (atMost m) = (n ≤ m) × (m ≤ boundLimit)
-BoundsFit n unlimited = n ≤ boundLimit
+BoundsFit n (AtMost m) = (n ≤ m) × (m ≤ boundLimit)
+BoundsFit n Unlimited = n ≤ boundLimit
 
 -- groups are numbered from 1 up to their count, and every repeat's bounds fit
 abbrev mutual

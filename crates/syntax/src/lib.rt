@@ -28,6 +28,46 @@ pub enum Reason {
     TooDeep,
 }
 
+// The zero-width assertions. The flag `m` is settled when a rule is read.
+pub enum Assertion {
+    // `\A`, and `^` without `m`
+    TextStart,
+    // `^` under `m`
+    LineStart,
+    // `\z`
+    TextEnd,
+    // `\Z`, and `$` without `m`
+    LastLineEnd,
+    // `$` under `m`
+    LineEnd,
+    // `\b`
+    WordBoundary,
+    // `\B`
+    NoWordBoundary,
+}
+
+pub enum Greed {
+    Greedy,
+    Lazy,
+}
+
+// The most rounds that a repeat makes.
+pub enum Most {
+    AtMost(u32),
+    Unlimited,
+}
+
+// What stands where a repeat may stand.
+pub enum Quantifier {
+    Absent,
+    // a `{` that begins no well-formed repeat
+    Stray,
+    // a well-formed repeat with a bound over 255, or n > m
+    Unfit,
+    // minimum, maximum, greed, and the position behind it
+    Times(u32, Most, Greed, usize),
+}
+
 // A refusal: the place in the rule, and the reason.
 pub struct Refusal {
     pub place: u32,

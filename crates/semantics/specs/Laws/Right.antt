@@ -8,7 +8,8 @@ use native.Mathlib.Omega.{arith}
 use lib.ListN.{length}
 use lib.Dec.{ltb, leb}
 use borrow.Author.Tests.{ltb-true, leb-true}
-use Rattle.syntax.specs.Tree.{greedy, lazy, Item, byteIn, assert, reference}
+use Rattle.syntax.specs.declared.Greed.the-variants.{Greedy, Lazy}
+use Rattle.syntax.specs.Tree.{Item, byteIn, assert, reference}
 use Rattle.semantics.specs.States.{Choice, again, goOn, Sooner, roundFirst, goOnFirst, State, chose, moved}
 use Rattle.semantics.specs.Items.{Tried, fails, goes, when, refer, try}
 use Rattle.semantics.specs.Repeats.{Next, round, leave, either}
@@ -137,17 +138,17 @@ pub right-decide : {N : ℕ} (d : Next) (s : State) (r : Go) {E : State → Stat
 unfolding decide chose
 right-decide round s r l f = right-as (λ u e. inr (s, refl, e)) (λ u e. elim e [ inl z ↦ absurd z | inr x ↦ rw (x .1) at (x .2) ]) (f s refl)
 right-decide leave s r l f = right-as (λ u e. inl e) (λ u e. elim e [ inl z ↦ z | inr x ↦ absurd (x .1) ]) (right-done s (reach-self _ s l))
-right-decide (either greedy) s r l f =
-    let on = chose (goOn greedy) s in
-    let round = chose (again greedy) s in
+right-decide (either Greedy) s r l f =
+    let on = chose (goOn Greedy) s in
+    let round = chose (again Greedy) s in
     let x = right-done on (reach-self _ on l) in
     let y = f round refl in
     right-as (λ u e. elim e [ inl a ↦ inr (round, refl, a) | inr b ↦ inl b ]) (λ u e. elim e [ inl b ↦ inr b | inr a ↦ inl (rw (a .1) at (a .2)) ])
-    (right-append (right-chose s (again greedy) l y) (makes-chose s (again greedy) y) (right-chose s (goOn greedy) l x) (makes-chose s (goOn greedy) x) (λ c d p q. rw (p, q) roundFirst))
-right-decide (either lazy) s r l f =
-    let on = chose (goOn lazy) s in
-    let round = chose (again lazy) s in
+    (right-append (right-chose s (again Greedy) l y) (makes-chose s (again Greedy) y) (right-chose s (goOn Greedy) l x) (makes-chose s (goOn Greedy) x) (λ c d p q. rw (p, q) roundFirst))
+right-decide (either Lazy) s r l f =
+    let on = chose (goOn Lazy) s in
+    let round = chose (again Lazy) s in
     let x = right-done on (reach-self _ on l) in
     let y = f round refl in
     right-as (λ u e. elim e [ inl b ↦ inl b | inr a ↦ inr (round, refl, a) ]) (λ u e. elim e [ inl b ↦ inl b | inr a ↦ inr (rw (a .1) at (a .2)) ])
-    (right-append (right-chose s (goOn lazy) l x) (makes-chose s (goOn lazy) x) (right-chose s (again lazy) l y) (makes-chose s (again lazy) y) (λ c d p q. rw (p, q) goOnFirst))
+    (right-append (right-chose s (goOn Lazy) l x) (makes-chose s (goOn Lazy) x) (right-chose s (again Lazy) l y) (makes-chose s (again Lazy) y) (λ c d p q. rw (p, q) goOnFirst))

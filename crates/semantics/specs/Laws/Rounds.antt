@@ -7,7 +7,9 @@ use Prim.Native.Nat.{ℕ, zero, suc, _+_, _-_, _*_, _≤_, _<_}
 use native.Mathlib.Omega.{arith}
 use lib.Dec.{ltb, eqb}
 use borrow.Author.Tests.{ltb-true, eqb-true, eqb-false}
-use Rattle.syntax.specs.Tree.{Greed, greedy, lazy, Most}
+use Rattle.syntax.specs.declared.Greed.{Greed}
+use Rattle.syntax.specs.declared.Greed.the-variants.{Greedy, Lazy}
+use Rattle.syntax.specs.declared.Most.{Most}
 use Rattle.semantics.specs.States.{again, State, chose}
 use Rattle.semantics.specs.Repeats.{Next, round, leave, either, isFull, allowed, decision}
 use Rattle.semantics.specs.Derivations.{Again, On, Rounds, stop, turn}
@@ -81,8 +83,8 @@ pub decide-same : (d : Next) (s : State) (q r : Go) → ((t : State) → Again d
 unfolding decide
 decide-same round s q r x = x s refl
 decide-same leave s q r x = refl
-decide-same (either greedy) s q r x = rw (x (chose (again greedy) s) refl)
-decide-same (either lazy) s q r x = rw (x (chose (again lazy) s) refl)
+decide-same (either Greedy) s q r x = rw (x (chose (again Greedy) s) refl)
+decide-same (either Lazy) s q r x = rw (x (chose (again Lazy) s) refl)
 
 module _ {N : ℕ} (body : Go) (B : State → State → Type 0) (least : ℕ) (most : Most) (g : Greed) (body-right : (s : State) → s .at ≤ N → Right N s (body s) (B s)) where
   pub right-rounds : (f n : ℕ) (idle : Bool) (s : State) → s .at ≤ N → left N least n idle (s .at) < f → Right N s (rounds body least most g f n idle s) (Rounds B least most g n idle s)

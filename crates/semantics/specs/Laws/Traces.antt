@@ -4,7 +4,7 @@ use mathlib.Core.List.{List, [], _∷_, _++_, map, append-assoc, append-nil}
 use mathlib.Core.Logic.{_⊎_, inl, inr}
 use Prim.Native.Nat.{ℕ, zero, suc, _<_}
 use native.Mathlib.Omega.{arith}
-use Rattle.syntax.specs.Tree.{greedy, lazy}
+use Rattle.syntax.specs.declared.Greed.the-variants.{Greedy, Lazy}
 use Rattle.semantics.specs.States.{Choice, branch, again, goOn, Sooner, earlier, roundFirst, goOnFirst, Before, here, there, code, State}
 use Rattle.semantics.specs.Walk.{Event, step, miss, end, Trace, Go, _▹_, done, Reaches}
 

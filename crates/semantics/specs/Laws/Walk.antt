@@ -8,7 +8,9 @@ use Prim.Native.Nat.{ℕ, suc, _≤_, _<_}
 use native.Mathlib.Omega.{arith}
 use lib.ListN.{length}
 use lib.Dec.{eqb}
-use Rattle.syntax.specs.Tree.{Greed, Most, Rule, empty, item, seq, alt, group, repeat, Branches, one, also}
+use Rattle.syntax.specs.declared.Greed.{Greed}
+use Rattle.syntax.specs.declared.Most.{Most}
+use Rattle.syntax.specs.Tree.{Rule, empty, item, seq, alt, group, repeat, Branches, one, also}
 use Rattle.semantics.specs.States.{Choice, branch, earlier, State, chose, closed}
 use Rattle.semantics.specs.Items.{try}
 use Rattle.semantics.specs.Repeats.{decision}

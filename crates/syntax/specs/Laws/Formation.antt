@@ -8,10 +8,14 @@ use native.Mathlib.Omega.{arith}
 use lib.ListN.{length}
 use lib.Dec.{eqb, leb, ltb}
 use borrow.Author.Tests.{ltb-true, leb-true, eqb-false, not-false}
+use Rattle.syntax.specs.declared.Greed.{Greed}
+use Rattle.syntax.specs.declared.Most.{Most}
+use Rattle.syntax.specs.declared.Quantifier.{Quantifier}
+use Rattle.syntax.specs.declared.Quantifier.the-variants.{Absent, Stray, Unfit, Times}
 use Rattle.syntax.specs.Limits.{groupLimit, nestingLimit}
 use Rattle.syntax.specs.Read.{if_then_else_, byte, isEnd, is, Read, sound, refused}
-use Rattle.syntax.specs.Tree.{Item, byteIn, assert, reference, Greed, Most, Rule, empty, item, seq, alt, group, repeat, Branches, one, also, alternatives}
-use Rattle.syntax.specs.Quantifiers.{Quantifier, absent, stray, unfit, times, quantifier}
+use Rattle.syntax.specs.Tree.{Item, byteIn, assert, reference, Rule, empty, item, seq, alt, group, repeat, Branches, one, also, alternatives}
+use Rattle.syntax.specs.Quantifiers.{quantifier}
 use Rattle.syntax.specs.Grammar.{atom, Inner, closing, capturing, grouped, Sequence, unrepeatable, repeatable, repeated, whole, withItem, unfitFor, repeating, nextItem, part, ends, sequence, branch, further, alternation, inside}
 use Rattle.syntax.specs.Reading.{parsed, firstOf, dangling, unresolved, unresolvedIn, resolved, reading}
 use Rattle.syntax.specs.WellFormed.{BoundsFit, Proper, Propers, Refers, Resolved, ResolvedIn, groupDepth, groupDepths, repeatDepth, repeatDepths, WellFormed}
@@ -158,10 +162,10 @@ repeating-fits (repeated t) at n m x opened next d l b f = tt
 part-fits : (s : List ℕ) (flags : ℕ) (inner : Inner) (q : Sequence) (opened at d : ℕ) (x : Quantifier) → InnerFits d inner → opened ≤ groupLimit → FitsIn opened d q → Holding x (Bounded (at + 1))
     → Given (part s flags inner q opened at x) (GoodIn opened d)
 unfolding part
-part-fits s flags inner q opened at d absent h l f b = nextItem-fits s flags inner q opened at d h l f
-part-fits s flags inner q opened at d stray h l f b = tt
-part-fits s flags inner q opened at d unfit h l f b = unfitFor-fits q at opened d
-part-fits s flags inner q opened at d (times n m x next) h l f b = repeating-fits q at n m x opened next d l (b .0) f
+part-fits s flags inner q opened at d Absent h l f b = nextItem-fits s flags inner q opened at d h l f
+part-fits s flags inner q opened at d Stray h l f b = tt
+part-fits s flags inner q opened at d Unfit h l f b = unfitFor-fits q at opened d
+part-fits s flags inner q opened at d (Times n m x next) h l f b = repeating-fits q at n m x opened next d l (b .0) f
 
 sequence-fits : (k : ℕ) (s : List ℕ) (flags : ℕ) (inner : Inner) (q : Sequence) (old opened at d : ℕ) → InnerFits d inner → Grown old opened → FitsIn opened d q → Given (sequence k s flags inner q opened at) (Good old d (suc d))
 unfolding sequence

@@ -8,17 +8,22 @@ use native.Mathlib.Omega.{arith}
 use lib.ListN.{length, take}
 use lib.Dec.{ltb, leb, eqb}
 use borrow.Author.Tests.{leb-true}
+use Rattle.syntax.specs.declared.Greed.{Greed}
+use Rattle.syntax.specs.declared.Most.{Most}
+use Rattle.syntax.specs.declared.Most.the-variants.{AtMost, Unlimited}
+use Rattle.syntax.specs.declared.Quantifier.{Quantifier}
+use Rattle.syntax.specs.declared.Quantifier.the-variants.{Absent, Stray, Unfit, Times}
 use Rattle.syntax.specs.Limits.{groupLimit, boundLimit, byteLimit}
 use Rattle.syntax.specs.Read.{if_then_else_, byte, isEnd, is, between, Read, sound, refused, andThen}
 use Rattle.charset.specs.declared.Named.{Named}
 use Rattle.charset.specs.declared.Named.the-variants.{Word}
 use Rattle.charset.specs.Named.{inNamed}
 use Rattle.syntax.specs.Sets.{setNamed, Member}
-use Rattle.syntax.specs.Tree.{Greed, Most, atMost, unlimited, Rule, empty, Branches, group, one, also}
+use Rattle.syntax.specs.Tree.{Rule, empty, Branches, group, one, also}
 use Rattle.syntax.specs.Numbers.{digits, value, isNone}
 use Rattle.syntax.specs.Escapes.{Meaning, _means_, meanings, byteOf, braced, hex, bracedOctal, octal, control, letter, common, classEscape, decimal, signed, groupNumber, escape}
 use Rattle.syntax.specs.Classes.{letters, posixMember, posixName, posix, element, rangeEnd, rangeOf, makesRange, member, members, class}
-use Rattle.syntax.specs.Quantifiers.{Quantifier, absent, stray, unfit, times, withGreed, atLeast, fromTo, upper, braces, quantifier}
+use Rattle.syntax.specs.Quantifiers.{withGreed, atLeast, fromTo, upper, braces, quantifier}
 use Rattle.syntax.specs.Grammar.{atom, Inner, closing, capturing, grouped, Sequence, unrepeatable, repeatable, repeated, unfitFor, repeating, nextItem, part, ends, sequence, branch, further, alternation, inside}
 use Rattle.syntax.specs.WellFormed.{BoundsFit}
 
@@ -193,10 +198,10 @@ class-on s from = if-given _ _ _ (is "^" (byte s (from + 1)))
 
 -- P holds of a repeat's bounds and of the position behind it
 abbrev pub Holding : Quantifier → (ℕ → Most → ℕ → Type 0) → Type 0
-Holding absent P = Unit
-Holding stray P = Unit
-Holding unfit P = Unit
-Holding (times n m g next) P = P n m next
+Holding Absent P = Unit
+Holding Stray P = Unit
+Holding Unfit P = Unit
+Holding (Times n m g next) P = P n m next
 
 pub if-holding : (P : ℕ → Most → ℕ → Type 0) (x y : Quantifier) (b : Bool) → (b ≡ true → Holding x P) → (b ≡ false → Holding y P) → Holding (if b then x else y) P
 if-holding P x y true g h = g refl
@@ -212,12 +217,12 @@ withGreed-on s n m at p h l = if-holding _ _ _ (is "?" (byte s at)) (λ e. (h, o
 
 atLeast-on : (s : List ℕ) (n at p : ℕ) → p ≤ at → Holding (atLeast s n at) (Bounded p)
 unfolding atLeast
-atLeast-on s n at p l = if-holding _ _ _ (leb n boundLimit) (λ e. withGreed-on s n unlimited at p (leb-true n boundLimit e) l) (λ e. tt)
+atLeast-on s n at p l = if-holding _ _ _ (leb n boundLimit) (λ e. withGreed-on s n Unlimited at p (leb-true n boundLimit e) l) (λ e. tt)
 
 fromTo-on : (s : List ℕ) (n m at p : ℕ) → p ≤ at → Holding (fromTo s n m at) (Bounded p)
 unfolding fromTo
 fromTo-on s n m at p l = if-holding _ _ _ (leb n m && leb m boundLimit)
-    (λ e. withGreed-on s n (atMost m) at p (leb-true n m (and-left (leb n m) (leb m boundLimit) e), leb-true m boundLimit (and-right (leb n m) (leb m boundLimit) e)) l) (λ e. tt)
+    (λ e. withGreed-on s n (AtMost m) at p (leb-true n m (and-left (leb n m) (leb m boundLimit) e), leb-true m boundLimit (and-right (leb n m) (leb m boundLimit) e)) l) (λ e. tt)
 
 upper-on : (s : List ℕ) (n at p : ℕ) → p ≤ at → Holding (upper s n at) (Bounded p)
 unfolding upper
@@ -240,9 +245,9 @@ pub quantifier-on : (s : List ℕ) (at : ℕ) → Holding (quantifier s at) (Bou
 unfolding quantifier boundLimit
 quantifier-on s at =
     let b = byte s at in
-    if-holding _ _ _ (is "*" b) (λ e. withGreed-on s 0 unlimited (at + 1) (at + 1) (omega arith) (omega arith)) (λ e.
-    if-holding _ _ _ (is "+" b) (λ e. withGreed-on s 1 unlimited (at + 1) (at + 1) (omega arith) (omega arith)) (λ e.
-    if-holding _ _ _ (is "?" b) (λ e. withGreed-on s 0 (atMost 1) (at + 1) (at + 1) (omega arith, omega arith) (omega arith)) (λ e.
+    if-holding _ _ _ (is "*" b) (λ e. withGreed-on s 0 Unlimited (at + 1) (at + 1) (omega arith) (omega arith)) (λ e.
+    if-holding _ _ _ (is "+" b) (λ e. withGreed-on s 1 Unlimited (at + 1) (at + 1) (omega arith) (omega arith)) (λ e.
+    if-holding _ _ _ (is "?" b) (λ e. withGreed-on s 0 (AtMost 1) (at + 1) (at + 1) (omega arith, omega arith) (omega arith)) (λ e.
     if-holding _ _ _ (is "{" b) (λ e. braces-on s (at + 1) (at + 1) (omega arith)) (λ e. tt))))
 
 -- Items, sequences and groups ------------------------------------------------
@@ -294,10 +299,10 @@ repeating-on (repeated t) at n m g opened next p h = tt
 
 part-by : (s : List ℕ) (flags : ℕ) (inner : Inner) (q : Sequence) (opened at : ℕ) (x : Quantifier) → Forward inner → Holding x (Bounded (at + 1)) → Given (part s flags inner q opened at x) (Past (at + 1))
 unfolding part
-part-by s flags inner q opened at absent h k = nextItem-on s flags inner q opened at h
-part-by s flags inner q opened at stray h k = tt
-part-by s flags inner q opened at unfit h k = unfitFor-on q at (at + 1)
-part-by s flags inner q opened at (times n m g next) h k = repeating-on q at n m g opened next (at + 1) (k .1)
+part-by s flags inner q opened at Absent h k = nextItem-on s flags inner q opened at h
+part-by s flags inner q opened at Stray h k = tt
+part-by s flags inner q opened at Unfit h k = unfitFor-on q at (at + 1)
+part-by s flags inner q opened at (Times n m g next) h k = repeating-on q at n m g opened next (at + 1) (k .1)
 
 pub part-on : (s : List ℕ) (flags : ℕ) (inner : Inner) (q : Sequence) (opened at : ℕ) → Forward inner → Given (part s flags inner q opened at (quantifier s at)) (Past (at + 1))
 part-on s flags inner q opened at h = part-by s flags inner q opened at (quantifier s at) h (quantifier-on s at)

@@ -9,17 +9,22 @@ use native.Mathlib.Decide.{decLt}
 use lib.ListN.{length, take, drop, length-take, length-drop}
 use lib.Dec.{ltb, leb, eqb}
 use borrow.Author.Tests.{eqb-true, eqb-false, leb-true}
+use Rattle.syntax.specs.declared.Greed.{Greed}
+use Rattle.syntax.specs.declared.Most.{Most}
+use Rattle.syntax.specs.declared.Most.the-variants.{AtMost, Unlimited}
+use Rattle.syntax.specs.declared.Quantifier.{Quantifier}
+use Rattle.syntax.specs.declared.Quantifier.the-variants.{Absent, Stray, Unfit, Times}
 use Rattle.syntax.specs.Limits.{groupLimit, boundLimit, byteLimit}
 use Rattle.syntax.specs.Read.{if_then_else_, byte, isEnd, is, between}
 use Rattle.charset.specs.declared.Named.{Named}
 use Rattle.charset.specs.declared.Named.the-variants.{Word}
 use Rattle.charset.specs.Named.{inNamed}
 use Rattle.syntax.specs.Sets.{setNamed, Member}
-use Rattle.syntax.specs.Tree.{Greed, Most, atMost, unlimited, Rule, empty, Branches, group, one, also}
+use Rattle.syntax.specs.Tree.{Rule, empty, Branches, group, one, also}
 use Rattle.syntax.specs.Numbers.{run, isDigit, digits, value, isNone}
 use Rattle.syntax.specs.Escapes.{Meaning, _means_, meanings, byteOf, braced, hex, bracedOctal, octal, control, letter, common, classEscape, decimal, signed, groupNumber, escape}
 use Rattle.syntax.specs.Classes.{letters, posixMember, posixName, posix, element, rangeEnd, rangeOf, makesRange, member, members, class}
-use Rattle.syntax.specs.Quantifiers.{Quantifier, absent, stray, unfit, times, withGreed, atLeast, fromTo, upper, braces, quantifier}
+use Rattle.syntax.specs.Quantifiers.{withGreed, atLeast, fromTo, upper, braces, quantifier}
 use Rattle.syntax.specs.Grammar.{atom, Inner, closing, capturing, grouped, Sequence, unrepeatable, repeatable, repeated, nextItem, unfitFor, repeating, part, ends, sequence, branch, further, alternation, inside}
 use Rattle.syntax.specs.Laws.Forward.{Given, if-given, test-given, then-given, Holding, if-holding, and-left, and-right}
 use Rattle.syntax.specs.Laws.Fuel.{byte-past, byte-in}
@@ -229,11 +234,11 @@ withGreed-in s n m at h = if-holding _ _ _ (is "?" (byte s at)) (λ e. let i = i
 
 atLeast-in : (s : List ℕ) (n at : ℕ) → at ≤ length s → Holding (atLeast s n at) (UptoIn s)
 unfolding atLeast
-atLeast-in s n at h = if-holding _ _ _ (leb n boundLimit) (λ e. withGreed-in s n unlimited at h) (λ e. tt)
+atLeast-in s n at h = if-holding _ _ _ (leb n boundLimit) (λ e. withGreed-in s n Unlimited at h) (λ e. tt)
 
 fromTo-in : (s : List ℕ) (n m at : ℕ) → at ≤ length s → Holding (fromTo s n m at) (UptoIn s)
 unfolding fromTo
-fromTo-in s n m at h = if-holding _ _ _ (leb n m && leb m boundLimit) (λ e. withGreed-in s n (atMost m) at h) (λ e. tt)
+fromTo-in s n m at h = if-holding _ _ _ (leb n m && leb m boundLimit) (λ e. withGreed-in s n (AtMost m) at h) (λ e. tt)
 
 upper-in : (s : List ℕ) (n at : ℕ) → Holding (upper s n at) (UptoIn s)
 unfolding upper
@@ -256,9 +261,9 @@ pub quantifier-in : (s : List ℕ) (at : ℕ) → Holding (quantifier s at) (Upt
 unfolding quantifier
 quantifier-in s at =
     let b = byte s at in
-    if-holding _ _ _ (is "*" b) (λ e. let i = is-in s at 42 (omega arith) e in withGreed-in s 0 unlimited (at + 1) (omega arith)) (λ e.
-    if-holding _ _ _ (is "+" b) (λ e. let i = is-in s at 43 (omega arith) e in withGreed-in s 1 unlimited (at + 1) (omega arith)) (λ e.
-    if-holding _ _ _ (is "?" b) (λ e. let i = is-in s at 63 (omega arith) e in withGreed-in s 0 (atMost 1) (at + 1) (omega arith)) (λ e.
+    if-holding _ _ _ (is "*" b) (λ e. let i = is-in s at 42 (omega arith) e in withGreed-in s 0 Unlimited (at + 1) (omega arith)) (λ e.
+    if-holding _ _ _ (is "+" b) (λ e. let i = is-in s at 43 (omega arith) e in withGreed-in s 1 Unlimited (at + 1) (omega arith)) (λ e.
+    if-holding _ _ _ (is "?" b) (λ e. let i = is-in s at 63 (omega arith) e in withGreed-in s 0 (AtMost 1) (at + 1) (omega arith)) (λ e.
     if-holding _ _ _ (is "{" b) (λ e. braces-in s (at + 1)) (λ e. tt))))
 
 -- Items, sequences and groups --------------------------------------------------------
@@ -310,10 +315,10 @@ repeating-in s (repeated t) at n m g opened next h = tt
 
 part-by : (s : List ℕ) (flags : ℕ) (inner : Inner) (q : Sequence) (opened at : ℕ) (x : Quantifier) → Inward s inner → at < length s → Holding x (UptoIn s) → Given (part s flags inner q opened at x) (Upto s)
 unfolding part
-part-by s flags inner q opened at absent h l k = nextItem-in s flags inner q opened at h l
-part-by s flags inner q opened at stray h l k = tt
-part-by s flags inner q opened at unfit h l k = unfitFor-in s q at
-part-by s flags inner q opened at (times n m g next) h l k = repeating-in s q at n m g opened next k
+part-by s flags inner q opened at Absent h l k = nextItem-in s flags inner q opened at h l
+part-by s flags inner q opened at Stray h l k = tt
+part-by s flags inner q opened at Unfit h l k = unfitFor-in s q at
+part-by s flags inner q opened at (Times n m g next) h l k = repeating-in s q at n m g opened next k
 
 ends-false : (s : List ℕ) (at : ℕ) → ends (byte s at) ≡ false → at < length s
 unfolding ends isEnd
