@@ -1,8 +1,8 @@
 -- All definitions of the calls: `unfolding computing-calls` lets the checker compute one.
-use Rattle.syntax.specs.Limits.{ruleLimit, subjectLimit, budgetLimit, ruleAreaNeed, workPerStep, flagBits, unset, spansLength, rowLength}
+use Rattle.syntax.specs.Limits.{ruleLimit, subjectLimit, budgetLimit, ruleAreaNeed, workPerStep, flagBits, unset, spansLength, rowLength, slot}
 use Rattle.syntax.specs.Computing.{computing-readings}
 use Rattle.semantics.specs.Assertions.{byteBefore, isNewline, isWord, exactlyOne, holds}
-use Rattle.semantics.specs.States.{slot, starting, chose, moved, closed, row}
+use Rattle.semantics.specs.States.{starting, chose, moved, closed, row}
 use Rattle.semantics.specs.Items.{when, sameAt, refer, try}
 use Rattle.semantics.specs.Repeats.{isFull, allowed, decision}
 use Rattle.semantics.specs.Derivations.{branchCount}

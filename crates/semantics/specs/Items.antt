@@ -4,12 +4,12 @@ use mathlib.Core.Bool.{Bool, true, false, _&&_}
 use Prim.Native.Nat.{ℕ, zero, suc, _+_, _-_}
 use lib.ListN.{length, getD}
 use lib.Dec.{ltb, leb, eqb}
-use Rattle.syntax.specs.Limits.{unset}
+use Rattle.syntax.specs.Limits.{unset, slot}
 use Rattle.syntax.specs.Read.{byte}
 use Rattle.syntax.specs.Sets.{inClass}
 use Rattle.syntax.specs.Tree.{Item, byteIn, assert, reference}
 use Rattle.semantics.specs.Assertions.{holds}
-use Rattle.semantics.specs.States.{State, slot, moved}
+use Rattle.semantics.specs.States.{State, moved}
 
 pub data Tried : Type 0 where
   fails : Tried

@@ -1,10 +1,10 @@
 -- States of a derivation: the position in the subject, the captures, and the choices so far; and the priority of choices.
 use mathlib.Core.List.{List, [], _∷_, _++_}
-use Prim.Native.Nat.{ℕ, _+_, _-_, _*_, _<_}
+use Prim.Native.Nat.{ℕ, _+_, _<_}
 use lib.ListN.{set, replicate}
 use Rattle.syntax.specs.declared.Greed.{Greed}
 use Rattle.syntax.specs.declared.Greed.the-variants.{Greedy, Lazy}
-use Rattle.syntax.specs.Limits.{unset, spansLength}
+use Rattle.syntax.specs.Limits.{unset, spansLength, slot}
 
 -- Choices ---------------------------------------------------------------
 
@@ -39,10 +39,6 @@ pub record State : Type 0 where
   pub at : ℕ  -- the position in the subject
   pub spans : List ℕ  -- the captures as a row has them: two numbers for each group
   pub path : List Choice  -- the choices so far, the first one first
-
--- where the span of a group stands; groups are numbered from 1
-unfoldable pub slot : ℕ → ℕ
-slot group = 2 * (group - 1)
 
 -- no group is set and no choice made
 unfoldable pub starting : ℕ → State

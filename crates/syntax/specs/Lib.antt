@@ -12,6 +12,7 @@ pub mod Quantifiers
 pub mod Grammar
 pub mod Reading
 pub mod WellFormed
+pub mod Compiled
 pub mod Laws
 pub mod Computing
 pub mod Verdicts

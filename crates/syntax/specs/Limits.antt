@@ -1,5 +1,5 @@
 -- The quantities of 01, each named once.
-use Prim.Native.Nat.{ℕ, _+_, _*_}
+use Prim.Native.Nat.{ℕ, suc, _+_, _-_, _*_}
 
 -- What a call takes ---------------------------------------------------------
 
@@ -62,3 +62,15 @@ spansLength = 2 * groupLimit
 unfoldable pub rowLength : ℕ
 unfolding spansLength
 rowLength = 2 + spansLength
+
+-- where the span of a group stands among those numbers; groups are numbered from 1
+unfoldable pub slot : ℕ → ℕ
+slot group = 2 * (group - 1)
+
+-- Registers -----------------------------------------------------------------------
+
+-- The machine's registers: the captures, and two for each level of groups and repeats, one inside another. Repeats nest one level deeper
+-- than groups: the rule itself may stand under one.
+unfoldable pub registers : ℕ
+unfolding spansLength nestingLimit
+registers = spansLength + 2 * (nestingLimit + suc nestingLimit)

@@ -70,7 +70,7 @@ pub enum Quantifier {
 
 // A refusal: the place in the rule, and the reason.
 pub struct Refusal {
-    pub place: u32,
+    pub place: usize,
     pub reason: Reason,
 }
 
