@@ -1,0 +1,2 @@
+-- What the readers of single items promise.
+pub mod Says

@@ -1,0 +1,273 @@
+#!/usr/bin/env python3
+"""An independent matcher written from document 01: parse, walk, match, list."""
+import sys
+sys.setrecursionlimit(1000000)
+U=4294967295
+class Refuse(Exception):
+    def __init__(s,n,p): s.n=n; s.p=p
+def rng(*ps):
+    out=set()
+    for a,b in ps: out|=set(range(a,b+1))
+    return frozenset(out)
+D=rng((0x30,0x39)); UP=rng((0x41,0x5a)); LO=rng((0x61,0x7a)); AL=UP|LO
+SETS={'digit':D,'word':D|AL|{0x5f},'space':rng((9,13),(32,32)),'alpha':AL,'upper':UP,'lower':LO,'alnum':D|AL,'xdigit':rng((0x30,0x39),(0x41,0x46),(0x61,0x66)),'blank':frozenset({9,32}),'cntrl':rng((0,31),(127,127)),'ascii':rng((0,127)),'print':rng((0x20,0x7e)),'graph':rng((0x21,0x7e)),'punct':rng((0x21,0x2f),(0x3a,0x40),(0x5b,0x60),(0x7b,0x7e))}
+H=frozenset({9,32}); V=rng((10,13)); ALL=frozenset(range(256))
+LET={'d':D,'w':SETS['word'],'s':SETS['space'],'h':H,'v':V}
+class Parser:
+    def __init__(s,r,flags): s.r=r; s.flags=flags; s.i=0; s.opened=0; s.refs=[]
+    def b(s,i): return s.r[i] if i<len(s.r) else None
+    def ch(s,i): return chr(s.r[i]) if i<len(s.r) else ''
+    def run(s,i,digs):
+        j=i
+        while j<len(s.r) and chr(s.r[j]) in digs: j+=1
+        return s.r[i:j].decode('latin1'),j
+    def parse(s):
+        t=s.alt(0,None)
+        if s.i<len(s.r): raise Refuse(21,s.i)
+        for p,n in sorted(s.refs):
+            if n<1 or n>s.opened: raise Refuse(13,p)
+        return t,s.opened
+    def alt(s,depth,opening):
+        bs=[s.seq(depth)]
+        while s.ch(s.i)=='|':
+            s.i+=1; bs.append(s.seq(depth))
+        return ('alt',bs) if len(bs)>1 else bs[0]
+    def quant(s):
+        """None | 'stray' | (lo,hi,ok,end)"""
+        c=s.ch(s.i)
+        if c=='*': return 0,None,True,s.i+1
+        if c=='+': return 1,None,True,s.i+1
+        if c=='?': return 0,1,True,s.i+1
+        if c!='{': return None
+        a,j=s.run(s.i+1,'0123456789')
+        if not a: return 'stray'
+        n=int(a)
+        if s.ch(j)=='}': return n,n,n<=255,j+1
+        if s.ch(j)!=',': return 'stray'
+        b,k=s.run(j+1,'0123456789')
+        if s.ch(k)!='}': return 'stray'
+        if not b: return n,None,n<=255,k+1
+        m=int(b)
+        return n,m,(n<=255 and m<=255 and n<=m),k+1
+    def seq(s,depth):
+        items=[]; last='none'
+        while s.i<len(s.r) and s.ch(s.i) not in '|)':
+            at=s.i; q=s.quant()
+            if q=='stray': raise Refuse(18,at)
+            if q is not None:
+                n,m,ok,e=q
+                if last in('none','place'): raise Refuse(17,at)
+                if not ok: raise Refuse(18,at)
+                if last=='rep': raise Refuse(19,at)
+                lazy=False
+                if s.ch(e)=='?': lazy=True; e+=1
+                items[-1]=('rep',at,n,m,lazy,items[-1]); last='rep'; s.i=e; continue
+            if s.ch(at)=='(':
+                items.append(s.group(depth)); last='item'; continue
+            it=s.atom(); items.append(it); last='place' if it[0]=='place' else 'item'
+        return ('seq',items)
+    def group(s,depth):
+        at=s.i
+        if s.ch(at+1)=='?':
+            if s.ch(at+2)!=':': raise Refuse(22,at)
+            if depth>=24: raise Refuse(24,at)
+            s.i=at+3; t=s.alt(depth+1,at); g=t
+        else:
+            if s.opened>=32: raise Refuse(23,at)
+            if depth>=24: raise Refuse(24,at)
+            s.opened+=1; k=s.opened; s.i=at+1; t=s.alt(depth+1,at); g=('group',k,t)
+        if s.ch(s.i)!=')': raise Refuse(20,at)
+        s.i+=1
+        return g
+    def atom(s):
+        at=s.i; c=s.ch(at)
+        if c=='\\': return s.escape(at)
+        if c=='[':
+            return ('set',at,s.klass(at))
+        s.i=at+1
+        if c=='.': return ('set',at,ALL if s.flags&1 else ALL-{10})
+        if c=='^': return ('place',at,'mstart' if s.flags&2 else 'A')
+        if c=='$': return ('place',at,'mend' if s.flags&2 else 'Z')
+        return ('set',at,frozenset({s.r[at]}))
+    def common(s,at):
+        """escapes shared: returns ('b',byte) or ('s',set); sets s.i"""
+        if at+1>=len(s.r): raise Refuse(10,at)
+        c=s.ch(at+1)
+        if not (c.isascii() and (c.isalnum() or c=='_')): s.i=at+2; return 'b',s.r[at+1]
+        one={'a':7,'e':0x1b,'f':0xc,'n':10,'r':13,'t':9}
+        if c in one: s.i=at+2; return 'b',one[c]
+        if c in LET: s.i=at+2; return 's',LET[c]
+        if c.lower() in LET and c.isupper(): s.i=at+2; return 's',ALL-LET[c.lower()]
+        HX='0123456789abcdefABCDEF'
+        if c in 'xo':
+            base,digs=(16,HX) if c=='x' else (8,'01234567')
+            if s.ch(at+2)=='{':
+                d,j=s.run(at+3,digs)
+                if not d or s.ch(j)!='}' or int(d,base)>255: raise Refuse(12,at)
+                s.i=j+1; return 'b',int(d,base)
+            if c=='o': raise Refuse(12,at)
+            d=s.r[at+2:at+4].decode('latin1')
+            if len(d)!=2 or any(x not in HX for x in d): raise Refuse(12,at)
+            s.i=at+4; return 'b',int(d,16)
+        if c=='c':
+            x=s.ch(at+2)
+            if x=='' : raise Refuse(12,at)
+            if x.isascii() and x.isalpha(): v=ord(x.upper())^64
+            elif x in '@[]^_?': v=ord(x)^64
+            else: raise Refuse(12,at)
+            s.i=at+3; return 'b',v
+        raise Refuse(11,at)
+    def octal(s,at,k):
+        d,j=s.run(at+1,'01234567'); d=d[:3]; v=int(d,8)
+        if v>255: raise Refuse(12,at)
+        s.i=at+1+len(d); return v
+    def escape(s,at):
+        c=s.ch(at+1)
+        if c=='N': s.i=at+2; return ('set',at,ALL-{10})
+        if c and c in 'AzZbB': s.i=at+2; return ('place',at,c)
+        if c=='0': return ('set',at,frozenset({s.octal(at,3)}))
+        if c and c in '123456789':
+            d,j=s.run(at+1,'0123456789'); s.i=j; return s.ref(at,int(d))
+        if c=='g':
+            i=at+2; br=s.ch(i)=='{'
+            if br: i+=1
+            neg=s.ch(i)=='-'
+            if neg: i+=1
+            d,j=s.run(i,'0123456789')
+            if not d: raise Refuse(12,at)
+            if br:
+                if s.ch(j)!='}': raise Refuse(12,at)
+                j+=1
+            n=int(d)
+            if neg: n=0 if n==0 else s.opened+1-n
+            s.i=j; return s.ref(at,n)
+        k,v=s.common(at)
+        return ('set',at,frozenset({v}) if k=='b' else v)
+    def ref(s,at,n): s.refs.append((at,n)); return ('ref',at,n)
+    def element(s,op):
+        at=s.i
+        if at>=len(s.r): raise Refuse(14,op)
+        c=s.ch(at)
+        if c=='\\':
+            x=s.ch(at+1)
+            if x=='b': s.i=at+2; return 'b',8
+            if x and x in '01234567': return 'b',s.octal(at,3)
+            return s.common(at)
+        if c=='[' and s.ch(at+1)==':':
+            j=at+2; neg=False
+            if s.ch(j)=='^': neg=True; j+=1
+            n,k=s.run(j,'abcdefghijklmnopqrstuvwxyz')
+            if s.ch(k)==':' and s.ch(k+1)==']':
+                if n not in SETS: raise Refuse(16,at)
+                s.i=k+2; return 's',(ALL-SETS[n] if neg else SETS[n])
+        s.i=at+1; return 'b',s.r[at]
+    def klass(s,op):
+        s.i=op+1; neg=False; out=set()
+        if s.ch(s.i)=='^': neg=True; s.i+=1
+        first=True
+        while True:
+            if not first and s.ch(s.i)==']': s.i+=1; break
+            first=False; at=s.i
+            lo=s.element(op)
+            if s.ch(s.i)=='-' and s.ch(s.i+1)!=']':
+                s.i+=1; hi=s.element(op)
+                if lo[0]=='s' or hi[0]=='s' or lo[1]>hi[1]: raise Refuse(15,at)
+                out|=set(range(lo[1],hi[1]+1))
+            elif lo[0]=='b': out.add(lo[1])
+            else: out|=lo[1]
+        return frozenset(ALL-out if neg else out)
+W=SETS['word']
+class Done(Exception): pass
+class Walk:
+    """steps in order: calls on_end(at,caps) at each end; raises Done when the callback says so or the budget ends"""
+    def __init__(s,sub,tree,budget): s.sub=sub; s.tree=tree; s.left=budget; s.steps=0; s.cut=False
+    def step(s):
+        if s.left==0: s.cut=True; raise Done
+        s.left-=1; s.steps+=1
+    def holds(s,k,i):
+        u=s.sub; n=len(u)
+        if k=='A': return i==0
+        if k=='z': return i==n
+        if k=='Z': return i==n or (i==n-1 and u[i]==10)
+        if k=='mstart': return i==0 or (i<n and u[i-1]==10)
+        if k=='mend': return i==n or u[i]==10
+        l=i>0 and u[i-1] in W; r=i<n and u[i] in W
+        return (l!=r)==(k=='b')
+    def go(s,t,i,caps,k):
+        # generator free CPS; k(i,caps)
+        y=t[0]
+        if y=='seq': return s.items(t[1],0,i,caps,k)
+        if y=='alt':
+            for b in t[1]:
+                s.step(); s.go(b,i,caps,k)
+            return
+        if y=='group':
+            n=t[1]; s.step()
+            def closed(j,c):
+                s.step(); c=dict(c); c[n]=(i,j); k(j,c)
+            return s.go(t[2],i,caps,closed)
+        if y=='set':
+            s.step()
+            if i<len(s.sub) and s.sub[i] in t[2]: k(i+1,caps)
+            return
+        if y=='place':
+            s.step()
+            if s.holds(t[2],i): k(i,caps)
+            return
+        if y=='ref':
+            s.step()
+            if t[2] in caps:
+                a,b=caps[t[2]]; w=s.sub[a:b]
+                if s.sub[i:i+len(w)]==w: k(i+len(w),caps)
+            return
+        if y=='rep':
+            _,p,lo,hi,lazy,body=t
+            def decide(n,idle,i,caps):
+                s.step()
+                def rnd(): s.go(body,i,caps,lambda j,c: decide(n+1,j==i,j,c))
+                if n<lo: return rnd()
+                if hi is not None and n>=hi: return k(i,caps)
+                if idle: return k(i,caps)
+                if lazy: k(i,caps); rnd()
+                else: rnd(); k(i,caps)
+            return decide(0,False,i,caps)
+        raise Exception(y)
+    def items(s,l,x,i,caps,k):
+        if x==len(l): return k(i,caps)
+        return s.go(l[x],i,caps,lambda j,c: s.items(l,x+1,j,c,k))
+    def run(s,start,on_end):
+        def fin(i,c):
+            s.step(); on_end(i,c)
+        s.go(s.tree,start,{},fin)
+def row(start,i,caps):
+    out=[start,i]
+    for g in range(1,33):
+        a,b=caps.get(g,(U,U)); out+=[a,b]
+    return tuple(out)
+def read(rule,flags): return Parser(rule,flags).parse()
+def match(rule,flags,sub,budget):
+    t,g=read(rule,flags); total=0
+    for st in range(len(sub)+1):
+        w=Walk(sub,t,budget); hit=[]
+        def e(i,c): hit.append(row(st,i,c)); raise Done
+        try: w.run(st,e)
+        except Done: pass
+        total+=w.steps
+        if hit: return ('M',total,hit[0])
+        if w.cut: return ('X',st,total)
+    return ('N',total)
+def listing(rule,flags,sub,budget,room):
+    t,g=read(rule,flags); total=0; rows=[]
+    for st in range(len(sub)+1):
+        w=Walk(sub,t,budget); seen=set(); full=[]
+        def e(i,c):
+            r=row(st,i,c)
+            if r in seen: return
+            if len(rows)==room: full.append(1); raise Done
+            seen.add(r); rows.append(r)
+        try: w.run(st,e)
+        except Done: pass
+        total+=w.steps
+        if full: return ('F',total,rows)
+        if w.cut: return ('X',st,total,rows)
+    return ('C',total,rows)

@@ -1,0 +1,249 @@
+#!/usr/bin/env python3
+"""Writes the rules that crates/rule_vectors is run on, and what it must say of them.
+
+The verdicts come from reference.py, an independent reading of document 01: no line of it is shared with the library.
+Usage: harness/rule_vectors.py (in the repository's root)
+"""
+import re
+import sys
+from pathlib import Path
+
+import reference
+
+ROOT = Path(__file__).resolve().parent.parent
+TARGET = ROOT / "crates" / "rule_vectors"
+
+# A fault for each refusal number; 10 and 14 take what follows them with them.
+FAULTS = {
+    10: b"\\", 11: b"\\q", 12: b"\\x", 13: b"\\9", 14: b"[a", 15: b"[z-a]", 16: b"[[:no:]]", 17: b"|*", 18: b"a{", 19: b"a**",
+    20: b"(", 21: b")", 22: b"(?a", 23: b"()" * 33, 24: b"(" * 25,
+}
+
+# Examples of Perl's documents that are about syntax: those within this build, and those that it refuses by design.
+DOCUMENTS = r"""
+[+?*]
+[:alpha:]
+[[:alpha:]]
+[[]]
+[\b]
+[][]
+\A[\0-\x{ff}]\z
+\A[\xDF-\xDF]\z
+^[^\xDF]+$
+[$+<=>^`|~]
+['-?]
+[()]
+[-!]
+[.class.]
+[=class=]
+[0-9]
+[0-9a-fA-F]
+[1]
+[A-Za-z0-9_]
+[[:punct:]]
+[\h\v]
+[]
+[^\S\cK]
+[^a-z]
+[a-f\d]
+[aeiou]+
+\N{3}
+\N{4F}
+\N{5,}
+\N{COLON}
+\N{name}
+\p{Thai}
+\pL
+\R
+\X
+(?s)
+(?[
+\d+
+\w+
+\cH
+\x{0e0b}
+\xDF
+\x{1E9E}
+(?>\x0D\x0A|\v)
+.+?\b{gcb}
+[\R]
+\\
+\g137
+[\da-z]
+[^\n]
+\000
+\001
+\0018
+\053
+\120
+\18
+\b{wb}
+\B{wb}
+\E
+\F
+\G(\w+)
+\K
+\L
+\Q
+\U
+\N{U+0041}
+\PP
+\b=head\d\b
+\c\X
+\cA
+\cb
+\g-1
+\g1
+\g{name}
+\k'name'
+\k<name>
+\k{name}
+\l
+\u
+\o{120}
+\o{}
+(\w+)
+P\053
+P\x2B
+\120+
+\x50+
+\o{120}+
+\Acat
+\bcat\B
+\bcat\b
+\cK
+\t
+^\R$
+^\R\x0A$
+^\X$
+cat\Z
+cat\z
+(.)(.)\g{-2}\g{-1}
+(.)(.)\g-2\g-1
+(.)(.)\2\1
+(\w+)\s+\1
+(?-n:(hi|hello))
+(?:hi|hello)
+(?<greet>hi|hello)
+(hi|hello)
+(f)(i)
+[fi][fi]
+^\w
+a++a
+fi*
+"(?:[^"\\]++|\\.)*+"
+[{]
+\{
+^\C\C$
+(?#text)
+a{2,4}
+a{2,}
+a{2}
+a{,4}
+a{ 2, 4 }
+a*?
+a+?
+a??
+a{3}?
+a{3,}?
+a{3,5}?
+x{abc}
+foo(?=bar)
+foo(?!bar)
+(?<=a)b
+(?i)a
+(?^:a)
+(?|a|b)
+(?1)
+(?&name)
+(*FAIL)
+(*ACCEPT)
+[^]a]
+[]a]
+[a\]b]
+[\]]
+[\-a]
+[a-]
+[-a]
+[a-z-9]
+[--/]
+[!--]
+[\x41-\x5A]
+[\101-\132]
+[\cA-\cZ]
+[\t-\r]
+[[:^digit:]]
+[[:word:]]
+[[:xdigit:]G]
+[[:foo:]]
+[[:alpha:][:digit:]]
+[01[:alpha:]%]
+[[:space:]-z]
+"""
+
+BOUNDARIES = [
+    b"a{255}", b"a{256}", b"a{0,255}", b"a{0,256}", b"a{255,}", b"a{256,}", b"a{255,255}", b"a{256,255}", b"a{255,256}", b"a{2,1}", b"a{1,1}",
+    b"a{00000255}", b"a{00000256}", b"a{" + b"9" * 300 + b"}", b"a{" + b"0" * 300 + b"}", b"a{0," + b"9" * 300 + b"}",
+    b"(" * 24 + b")" * 24, b"(" * 25 + b")" * 25, b"(?:" * 24 + b")" * 24, b"(?:" * 25 + b")" * 25, (b"(" + b"(?:") * 12 + b")" * 24,
+    (b"(" + b"(?:") * 12 + b"(" + b")" * 25, b"()" * 32, b"()" * 33, b"()" * 32 + b"(?:)", b"()" * 32 + b"\\32", b"()" * 32 + b"\\33",
+    b"()" * 31 + b"\\32", b"\\32" + b"()" * 32, b"()" * 32 + b"\\g-32", b"()" * 32 + b"\\g-33", b"()" * 32 + b"\\g{-32}", b"()" * 32 + b"\\g{32}",
+    b"\\x{ff}", b"\\x{FF}", b"\\x{100}", b"\\x{0}", b"\\x{00000ff}", b"\\x{" + b"0" * 300 + b"41}", b"\\x{" + b"f" * 300 + b"}", b"\\xff", b"\\xfg", b"\\xf",
+    b"\\o{377}", b"\\o{400}", b"\\o{0}", b"\\o{" + b"7" * 300 + b"}", b"\\o{8}", b"\\o{7", b"\\x{7", b"[\\377]", b"[\\400]", b"[\\777]", b"[\\3777]", b"[\\0]",
+    b"\\0", b"\\00", b"\\000", b"\\0000", b"\\08", b"\\09", b"\\377", b"\\1" + b"0" * 300, b"()\\1" + b"0" * 300, b"()\\g" + b"0" * 300 + b"1",
+    b"()\\g{-" + b"0" * 300 + b"1}", b"\\g" + b"0" * 300, b"a" * 1000, b"a" * 999 + b"(", b"a" * 998 + b"**", b"." * 1000, b"|" * 1000, b"[" + b"a" * 998 + b"]",
+    b"[" + b"a" * 999, b"a*" * 500, b"\\d" * 500, b"(?:)" * 250, b"()" * 32 + b"a" * 936, b"a|" * 500, b"[a-z]" * 200, b"[^" + b"\\d" * 498 + b"]]",
+    b"(" * 24 + b"a|b" + b")*" * 24, b"(?:" * 24 + b"a*" + b")*" * 24, b"a{1}" * 250, b"\\x41" * 250, b"\\1" * 499 + b"()",
+]
+
+PRECEDENCE = [
+    b"[\\", b"(\\", b"({", b"[\\c", b"[\\x{4", b"(?", b"a(?b", b"{1,0}", b"{256}", b"\\b{256}", b"(?:{256}", b"a*{1,0}", b"a*{256}", b"a*{", b"a*{2}", b"^{2}", b"^{", b"a|{2}",
+    b"a|{", b"({2}", b"$*", b"\\A*", b"\\z+", b"\\Z?", b"\\b*", b"\\B*", b"^*?", b"a?*", b"a?{2}", b"a??*", b"a*?{256}", b"a*?{3}", b"(a*)*", b"(?:a*)*", b"a*|*", b"()**",
+    b"(?:)**", b"[a]**", b"\\d**", b".**", b"\\1**", b"\\1(", b"\\1[", b"\\1)", b"\\1\\", b"\\1\\q", b"\\2\\1()", b"()\\2\\3", b"(\\2)", b"(\\1)", b"\\g-1()", b"()\\g-1", b"(\\g-1)",
+    b"(()\\g-2)", b"(()\\g-3)", b"[z-\\q]", b"[\\w-\\q]", b"[\\q-\\w]", b"[a-[:no:]]", b"[[:no:]-a]", b"[\\w-[:no:]", b"[\\d-", b"[a-", b"[a-\\", b"[b-a", b"[z-\\d", b"[a--", b"[--",
+    b"[-", b"[^-", b"[^--a]", b"[^", b"[^]", b"[^]]", b"[]", b"[]]", b"[]-a]", b"[]-\\]]", b"[[", b"[[]", b"[[:", b"[[:a", b"[[:a:", b"[[:a:]", b"[[:alpha:", b"[[:^alpha:]]",
+    b"[[:^^alpha:]]", b"[[:^no:]]", b"[[:ALPHA:]]", b"[[:alpha :]]", b"[[:alpha:]a]", b"[a[:alpha:]]", b"[[a:alpha:]]", b"(a(b)", b"((", b"(()", b"([", b"([)", b"(a|b", b"a|(", b"a|)",
+    b")(", b"())", b"(()))", b"a)b(", b"(?:a", b"(?:", b"(?:(", b"(?:[", b"]", b"}", b"a]", b"a}", b"a{1}}", b"a{1}{", b"a{1}{2}", b"a{x}", b"a{1x}", b"a{1,x}", b"a{1,2x}", b"a{1,2",
+    b"a{1,", b"a{1", b"a{-1}", b"a{+1}", b"a{1 }", b"a{ 1}", b"a{1, }", b"a{,}", b"a{}", b"\\c{", b"\\c1", b"\\c\x80", b"\\c@\\c[\\c]\\c^\\c_\\c?", b"\\ca\\cz\\cA\\cZ", b"[\\c]", b"[\\c]]",
+    b"\\g{1", b"\\g{-1", b"\\g{", b"\\g{-", b"\\g{-}", b"\\g-", b"\\g--1", b"\\g{--1}", b"\\g{1}()", b"\\g1()", b"\\g{1 }", b"\\g 1", b"\\g+1", b"()\\g{01}", b"()\\g{1}{2}", b"()\\g1*",
+    b"\\_", b"\\-", b"\\ ", b"\\\x00", b"\\\x80", b"\\\xff", b"[\\_]", b"[\\-]", b"[\\B]", b"[\\A]", b"[\\z]", b"[\\Z]", b"[\\N]", b"[\\g]", b"[\\8]", b"[\\9]", b"[\\1]", b"[\\7]", b"[\\18]", b"[\\b-\\n]",
+]
+
+
+def verdict(rule, flags):
+    try:
+        return "sound %d" % reference.read(rule, flags)[1]
+    except reference.Refuse as refusal:
+        return "%d at %d" % (refusal.n, refusal.p)
+
+
+def listed():
+    """The rules of crates/syntax/specs/Verdicts.antt, whose verdicts were written by hand."""
+    text = (ROOT / "crates/syntax/specs/Verdicts.antt").read_text(encoding="utf-8")
+    return [m.group(1).replace("\\\\", "\\").encode("latin1") for m in re.finditer(r'"((?:[^"\\]|\\.)*)" (?:gives|holds)', text)]
+
+
+def rules():
+    yield from listed()
+    yield from (line.encode("latin1") for line in DOCUMENTS.split("\n"))
+    yield from BOUNDARIES
+    yield from PRECEDENCE
+    for first in FAULTS.values():
+        for second in FAULTS.values():
+            yield first + second
+    for b in range(256):
+        yield bytes([b])
+        yield b"\\" + bytes([b])
+        yield b"[\\" + bytes([b]) + b"]"
+
+
+def main():
+    cases = [(rule, 0) for rule in dict.fromkeys(rules())]
+    cases += [(rule, flags) for flags in (1, 2, 3) for rule in (b".", b"^", b"$", b"^a.b$", b"(?:^|$)*", b"^*", b".*")]
+    TARGET.mkdir(parents=True, exist_ok=True)
+    (TARGET / "stdin").write_text("".join("%d%s\n" % (flags, rule.hex()) for rule, flags in cases))
+    (TARGET / "stdout").write_text("".join(verdict(rule, flags) + "\n" for rule, flags in cases))
+    print("%d rules, %d bytes" % (len(cases), (TARGET / "stdin").stat().st_size), file=sys.stderr)
+
+
+if __name__ == "__main__":
+    main()
