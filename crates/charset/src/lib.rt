@@ -124,22 +124,15 @@ pub fn complement(class: [u32; 8]) -> [u32; 8]
     c
 }
 
-// Word i of the class of a named set.
-fn word_of(set: Named, i: usize) -> u32
-    requires { ⌜ i < 8 ⌝ }
-    ensures { λ r. ⌜ ((x : ℕ) → x < 256 → x / 32 ≡ i → bit r (x % 32) ≡ inNamed set x) ⌝ }
-{
-    let k = (mark(set) * 8) as usize + i;
-    CLASSES[k]
-}
-
-// The class of a named set.
+// The class of a named set. The table is a value that is made anew at each use, so it is taken once.
 pub fn class_of(set: Named) -> [u32; 8]
     ensures { λ r. ⌜ ((x : ℕ) → x < 256 → has r x ≡ inNamed set x) ⌝ }
 {
+    let first = (mark(set) * 8) as usize;
+    let table = CLASSES;
     let mut c = [0; 8];
     for i in 0..8 {
-        let word = word_of(set, i);
+        let word = table[first + i];
         c[i] = word;
     }
     c
