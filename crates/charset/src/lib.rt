@@ -1,11 +1,11 @@
 // Sets of bytes: the table of the named sets, and classes of eight 32-bit words.
 ghost use mathlib.Core.Path.{_≡_};
 ghost use mathlib.Core.Bool.{false, not, _||_};
-ghost use Prim.Native.Nat.{ℕ, _+_, _/_, _%_, _≤_, _<_};
+ghost use Prim.Native.Nat.{ℕ, _+_, _≤_, _<_};
 ghost use lib.ListN.{length, drop};
 ghost use lib.Dec.{eqb};
 ghost use Rattle.charset.specs.Named.{inRange, _to_, inNamed, markOf};
-ghost use Rattle.charset.specs.Class.{bit, has};
+ghost use Rattle.charset.specs.Class.{has};
 
 mod tables;
 
