@@ -1,0 +1,88 @@
+-- Items: the number that named the part before now names the part after, and nothing else of the node changed, but a reference's number.
+use mathlib.Core.Path.{_≡_, refl, ap, _∙_}
+use mathlib.Core.List.{List}
+use Prim.Native.Nat.{ℕ, _+_, _≤_}
+use native.Mathlib.Omega.{arith}
+use lib.ListN.{getD, length}
+use Rattle.syntax.specs.Limits.{slot, groupLimit, ruleAreaNeed}
+use Rattle.syntax.specs.Reading.{dangling, unresolved}
+use Rattle.syntax.specs.Tree.{Item, byteIn, assert, reference, item}
+use Rattle.syntax.specs.Compiled.{Compiled}
+use Rattle.linker.specs.Nodes.{Part}
+use Rattle.linker.specs.Linking.{Stands, noted, Made, Links}
+use Rattle.linker.specs.Stores.{Put, Referred}
+use Rattle.linker.specs.Laws.{slot-fits}
+use Rattle.linker.proofs.Regions.{part-here, same-class}
+use Rattle.linker.proofs.Made.{outside-wider}
+use Rattle.linker.proofs.Trees.{itemKind, for-reference, for-item}
+
+-- a part of any kind
+pub record Begins (a : List ℕ) (p : ℕ) : Type 0 where
+  pub some : 1 ≤ p
+  pub fits : p + 3 ≤ length a
+  pub small : p + 3 ≤ ruleAreaNeed
+  pub longer : getD a p 0 ≡ 7 → p + 8 ≤ length a
+
+pub begins : (groups r : ℕ) (a : List ℕ) (p : ℕ) → Stands (Part a) groups r a p → Begins a p
+begins groups r a p s =
+    let n = part-here a (s .tree) (s .lo) (s .top) p (s .holds) in
+    record { some = n .some; fits = omega (arith, n .high, s .within); small = omega (arith, n .high, s .small); longer = λ e. let w = n .longer e in omega (arith, s .within) }
+
+pub reference-fits : (groups r : ℕ) (a : List ℕ) (p : ℕ) → Stands (Part a) groups r a p → getD a p 0 ≡ 2 → (p + 4 ≤ length a) × (groups ≤ groupLimit)
+unfolding Part
+reference-fits groups r a p s e =
+    (for-reference a (s .lo) (s .top) p (λ t. p + 4 ≤ length a) (λ place n h. omega (arith, h .node .high, s .within)) e (s .tree) (s .holds), s .fits .few)
+
+module _ (groups r : ℕ) (a b : List ℕ) (p next sofar : ℕ) where
+  pub reference-links : (found : ℕ) → getD a p 0 ≡ 2 → Referred groups a b p next sofar found → Links (Part a) groups r a b p next sofar p found
+  unfolding Links Part unresolved Compiled
+  reference-links found e w t lo top h f = for-reference a lo top p (λ t. Made groups r t lo top a b next sofar p found) go e t h
+    where
+      go : (place n : ℕ) → Part a (item place (reference n)) lo top p → Made groups r (item place (reference n)) lo top a b next sofar p found
+      go place n k =
+          let d : dangling groups (getD a (p + 2) 0) (reference (getD a (p + 3) 0)) ≡ dangling groups place (reference n) = rw (k .origin, k .number) in
+          record {
+            outside = outside-wider p (p + 4) lo top a b (k .node .low) (k .node .high) (w .rest);
+            near = omega (arith, k .node .high);
+            stands = λ u.
+                let v = w .known (d ∙ u) in
+                record {
+                  node = record { low = k .node .low; high = k .node .high; is = w .kind ∙ k .node .is };
+                  goes = w .goes (d ∙ u);
+                  origin = w .origin ∙ k .origin;
+                  span = w .span (d ∙ u) ∙ ap slot (k .number);
+                  fits = slot-fits n (omega (arith, v .0, k .number)) (omega (arith, v .1, k .number, f .few));
+                };
+            first = w .first ∙ ap (λ o. noted o sofar) d;
+          }
+
+  pub item-links : (getD a p 0 ≡ 4 → ⊥) → (getD a p 0 ≡ 7 → ⊥) → (getD a p 0 ≡ 10 → ⊥) → (getD a p 0 ≡ 2 → ⊥) → Put a b (p + 1) next → Links (Part a) groups r a b p next sofar p sofar
+  unfolding Links Part unresolved dangling Compiled noted
+  item-links e₄ e₇ e₁₀ e₂ w t lo top h f = for-item a lo top p (λ t. Made groups r t lo top a b next sofar p sofar) go e₄ e₇ e₁₀ e₂ t h
+    where
+      go : (place : ℕ) (i : Item) → itemKind i ≤ 1 → Part a (item place i) lo top p → Made groups r (item place i) lo top a b next sofar p sofar
+      go place (byteIn c) l k =
+          record {
+            outside = outside-wider (p + 1) (p + 1 + 1) lo top a b (omega (arith, k .node .low)) (omega (arith, k .node .high)) (w .rest);
+            near = omega (arith, k .node .high);
+            stands = λ u. record {
+              node = record { low = k .node .low; high = k .node .high; is = w .rest .below p (omega arith) ∙ k .node .is };
+              goes = w .is;
+              origin = w .rest .above (p + 2) (omega arith) ∙ k .origin;
+              set = λ x v. same-class a b (p + 3) (p + 11) (p + 3) x (λ i i1 i2. w .rest .above i (omega arith)) (omega arith) (omega arith) v ∙ k .set x v;
+            };
+            first = refl;
+          }
+      go place (assert c) l k =
+          record {
+            outside = outside-wider (p + 1) (p + 1 + 1) lo top a b (omega (arith, k .node .low)) (omega (arith, k .node .high)) (w .rest);
+            near = omega (arith, k .node .high);
+            stands = λ u. record {
+              node = record { low = k .node .low; high = k .node .high; is = w .rest .below p (omega arith) ∙ k .node .is };
+              goes = w .is;
+              origin = w .rest .above (p + 2) (omega arith) ∙ k .origin;
+              which = w .rest .above (p + 3) (omega arith) ∙ k .which;
+            };
+            first = refl;
+          }
+      go place (reference n) l k = absurd (omega arith)

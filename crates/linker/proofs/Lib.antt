@@ -1,0 +1,12 @@
+mod Regions
+mod Compiled
+mod Made
+mod Stores
+mod Trees
+mod Items
+mod Groups
+mod Repeats
+mod Plains
+mod Chains
+mod Branches
+mod Insides

@@ -1,0 +1,83 @@
+-- Repeats: the body is linked in the region below the node, and goes on at the loop; then the node's own numbers are written.
+use mathlib.Core.Path.{_≡_, _∙_}
+use mathlib.Core.List.{List}
+use Prim.Native.Nat.{ℕ, _+_, _≤_, _<_}
+use native.Mathlib.Omega.{arith}
+use lib.ListN.{getD, length}
+use Rattle.syntax.specs.declared.Greed.{Greed}
+use Rattle.syntax.specs.declared.Most.{Most}
+use Rattle.syntax.specs.Limits.{registers, ruleAreaNeed}
+use Rattle.syntax.specs.Reading.{unresolved}
+use Rattle.syntax.specs.Tree.{Rule, repeat}
+use Rattle.syntax.specs.Compiled.{Compiled}
+use Rattle.linker.specs.Nodes.{Part}
+use Rattle.linker.specs.Linking.{Fits, Stands, Made, Links}
+use Rattle.linker.specs.Stores.{RepeatClosed}
+use Rattle.linker.proofs.Regions.{part-here}
+use Rattle.linker.proofs.Compiled.{keep}
+use Rattle.linker.proofs.Made.{outside-then}
+use Rattle.linker.proofs.Trees.{for-repeat}
+
+body-fits : (groups r place least : ℕ) (most : Most) (g : Greed) (s : Rule) → Fits groups r (repeat place least most g s) → Fits groups (r + 2) s
+body-fits groups r place least most g s f = record { few = f .few; proper = f .proper .1; room = omega (arith, f .room) }
+
+-- what is asked where a repeat stands, at the body's position in the code's words
+pub record RepeatAt (groups r : ℕ) (a : List ℕ) (p : ℕ) : Type 0 where
+  pub fits : p + 8 ≤ length a
+  pub small : p + 8 ≤ ruleAreaNeed
+  pub room : r + 2 ≤ registers
+  pub lower : getD a (p + 6) 0 < p
+  pub body : Stands (Part a) groups (r + 2) a (getD a (p + 6) 0)
+
+pub repeat-at : (groups r : ℕ) (a : List ℕ) (p : ℕ) → Stands (Part a) groups r a p → getD a p 0 ≡ 7 → RepeatAt groups r a p
+unfolding Part
+repeat-at groups r a p s e = for-repeat a (s .lo) (s .top) p (λ t. Fits groups r t → RepeatAt groups r a p) go e (s .tree) (s .holds) (s .fits)
+  where
+    go : (place least : ℕ) (most : Most) (g : Greed) (t : Rule) → Part a (repeat place least most g t) (s .lo) (s .top) p → Fits groups r (repeat place least most g t) → RepeatAt groups r a p
+    go place least most g t h f =
+        let l = h .node .high in
+        let w = s .within in
+        let u = s .small in
+        record {
+          fits = omega arith;
+          small = omega arith;
+          room = omega (arith, f .room);
+          lower = rw (h .is) (omega (arith, part-here a t (s .lo) p (h .body) (h .holds) .high));
+          body = rw (h .is) (record { tree = t; lo = s .lo; top = p; holds = h .holds; fits = body-fits groups r place least most g t f; within = omega arith; small = omega arith });
+        }
+
+module _ (groups r : ℕ) (a b c : List ℕ) (p next sofar entry found : ℕ) where
+  repeat-made : (place least : ℕ) (most : Most) (g : Greed) (s : Rule) (lo top : ℕ) → Part a (repeat place least most g s) lo top p → Fits groups r (repeat place least most g s)
+      → Made groups (r + 2) s lo p a b (p + 1) sofar entry found → RepeatClosed b c p next r entry → Made groups r (repeat place least most g s) lo top a c next sofar p found
+  unfolding Part unresolved Compiled
+  repeat-made place least most g s lo top h f m w =
+      let l = h .node .low in
+      let u = h .node .high in
+      -- the node's first five numbers are as they were
+      let kept : (k : ℕ) → k < 5 → getD c (p + k) 0 ≡ getD a (p + k) 0 = λ k v. w .rest .below (p + k) (omega arith) ∙ m .outside .above (p + k) (omega arith) in
+      record {
+        outside = outside-then lo p (p + 5) (p + 8) lo top a b c (omega arith) (omega arith) (omega arith) u (m .outside) (w .rest);
+        near = omega arith;
+        stands = λ e. record {
+          room = omega (arith, f .room);
+          bounds = f .proper .0;
+          node = record { low = l; high = u; is = w .rest .below p (omega arith) ∙ m .outside .above p (omega arith) ∙ h .node .is };
+          loop = kept 1 (omega arith) ∙ h .loop;
+          least = kept 2 (omega arith) ∙ h .least;
+          most = kept 3 (omega arith) ∙ h .most;
+          greed = kept 4 (omega arith) ∙ h .greed;
+          register = w .register;
+          body = entry;
+          enters = w .enters;
+          goes = w .goes;
+          inner = keep b c lo p lo top (omega arith) (omega arith) (λ i _ v. w .rest .below i (omega arith)) s entry (p + 1) (r + 2) (m .stands e);
+        };
+        first = m .first;
+      }
+
+  pub repeat-links : getD a p 0 ≡ 7 → Links (Part a) groups (r + 2) a b (getD a (p + 6) 0) (p + 1) sofar entry found → RepeatClosed b c p next r entry → Links (Part a) groups r a c p next sofar p found
+  unfolding Links Part
+  repeat-links e m w t lo top h f = for-repeat a lo top p (λ t. Fits groups r t → Made groups r t lo top a c next sofar p found) go e t h f
+    where
+      go : (place least : ℕ) (most : Most) (g : Greed) (s : Rule) → Part a (repeat place least most g s) lo top p → Fits groups r (repeat place least most g s) → Made groups r (repeat place least most g s) lo top a c next sofar p found
+      go place least most g s k f = repeat-made place least most g s lo top k f (m s lo p (rw (k .is) (k .holds)) (body-fits groups r place least most g s f)) w

@@ -1,0 +1,114 @@
+-- The numbers that the small functions write, and those that they leave.
+use mathlib.Core.Path.{_≡_, refl, sym, subst, _∙_}
+use mathlib.Core.List.{List}
+use mathlib.Core.Option.{none, some}
+use Prim.Native.Nat.{ℕ, _+_, _-_, _*_, _≤_, _<_}
+use native.Mathlib.Omega.{arith}
+use borrow.Author.Tests.{eq-eqb, ne-eqb, le-leb, lt-leb}
+use lib.ListN.{getD, set, length, length-set}
+use lib.Seq.{getD-set-same, getD-set-other}
+use Rattle.syntax.specs.Limits.{slot}
+use Rattle.syntax.specs.Reading.{dangling}
+use Rattle.syntax.specs.Tree.{reference}
+use Rattle.linker.specs.Nodes.{beforeOf}
+use Rattle.linker.specs.Linking.{noted}
+use Rattle.linker.specs.Stores.{Put, PutTwo, GroupClosed, RepeatClosed, Referred}
+use Rattle.linker.proofs.Made.{outside-none, outside-then}
+
+pub put-done : (a : List ℕ) (at x : ℕ) → at < length a → Put a (set a at x) at x
+put-done a at x h =
+    record {
+      is = getD-set-same a at x 0 h;
+      rest = record { below = λ i l. getD-set-other a at i x 0 (λ e. omega arith); above = λ i l. getD-set-other a at i x 0 (λ e. omega arith); long = simp length-set };
+    }
+
+pub two-done : (a b c : List ℕ) (at x y : ℕ) → Put a b at x → Put b c (at + 1) y → PutTwo a c at x y
+two-done a b c at x y u v =
+    record {
+      is = v .rest .below at (omega arith) ∙ u .is;
+      also = v .is;
+      rest = outside-then at (at + 1) (at + 1) (at + 1 + 1) at (at + 2) a b c (omega arith) (omega arith) (omega arith) (omega arith) (u .rest) (v .rest);
+    }
+
+-- a number at a position that is written otherwise
+pub moved : (a : List ℕ) (i j : ℕ) {x : ℕ} → i ≡ j → getD a i 0 ≡ x → getD a j 0 ≡ x
+moved a i j {x} e h = subst (λ (k : ℕ). getD a k 0 ≡ x) e h
+
+pub group-closed : (a b c : List ℕ) (p next r entry : ℕ) → PutTwo a b (p + 1) next r → PutTwo b c (p + 5) entry r → GroupClosed a c p next r entry
+group-closed a b c p next r entry u v =
+    record {
+      kind = v .rest .below p (omega arith) ∙ u .rest .below p (omega arith);
+      goes = v .rest .below (p + 1) (omega arith) ∙ u .is;
+      closer = v .rest .below (p + 2) (omega arith) ∙ moved b (p + 1 + 1) (p + 2) (omega arith) (u .also);
+      span = v .rest .below (p + 3) (omega arith) ∙ u .rest .above (p + 3) (omega arith);
+      opening = v .rest .below (p + 4) (omega arith) ∙ u .rest .above (p + 4) (omega arith);
+      enters = v .is;
+      opener = moved c (p + 5 + 1) (p + 6) (omega arith) (v .also);
+      rest = outside-then (p + 1) (p + 1 + 2) (p + 5) (p + 5 + 2) p (p + 7) a b c (omega arith) (omega arith) (omega arith) (omega arith) (u .rest) (v .rest);
+    }
+
+pub repeat-closed : (a b c : List ℕ) (p next r entry : ℕ) → PutTwo a b (p + 5) r entry → Put b c (p + 7) next → RepeatClosed a c p next r entry
+repeat-closed a b c p next r entry u v =
+    record {
+      register = v .rest .below (p + 5) (omega arith) ∙ u .is;
+      enters = v .rest .below (p + 6) (omega arith) ∙ moved b (p + 5 + 1) (p + 6) (omega arith) (u .also);
+      goes = v .is;
+      rest = outside-then (p + 5) (p + 5 + 2) (p + 7) (p + 7 + 1) (p + 5) (p + 8) a b c (omega arith) (omega arith) (omega arith) (omega arith) (u .rest) (v .rest);
+    }
+
+-- the part before another, by the node's kind
+pub before-repeat : (a : List ℕ) (p : ℕ) → getD a p 0 ≡ 7 → getD a (p + 7) 0 ≡ beforeOf a p
+unfolding beforeOf
+before-repeat a p e = rw (eq-eqb (getD a p 0) 7 e)
+
+pub before-other : (a : List ℕ) (p : ℕ) → (getD a p 0 ≡ 7 → ⊥) → getD a (p + 1) 0 ≡ beforeOf a p
+unfolding beforeOf
+before-other a p e = rw (ne-eqb (getD a p 0) 7 e)
+
+-- References ------------------------------------------------------------------------
+
+zero-dangles : (groups place n : ℕ) → n ≡ 0 → dangling groups place (reference n) ≡ some place
+unfolding dangling
+zero-dangles groups place n e = rw (eq-eqb n 0 e)
+
+beyond-dangles : (groups place n : ℕ) → (n ≡ 0 → ⊥) → groups < n → dangling groups place (reference n) ≡ some place
+unfolding dangling
+beyond-dangles groups place n e h = rw (ne-eqb n 0 e, lt-leb n groups h)
+
+group-answers : (groups place n : ℕ) → (n ≡ 0 → ⊥) → n ≤ groups → dangling groups place (reference n) ≡ none
+unfolding dangling
+group-answers groups place n e h = rw (ne-eqb n 0 e, le-leb n groups h)
+
+dangles : (groups : ℕ) (a : List ℕ) (p next sofar : ℕ) → dangling groups (getD a (p + 2) 0) (reference (getD a (p + 3) 0)) ≡ some (getD a (p + 2) 0) → Referred groups a a p next sofar (getD a (p + 2) 0 + 1)
+unfolding noted
+dangles groups a p next sofar e =
+    let never : dangling groups (getD a (p + 2) 0) (reference (getD a (p + 3) 0)) ≡ none → ⊥ = λ n. let z : _≡_ {A = ℕ} 0 1 = cc in omega arith in
+    record {
+      kind = refl;
+      origin = refl;
+      rest = outside-none p (p + 4) a;
+      known = λ n. absurd (never n);
+      goes = λ n. absurd (never n);
+      span = λ n. absurd (never n);
+      first = rw e;
+    }
+
+module _ (groups : ℕ) (a : List ℕ) (p next sofar : ℕ) where
+  pub none-zero : (place n : ℕ) → place ≡ getD a (p + 2) 0 → n ≡ getD a (p + 3) 0 → n ≡ 0 → Referred groups a a p next sofar (place + 1)
+  none-zero place n e f z = rw e (dangles groups a p next sofar (zero-dangles groups (getD a (p + 2) 0) (getD a (p + 3) 0) (sym f ∙ z)))
+
+  pub none-beyond : (place n : ℕ) → place ≡ getD a (p + 2) 0 → n ≡ getD a (p + 3) 0 → (n ≡ 0 → ⊥) → groups < n → Referred groups a a p next sofar (place + 1)
+  none-beyond place n e f z h = rw e (dangles groups a p next sofar (beyond-dangles groups (getD a (p + 2) 0) (getD a (p + 3) 0) (λ w. z (f ∙ w)) (omega arith)))
+
+  pub referred : (b c : List ℕ) (n : ℕ) → n ≡ getD a (p + 3) 0 → (n ≡ 0 → ⊥) → n ≤ groups → Put a b (p + 1) next → Put b c (p + 3) (2 * (n - 1)) → Referred groups a c p next sofar sofar
+  unfolding slot noted
+  referred b c n e z h u v =
+      record {
+        kind = v .rest .below p (omega arith) ∙ u .rest .below p (omega arith);
+        origin = v .rest .below (p + 2) (omega arith) ∙ u .rest .above (p + 2) (omega arith);
+        rest = outside-then (p + 1) (p + 1 + 1) (p + 3) (p + 3 + 1) p (p + 4) a b c (omega arith) (omega arith) (omega arith) (omega arith) (u .rest) (v .rest);
+        known = λ w. (omega (arith, e, z), omega (arith, e, h));
+        goes = λ w. v .rest .below (p + 1) (omega arith) ∙ u .is;
+        span = λ w. v .is ∙ rw e;
+        first = rw (group-answers groups (getD a (p + 2) 0) (getD a (p + 3) 0) (λ w. z (e ∙ w)) (omega arith));
+      }

@@ -1,0 +1,31 @@
+-- `close_repeat` meets its contract: two numbers, then the one behind them.
+use native.Mathlib.Omega.{arith}
+use borrow.Author.Needs.{needs}
+use Rattle.syntax.specs.Limits.{ruleAreaNeed, registers, spansLength, groupLimit, nestingLimit}
+use Rattle.linker.proofs.Stores.{repeat-closed}
+use Rattle.linker.proofs.close_repeat.Statement.{statement}
+use Rattle.linker.proofs.close_repeat.Tie as tie
+
+add-put-two : tie.Need-add-put-two
+add-put-two c = search needs
+
+put-two-requires : tie.Need-put-two-requires
+unfolding ruleAreaNeed registers spansLength groupLimit nestingLimit
+put-two-requires c κs = (omega arith, omega arith, omega arith)
+
+add-put : tie.Need-add-put
+add-put c = search needs
+
+put-requires : tie.Need-put-requires
+unfolding ruleAreaNeed
+put-requires c κs = (omega arith, omega arith)
+
+same-length : tie.Need-same-length
+same-length c = search needs
+
+returns : tie.Need-returns
+returns c = repeat-closed _ _ _ _ _ _ _ (c .before .before .before .before .before .before .put-two .ensures) (c .before .before .put .ensures)
+
+pub close-repeat-spec : {M : Type 1} → statement M
+close-repeat-spec =
+    tie.close (tie.spec add-put-two put-two-requires add-put put-requires same-length returns)

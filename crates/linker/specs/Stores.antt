@@ -1,0 +1,48 @@
+-- What the small functions write, number by number.
+use mathlib.Core.Path.{_≡_}
+use mathlib.Core.List.{List}
+use mathlib.Core.Option.{none}
+use Prim.Native.Nat.{ℕ, _+_, _≤_}
+use lib.ListN.{getD}
+use Rattle.syntax.specs.Limits.{slot}
+use Rattle.syntax.specs.Reading.{dangling}
+use Rattle.syntax.specs.Tree.{reference}
+use Rattle.linker.specs.Linking.{Outside, noted}
+
+-- one number, and two
+pub record Put (old new : List ℕ) (at x : ℕ) : Type 0 where
+  pub is : getD new at 0 ≡ x
+  pub rest : Outside at (at + 1) old new
+
+pub record PutTwo (old new : List ℕ) (at x y : ℕ) : Type 0 where
+  pub is : getD new at 0 ≡ x
+  pub also : getD new (at + 1) 0 ≡ y
+  pub rest : Outside at (at + 2) old new
+
+-- a group's close and open
+pub record GroupClosed (old new : List ℕ) (p next r entry : ℕ) : Type 0 where
+  pub kind : getD new p 0 ≡ getD old p 0
+  pub goes : getD new (p + 1) 0 ≡ next
+  pub closer : getD new (p + 2) 0 ≡ r
+  pub span : getD new (p + 3) 0 ≡ getD old (p + 3) 0
+  pub opening : getD new (p + 4) 0 ≡ getD old (p + 4) 0
+  pub enters : getD new (p + 5) 0 ≡ entry
+  pub opener : getD new (p + 6) 0 ≡ r
+  pub rest : Outside p (p + 7) old new
+
+-- a repeat's register, body and next
+pub record RepeatClosed (old new : List ℕ) (p next r entry : ℕ) : Type 0 where
+  pub register : getD new (p + 5) 0 ≡ r
+  pub enters : getD new (p + 6) 0 ≡ entry
+  pub goes : getD new (p + 7) 0 ≡ next
+  pub rest : Outside (p + 5) (p + 8) old new
+
+-- a reference, whose number becomes its group's slot; or it is noted
+pub record Referred (groups : ℕ) (old new : List ℕ) (p next sofar found : ℕ) : Type 0 where
+  pub kind : getD new p 0 ≡ getD old p 0
+  pub origin : getD new (p + 2) 0 ≡ getD old (p + 2) 0
+  pub rest : Outside p (p + 4) old new
+  pub known : dangling groups (getD old (p + 2) 0) (reference (getD old (p + 3) 0)) ≡ none → (1 ≤ getD old (p + 3) 0) × (getD old (p + 3) 0 ≤ groups)
+  pub goes : dangling groups (getD old (p + 2) 0) (reference (getD old (p + 3) 0)) ≡ none → getD new (p + 1) 0 ≡ next
+  pub span : dangling groups (getD old (p + 2) 0) (reference (getD old (p + 3) 0)) ≡ none → getD new (p + 3) 0 ≡ slot (getD old (p + 3) 0)
+  pub first : found ≡ noted (dangling groups (getD old (p + 2) 0) (reference (getD old (p + 3) 0))) sofar
