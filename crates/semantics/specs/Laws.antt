@@ -1,5 +1,30 @@
 -- What is proved of walks: first of traces alone, then of each form of a rule, then of the whole.
+pub mod Cases
 pub mod Traces
 pub mod Right
 pub mod Rounds
 pub mod Walk
+-- What is proved of answers and listings: where a run stops, what is new, and the demands.
+pub mod Members
+pub mod Places
+pub mod Runs
+pub mod Newness
+pub mod Views
+pub mod Matches
+pub mod Readings
+pub mod Listings
+pub mod Agreements
+pub mod Settled
+pub mod Steps
+pub mod Budgets
+-- What loops over the starts keep.
+pub mod Loops
+-- What is proved of the calls.
+pub mod Refusals
+pub mod Rows
+pub mod Areas
+pub mod Calls
+pub mod MatchCalls
+pub mod ListCalls
+pub mod AgreeingCalls
+pub mod SettledCalls

@@ -9,6 +9,8 @@ pub mod Theorem
 pub mod Runs
 pub mod Answers
 pub mod Calls
+pub mod Demands
+pub mod DemandsHold
 pub mod Laws
 pub mod Computing
 pub mod Starred

@@ -3,13 +3,12 @@ use mathlib.Core.Path.{_≡_, sym}
 use mathlib.Core.List.{List, map}
 use mathlib.Core.Logic.{_⊎_, inl, inr}
 use Prim.Native.Nat.{ℕ, _≤_, _<_}
-use native.Mathlib.Omega.{arith}
-use native.Mathlib.Decide.{decLt}
 use lib.ListN.{length}
 use Rattle.syntax.specs.Tree.{Rule}
 use Rattle.semantics.specs.States.{Before, code, State, starting, row}
 use Rattle.semantics.specs.Derivations.{Derivation}
 use Rattle.semantics.specs.Walk.{Trace, trace, Reaches}
+use Rattle.semantics.specs.Laws.Cases.{three}
 use Rattle.semantics.specs.Laws.Traces.{before-codes, apart, reaches-ends, ends-reaches, reaches-one, reaches-ordered}
 use Rattle.semantics.specs.Laws.Right.{Right}
 use Rattle.semantics.specs.Laws.Walk.{right}
@@ -28,9 +27,6 @@ pub record ListsDerivations (sub : List ℕ) (r : Rule) (start : ℕ) : Type 0 w
       → (u : State) → Derivation sub r start u → row start u ≡ row start t → (u ≡ t) ⊎ Before (t .path) (u .path)
   -- a derivation is settled by its choices, even as numbers
   pub choices-settle : (t u : State) → Derivation sub r start t → Derivation sub r start u → map code (t .path) ≡ map code (u .path) → t ≡ u
-
-three : (i j : ℕ) → (i < j) ⊎ ((i ≡ j) ⊎ (j < i))
-three i j = elim (decLt i j) [ yes h ↦ inl h | no h ↦ inr (elim (decLt j i) [ yes k ↦ inr k | no k ↦ inl (omega arith) ]) ]
 
 module _ (sub : List ℕ) (r : Rule) (start : ℕ) (fits : start ≤ length sub) where
   es : Trace

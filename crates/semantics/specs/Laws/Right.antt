@@ -3,7 +3,7 @@ use mathlib.Core.Path.{_≡_, refl, ap, sym, _∙_}
 use mathlib.Core.List.{List, [], _∷_, _++_, append-assoc, append-nil}
 use mathlib.Core.Logic.{_⊎_, inl, inr}
 use mathlib.Core.Bool.{Bool, true, false}
-use Prim.Native.Nat.{ℕ, suc, _+_, _≤_, _<_}
+use Prim.Native.Nat.{ℕ, suc, _≤_}
 use native.Mathlib.Omega.{arith}
 use lib.ListN.{length}
 use lib.Dec.{ltb, leb}
@@ -104,7 +104,7 @@ module _ {N : ℕ} (s : State) (c : Choice) {es : Trace} {D : State → Type 0} 
 
 -- Items --------------------------------------------------------------------
 
-when-goes : (b : Bool) (x : Tried) (t : State) → when b x ≡ goes t → (b ≡ true) × (x ≡ goes t)
+pub when-goes : (b : Bool) (x : Tried) (t : State) → when b x ≡ goes t → (b ≡ true) × (x ≡ goes t)
 unfolding when
 when-goes true x t e = (refl, e)
 when-goes false x t e = let z : _≡_ {A = ℕ} 0 1 = cc in absurd (omega arith)

@@ -4,9 +4,9 @@ use mathlib.Core.List.{List, [], _∷_, _++_, map, append-assoc, append-nil}
 use mathlib.Core.Logic.{_⊎_, inl, inr}
 use Prim.Native.Nat.{ℕ, zero, suc, _<_}
 use native.Mathlib.Omega.{arith}
-use Rattle.syntax.specs.declared.Greed.the-variants.{Greedy, Lazy}
-use Rattle.semantics.specs.States.{Choice, branch, again, goOn, Sooner, earlier, roundFirst, goOnFirst, Before, here, there, code, State}
-use Rattle.semantics.specs.Walk.{Event, step, miss, end, Trace, Go, _▹_, done, Reaches}
+use Rattle.semantics.specs.States.{Choice, Sooner, earlier, roundFirst, goOnFirst, Before, here, there, code, State}
+use Rattle.semantics.specs.Walk.{step, miss, end, Trace, Go, _▹_, done, Reaches}
+use Rattle.semantics.specs.Laws.Cases.{clash}
 
 -- u is among the ends of a trace
 abbrev pub Ends : Trace → State → Type 0
@@ -151,9 +151,6 @@ bind-end (miss p q ∷ es) = rw (bind-end es)
 bind-end (end t ∷ es) = rw (bind-end es)
 
 -- Ends by their place in the trace -----------------------------------------------
-
-clash : _≡_ {A = ℕ} 0 1 → ⊥
-clash e = omega arith
 
 pub reaches-ends : (es : Trace) (j : ℕ) (t : State) → Reaches es j t → Ends es t
 reaches-ends [] j t h = absurd h

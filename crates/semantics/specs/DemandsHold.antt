@@ -1,0 +1,59 @@
+-- The demands hold for all inputs, and the calls are the only ones that meet them. Each is the last of a chain in Laws: Runs and Newness,
+-- then Matches (demand 2), Readings and Listings (demand 3), Refusals and Calls (demand 1).
+use mathlib.Core.Path.{_≡_}
+use mathlib.Core.List.{List}
+use mathlib.Core.Logic.{inl, inr}
+use Prim.Native.Nat.{ℕ, _≤_}
+use Rattle.syntax.specs.declared.Reason.{Reason}
+use Rattle.syntax.specs.Tree.{Rule}
+use Rattle.semantics.specs.Answers.{answer, listing}
+use Rattle.semantics.specs.Calls.{Call, Return, MatchOutcome, Refused, matchCall, ListOutcome, ListRefused, listCall}
+use Rattle.semantics.specs.Demands.{Demand2, Demand3, Agreement, MatchDemands, ListDemands, SameInputs, CallsAgree}
+use Rattle.semantics.specs.Laws.Matches.{demand-2}
+use Rattle.semantics.specs.Laws.Listings.{demand-3}
+use Rattle.semantics.specs.Laws.Agreements.{agreement}
+use Rattle.semantics.specs.Laws.Calls.{verdict}
+use Rattle.semantics.specs.Laws.MatchCalls.{match-demand-1, match-answers}
+use Rattle.semantics.specs.Laws.ListCalls.{list-demand-1, list-answers}
+use Rattle.semantics.specs.Laws.AgreeingCalls.{accepted-same, agreeing}
+use Rattle.semantics.specs.Laws.SettledCalls.{match-settles, list-settles}
+
+-- Of any tree ------------------------------------------------------------------------
+
+pub demand-2-holds : (sub : List ℕ) (r : Rule) (budget : ℕ) → Demand2 sub r budget (answer sub r budget)
+demand-2-holds = demand-2
+
+pub demand-3-holds : (sub : List ℕ) (r : Rule) (budget limit : ℕ) → Demand3 sub r budget limit (listing sub r budget limit)
+demand-3-holds = demand-3
+
+pub agreement-holds : (sub : List ℕ) (r : Rule) (budget limit : ℕ) → 1 ≤ limit → Agreement (answer sub r budget) (listing sub r budget limit)
+agreement-holds = agreement
+
+-- Of any call ------------------------------------------------------------------------
+
+-- demands 1 and 2
+pub match-meets-demands : (c : Call) → MatchDemands c (matchCall c)
+match-meets-demands c = record { demand-1 = match-demand-1 c; answers = match-answers c }
+
+-- demands 1 and 3
+pub list-meets-demands : (c : Call) → ListDemands c (listCall c)
+list-meets-demands c = record { demand-1 = list-demand-1 c; answers = list-answers c }
+
+-- "A match on the same inputs, not refused either"
+pub calls-agree : (c d : Call) → SameInputs c d → ((place : ℕ) (why : Reason) → ¬ (matchCall c .outcome ≡ Refused place why)) → ((place : ℕ) (why : Reason) → ¬ (listCall d .outcome ≡ ListRefused place why))
+    → CallsAgree (matchCall c) (listCall d)
+calls-agree c d same f g = elim (verdict c) [
+  | inl a ↦ elim (verdict d) [
+    | inl b ↦ agreeing c d same (a .0) (a .1) (a .2) (accepted-same c d same (a .0) (a .1) (a .2) (b .2 .faultless))
+    | inr b ↦ absurd (g (b .0) (b .1) (list-demand-1 d .refused-exactly (b .0) (b .1) .1 (b .2)))
+  ]
+  | inr a ↦ absurd (f (a .0) (a .1) (match-demand-1 c .refused-exactly (a .0) (a .1) .1 (a .2)))
+]
+
+-- Nothing else meets them -------------------------------------------------------------
+
+pub match-settled : (c : Call) (x : Return MatchOutcome) → MatchDemands c x → x ≡ matchCall c
+match-settled c x h = match-settles c x (matchCall c) h (match-meets-demands c)
+
+pub list-settled : (c : Call) (x : Return ListOutcome) → ListDemands c x → x ≡ listCall c
+list-settled c x h = list-settles c x (listCall c) h (list-meets-demands c)

@@ -1,0 +1,81 @@
+-- The calls, case by case: refused for themselves, refused for their rule, or answered. Demand 1 follows for both kinds at once.
+use mathlib.Core.Path.{_≡_, refl, ap, sym, _∙_}
+use mathlib.Core.List.{[]}
+use mathlib.Core.Logic.{_⊎_, inl, inr, _↔_}
+use mathlib.Core.Option.{none, some}
+use Prim.Native.Nat.{ℕ}
+use Rattle.syntax.specs.declared.Reason.{Reason}
+use Rattle.syntax.specs.Limits.{ruleAreaNeed}
+use Rattle.syntax.specs.Read.{Read, sound, refused}
+use Rattle.syntax.specs.Tree.{Rule}
+use Rattle.syntax.specs.Reading.{reading}
+use Rattle.semantics.specs.Calls.{Call, workAreaNeed, unacceptable, Return, cleared, untouched, leaving, withReading, unlessRefused, call}
+use Rattle.semantics.specs.Demands.{Fault, Faultless, Refuses, itself, itsRule, Accepted, Demand1}
+use Rattle.semantics.specs.Laws.Refusals.{found, none-exactly, some-exactly, rule-area-enough, work-area-enough}
+use Rattle.semantics.specs.Laws.Areas.{over-nothing, zeroed}
+
+-- every input has a refusal or is accepted
+pub verdict : (c : Call) → ((r : Rule) × (groups : ℕ) × Accepted c r groups) ⊎ ((place : ℕ) × (why : Reason) × Refuses c place why)
+verdict c = elim (found c) [ inl x ↦ of-rule (x .1) (reading (c .rule) (c .flags)) refl | inr x ↦ inr (0, x .0, itself (x .2)) ]
+  where
+    of-rule : Faultless c → (x : Read (Rule × ℕ)) → reading (c .rule) (c .flags) ≡ x → ((r : Rule) × (groups : ℕ) × Accepted c r groups) ⊎ ((place : ℕ) × (why : Reason) × Refuses c place why)
+    of-rule f (sound r stop) e = inl (r .0, r .1, record { faultless = f; stop = stop; reads = e })
+    of-rule f (refused place why) e = inr (place, why, itsRule f e)
+
+-- the refusal that 01 names, by the tests of a call
+pub refuses-as-tested : (c : Call) (place : ℕ) (why : Reason) → Refuses c place why ↔ (((unacceptable c ≡ some why) × (place ≡ 0)) ⊎ ((unacceptable c ≡ none) × (reading (c .rule) (c .flags) ≡ refused place why)))
+refuses-as-tested c place why = (tested, λ x. elim x [ inl y ↦ rw (y .1) (itself (some-exactly c why .0 (y .0))) | inr y ↦ itsRule (none-exactly c .0 (y .0)) (y .1) ])
+  where
+    tested : {p : ℕ} {w : Reason} → Refuses c p w → ((unacceptable c ≡ some w) × (p ≡ 0)) ⊎ ((unacceptable c ≡ none) × (reading (c .rule) (c .flags) ≡ refused p w))
+    tested (itself {why = w} f) = inl (some-exactly c w .1 f, refl)
+    tested (itsRule f e) = inr (none-exactly c .1 f, e)
+
+module _ {A : Type 0} (refusal : ℕ → Reason → A) (answered : Call → Rule → Return A) where
+  call-refused : (c : Call) (why : Reason) → unacceptable c ≡ some why → call refusal answered c ≡ untouched (refusal 0 why) c
+  unfolding call unlessRefused
+  call-refused c why e = rw e
+
+  call-rule-refused : (c : Call) (place : ℕ) (why : Reason) → Faultless c → reading (c .rule) (c .flags) ≡ refused place why → call refusal answered c ≡ leaving (refusal place why) [] c
+  unfolding call unlessRefused withReading
+  call-rule-refused c place why f e = let n = none-exactly c .1 f in rw (n, e)
+
+  pub call-answered : (c : Call) (r : Rule) (groups : ℕ) → Accepted c r groups → call refusal answered c ≡ answered c r
+  unfolding call unlessRefused withReading
+  call-answered c r groups a = let n = none-exactly c .1 (a .faultless) in rw (n, a .reads)
+
+  call-refuses : (c : Call) (place : ℕ) (why : Reason) → Refuses c place why → (call refusal answered c .outcome ≡ refusal place why) × (call refusal answered c .resultArea ≡ c .resultArea)
+  unfolding untouched leaving
+  call-refuses c place why (itself f) = rw (call-refused c why (some-exactly c why .1 f)) (refl, refl)
+  call-refuses c place why (itsRule f e) = rw (call-rule-refused c place why f e) (refl, over-nothing (c .resultArea))
+
+  -- what both kinds of calls have: refusals that tell their place and reason, answers that are none, and areas cleared
+  module _ (tells : (p q : ℕ) (v w : Reason) → refusal p v ≡ refusal q w → (p ≡ q) × (v ≡ w))
+      (never : (c : Call) (r : Rule) (p : ℕ) (w : Reason) → ¬ (answered c r .outcome ≡ refusal p w))
+      (clears : (c : Call) (r : Rule) → (answered c r .ruleArea ≡ cleared ruleAreaNeed (c .ruleArea)) × (answered c r .workArea ≡ cleared (workAreaNeed (c .budget)) (c .workArea))) where
+    refused-as-named : (c : Call) (place : ℕ) (why : Reason) → call refusal answered c .outcome ≡ refusal place why → Refuses c place why
+    refused-as-named c place why e = elim (verdict c) [
+      | inl x ↦ absurd (never c (x .0) place why (ap (λ (y : Return A). y .outcome) (sym (call-answered c (x .0) (x .1) (x .2))) ∙ e))
+      | inr x ↦ (let q = tells (x .0) place (x .1) why (sym (call-refuses c (x .0) (x .1) (x .2) .0) ∙ e) in rw (q .0, q .1) at (x .2))
+    ]
+
+    areas-cleared : (c : Call) → Faultless c → (call refusal answered c .ruleArea ≡ cleared ruleAreaNeed (c .ruleArea)) × (call refusal answered c .workArea ≡ cleared (workAreaNeed (c .budget)) (c .workArea))
+    unfolding leaving
+    areas-cleared c f = go (reading (c .rule) (c .flags)) refl
+      where
+        go : (x : Read (Rule × ℕ)) → reading (c .rule) (c .flags) ≡ x → (call refusal answered c .ruleArea ≡ cleared ruleAreaNeed (c .ruleArea)) × (call refusal answered c .workArea ≡ cleared (workAreaNeed (c .budget)) (c .workArea))
+        go (sound r stop) e = rw (call-answered c (r .0) (r .1) (record { faultless = f; stop = stop; reads = e })) (clears c (r .0))
+        go (refused place why) e = rw (call-rule-refused c place why f e) (refl, refl)
+
+    areas-kept : (c : Call) (why : Reason) → Fault c why → (call refusal answered c .ruleArea ≡ c .ruleArea) × (call refusal answered c .workArea ≡ c .workArea)
+    unfolding untouched
+    areas-kept c why f = elim (found c) [ inl x ↦ absurd (x .1 why f) | inr x ↦ rw (call-refused c (x .0) (x .1)) (refl, refl) ]
+
+    pub demand-1 : (c : Call) → Demand1 refusal c (call refusal answered c)
+    demand-1 c = record {
+      answers-or-refuses = verdict c;
+      refused-exactly = λ place why. (refused-as-named c place why, λ x. call-refuses c place why x .0);
+      no-row-changed = λ place why e. call-refuses c place why (refused-as-named c place why e) .1;
+      areas-unchanged = areas-kept c;
+      rule-area-zeroed = λ f. rw (areas-cleared c f .0) (zeroed ruleAreaNeed (c .ruleArea) (rule-area-enough c f));
+      work-area-zeroed = λ f. rw (areas-cleared c f .1) (zeroed (workAreaNeed (c .budget)) (c .workArea) (work-area-enough c f));
+    }

@@ -1,0 +1,94 @@
+-- The demands settle a call: of two returns that meet them, outcome, rows and areas are the same.
+use mathlib.Core.Path.{_≡_, refl, ap, sym, _∙_}
+use mathlib.Core.List.{List}
+use mathlib.Core.Logic.{inl, inr}
+use Prim.Native.Nat.{ℕ}
+use lib.ListN.{replicate}
+use Rattle.syntax.specs.declared.Reason.{Reason}
+use Rattle.syntax.specs.Limits.{ruleAreaNeed}
+use Rattle.syntax.specs.Tree.{Rule}
+use Rattle.semantics.specs.States.{row}
+use Rattle.semantics.specs.Answers.{Outcome, matched, notMatched, exhausted, Answer, Ending, complete, full, exhaustedAt, Listing}
+use Rattle.semantics.specs.Calls.{Call, workAreaNeed, Return, MatchOutcome, Refused, ListOutcome, ListRefused, joined, room}
+use Rattle.semantics.specs.Demands.{Accepted, Written, Demand1, MatchAnswers, MatchDemands, ListAnswers, ListDemands}
+use Rattle.semantics.specs.Laws.Refusals.{found}
+use Rattle.semantics.specs.Laws.Areas.{written-over}
+use Rattle.semantics.specs.Laws.Settled.{demand-2-settles, demand-3-settles}
+
+written-once : (numbers before x y : List ℕ) → Written numbers before x → Written numbers before y → x ≡ y
+written-once numbers before x y v w = written-over numbers before x v ∙ sym (written-over numbers before y w)
+
+module _ {A : Type 0} where
+  -- what a caller sees of the result
+  abbrev Told : Return A → Return A → Type 0
+  Told x y = (x .outcome ≡ y .outcome) × (x .resultArea ≡ y .resultArea)
+
+  all-four : (x y : Return A) → x .ruleArea ≡ y .ruleArea → x .workArea ≡ y .workArea → Told x y → x ≡ y
+  all-four x y e f t = rw (e, f, t .0, t .1)
+
+  module _ (refusal : ℕ → Reason → A) (c : Call) (x y : Return A) (v : Demand1 refusal c x) (w : Demand1 refusal c y) where
+    areas-same : (x .ruleArea ≡ y .ruleArea) × (x .workArea ≡ y .workArea)
+    areas-same = elim (found c) [
+      | inl z ↦ (written-once (replicate ruleAreaNeed 0) (c .ruleArea) (x .ruleArea) (y .ruleArea) (v .rule-area-zeroed (z .1)) (w .rule-area-zeroed (z .1)), written-once (replicate (workAreaNeed (c .budget)) 0) (c .workArea) (x .workArea) (y .workArea) (v .work-area-zeroed (z .1)) (w .work-area-zeroed (z .1)))
+      | inr z ↦ (
+          let p = v .areas-unchanged (z .0) (z .2 .fault) in
+          let q = w .areas-unchanged (z .0) (z .2 .fault) in
+          (p .0 ∙ sym (q .0), p .1 ∙ sym (q .1)))
+    ]
+
+    -- it is enough that accepted calls are told alike
+    returns-same : ((r : Rule) (groups : ℕ) → Accepted c r groups → Told x y) → x ≡ y
+    returns-same f =
+        let s = areas-same in
+        let t : Told x y = elim (v .answers-or-refuses) [
+          | inl z ↦ f (z .0) (z .1) (z .2)
+          | inr z ↦ (
+              let p = v .refused-exactly (z .0) (z .1) .1 (z .2) in
+              let q = w .refused-exactly (z .0) (z .1) .1 (z .2) in
+              (p ∙ sym q, v .no-row-changed (z .0) (z .1) p ∙ sym (w .no-row-changed (z .0) (z .1) q)))
+        ] in
+        all-four x y (s .0) (s .1) t
+
+module _ (c : Call) (r : Rule) (groups : ℕ) where
+  match-told : (x y : Return MatchOutcome) → MatchAnswers c r groups x → MatchAnswers c r groups y → Told x y
+  match-told x y v w = go (v .answer .outcome) refl
+    where
+      same : v .answer ≡ w .answer
+      same = demand-2-settles (c .subject) r (c .budget) (v .answer) (w .answer) (v .demand-2) (w .demand-2)
+
+      outcome-too : (o : Outcome) → v .answer .outcome ≡ o → w .answer .outcome ≡ o
+      outcome-too o e = ap (λ (a : Answer). a .outcome) (sym same) ∙ e
+
+      go : (o : Outcome) → v .answer .outcome ≡ o → Told x y
+      go (matched n t) e =
+          let p = v .when-matched n t e in
+          let q = w .when-matched n t (outcome-too (matched n t) e) in
+          (cc (p .0, q .0, same), written-once (row n t) (c .resultArea) (x .resultArea) (y .resultArea) (p .1) (q .1))
+      go notMatched e =
+          let p = v .when-not-matched e in
+          let q = w .when-not-matched (outcome-too notMatched e) in
+          (cc (p .0, q .0, same), p .1 ∙ sym (q .1))
+      go (exhausted n) e =
+          let p = v .when-exhausted n e in
+          let q = w .when-exhausted n (outcome-too (exhausted n) e) in
+          (cc (p .0, q .0, same), p .1 ∙ sym (q .1))
+
+  list-told : (x y : Return ListOutcome) → ListAnswers c r groups x → ListAnswers c r groups y → Told x y
+  list-told x y v w = (go (v .listing .ending) refl, written-once (joined (v .listing .rows)) (c .resultArea) (x .resultArea) (y .resultArea) (v .rows-written) (rw same (w .rows-written)))
+    where
+      same : v .listing ≡ w .listing
+      same = demand-3-settles (c .subject) r (c .budget) (room (c .resultArea)) (v .listing) (w .listing) (v .demand-3) (w .demand-3)
+
+      ending-too : (o : Ending) → v .listing .ending ≡ o → w .listing .ending ≡ o
+      ending-too o e = ap (λ (l : Listing). l .ending) (sym same) ∙ e
+
+      go : (o : Ending) → v .listing .ending ≡ o → x .outcome ≡ y .outcome
+      go complete e = cc (v .when-complete e, w .when-complete (ending-too complete e), same)
+      go full e = cc (v .when-full e, w .when-full (ending-too full e), same)
+      go (exhaustedAt n) e = cc (v .when-exhausted n e, w .when-exhausted n (ending-too (exhaustedAt n) e), same)
+
+pub match-settles : (c : Call) (x y : Return MatchOutcome) → MatchDemands c x → MatchDemands c y → x ≡ y
+match-settles c x y v w = returns-same Refused c x y (v .demand-1) (w .demand-1) (λ r groups a. match-told c r groups x y (v .answers r groups a) (w .answers r groups a))
+
+pub list-settles : (c : Call) (x y : Return ListOutcome) → ListDemands c x → ListDemands c y → x ≡ y
+list-settles c x y v w = returns-same ListRefused c x y (v .demand-1) (w .demand-1) (λ r groups a. list-told c r groups x y (v .answers r groups a) (w .answers r groups a))
