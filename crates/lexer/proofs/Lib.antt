@@ -3,3 +3,9 @@ pub mod Bytes
 pub mod Capped
 pub mod Digits
 pub mod Repeats
+pub mod EscapeCases
+pub mod ReferenceCases
+pub mod NameCases
+pub mod MemberCases
+pub mod ClassCases
+pub mod ItemCases

@@ -1,12 +1,15 @@
 -- What the readers of single items promise: their answers are those of the definitions in `syntax`.
 use mathlib.Core.Path.{_≡_}
 use mathlib.Core.List.{List}
+use mathlib.Core.Bool.{Bool, false}
+use mathlib.Core.Option.{Option, none, some}
 use Prim.Native.Nat.{ℕ, _+_, _-_, _*_, _≤_, _<_}
 use lib.ListN.{length}
 use lib.Dec.{ltb}
+use Rattle.charset.specs.declared.Named.{Named}
 use Rattle.charset.specs.Class.{has}
 use Rattle.syntax.specs.Read.{if_then_else_, byte, Read, sound, refused}
-use Rattle.syntax.specs.Sets.{Member, single, range, named, notNamed, Class, inClass}
+use Rattle.syntax.specs.Sets.{Member, single, range, named, notNamed, Class, isMember, isAny, inClass}
 use Rattle.syntax.specs.Tree.{Item, byteIn, assert, reference}
 use Rattle.syntax.specs.Numbers.{digits, value}
 use Rattle.lexer.specs.declared.Number.{Number}
@@ -14,9 +17,13 @@ use Rattle.lexer.specs.declared.MemberRead.{MemberRead}
 use Rattle.lexer.specs.declared.MemberRead.the-variants.{Single, Range, Set, NotSet, Bad}
 use Rattle.lexer.specs.declared.GroupRead.{GroupRead}
 use Rattle.lexer.specs.declared.GroupRead.the-variants.{Group, BadGroup}
+use Rattle.lexer.specs.declared.SetRead.{SetRead}
+use Rattle.lexer.specs.declared.SetRead.the-variants.{Known, Unknown}
 use Rattle.lexer.specs.declared.ClassRead.{ClassRead}
+use Rattle.lexer.specs.declared.ClassEnd.{ClassEnd}
 use Rattle.lexer.specs.declared.ClassEnd.the-variants.{Closed, BadClass}
 use Rattle.lexer.specs.declared.Lexed.{Lexed}
+use Rattle.lexer.specs.declared.Token.{Token}
 use Rattle.lexer.specs.declared.Token.the-variants.{Byte, Assert, Reference, BadItem}
 
 -- r is the byte at a position, or 256 past the end; `near` says linearly that a byte below 256 stands within the rule
@@ -43,19 +50,62 @@ memberOf (Set set next) = sound (named set) next
 memberOf (NotSet set next) = sound (notNamed set) next
 memberOf (Bad f) = refused (f .place) (f .reason)
 
+-- the position behind a member that was read, and 0 for a refusal
+abbrev pub nextOf : MemberRead → ℕ
+nextOf (Single b next) = next
+nextOf (Range low high next) = next
+nextOf (Set set next) = next
+nextOf (NotSet set next) = next
+nextOf (Bad f) = 0
+
 -- what a reader of a reference's number says
 abbrev pub groupOf : GroupRead → Read ℕ
 groupOf (Group n next) = sound n next
 groupOf (BadGroup f) = refused (f .place) (f .reason)
 
+-- what a reader of a set's name says
+abbrev pub setOf : SetRead → Option Named
+setOf (Known set) = some set
+setOf Unknown = none
+
+-- whether the member that was read has a byte
+abbrev pub isRead : ℕ → MemberRead → Bool
+isRead x (Single b next) = isMember x (single b)
+isRead x (Range low high next) = isMember x (range low high)
+isRead x (Set set next) = isMember x (named set)
+isRead x (NotSet set next) = isMember x (notNamed set)
+isRead x (Bad f) = false
+
+-- the words hold the members of a class
+abbrev pub HoldsMembers : List ℕ → List Member → Type 0
+HoldsMembers words ms = (x : ℕ) → x < 256 → has words x ≡ isAny x ms
+
+-- the reading a of a class's members is what words and their end say
+abbrev pub MembersIn : Read (List Member) → List ℕ → ClassEnd → Type 0
+MembersIn a words (Closed next) = (ms : List Member) × (a ≡ sound ms next) × HoldsMembers words ms
+MembersIn a words (BadClass f) = a ≡ refused (f .place) (f .reason)
+
+abbrev pub SaysMembers : Read (List Member) → ClassRead → Type 0
+SaysMembers a r = MembersIn a (r .words) (r .end)
+
 -- the words hold the class c
 abbrev pub HoldsClass : List ℕ → Class → Type 0
 HoldsClass words c = (x : ℕ) → x < 256 → has words x ≡ inClass c x
 
--- the reading a of a class is what r says, and a sound one's class stands in its words
-abbrev pub SaysClass : Read Class → ClassRead → Type 0
-SaysClass a r = elim (r .end) [ Closed next ↦ (c : Class) × (a ≡ sound c next) × HoldsClass (r .words) c | BadClass f ↦ a ≡ refused (f .place) (f .reason) ]
+-- the reading a of a class is what words and their end say
+abbrev pub ClassIn : Read Class → List ℕ → ClassEnd → Type 0
+ClassIn a words (Closed next) = (c : Class) × (a ≡ sound c next) × HoldsClass words c
+ClassIn a words (BadClass f) = a ≡ refused (f .place) (f .reason)
 
--- the reading a of an item is what r says, and a byte item's class stands in its words
+abbrev pub SaysClass : Read Class → ClassRead → Type 0
+SaysClass a r = ClassIn a (r .words) (r .end)
+
+-- the reading a of an item is what words and a token say: a byte item's class stands in the words
+abbrev pub ItemIn : Read Item → List ℕ → Token → Type 0
+ItemIn a words (Byte next) = (c : Class) × (a ≡ sound (byteIn c) next) × HoldsClass words c
+ItemIn a words (Assert k next) = a ≡ sound (assert k) next
+ItemIn a words (Reference n next) = a ≡ sound (reference n) next
+ItemIn a words (BadItem f) = a ≡ refused (f .place) (f .reason)
+
 abbrev pub SaysItem : Read Item → Lexed → Type 0
-SaysItem a r = elim (r .token) [ Byte next ↦ (c : Class) × (a ≡ sound (byteIn c) next) × HoldsClass (r .words) c | Assert k next ↦ a ≡ sound (assert k) next | Reference n next ↦ a ≡ sound (reference n) next | BadItem f ↦ a ≡ refused (f .place) (f .reason) ]
+SaysItem a r = ItemIn a (r .words) (r .token)

@@ -3,9 +3,17 @@ use charset::Named;
 use syntax::Assertion;
 use syntax::Refusal;
 
+mod ascii;
+mod classes;
+mod escapes;
+mod items;
+mod members;
+mod names;
 mod numbers;
 mod quantifiers;
+mod references;
 
+pub use items::item_at;
 pub use numbers::digit_value;
 pub use numbers::number_at;
 pub use numbers::peek;
@@ -30,6 +38,12 @@ pub enum MemberRead {
 pub enum GroupRead {
     Group(u32, usize),
     BadGroup(Refusal),
+}
+
+// The set that a name stands for.
+pub enum SetRead {
+    Known(Named),
+    Unknown,
 }
 
 // Where a class ends.

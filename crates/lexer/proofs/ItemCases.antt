@@ -1,0 +1,176 @@
+-- Single items: the classes of byte items, and which case of an escape or an item holds. Assumes nothing.
+use mathlib.Core.Path.{_≡_, refl, ap, _∙_}
+use mathlib.Core.List.{List}
+use mathlib.Core.Bool.{true, false, not, _||_}
+use mathlib.Core.Logic.{_⊎_}
+use Prim.Native.Nat.{ℕ, _+_, _/_, _%_, _≤_, _<_}
+use native.Mathlib.Omega.{arith}
+use lib.Dec.{eqb}
+use borrow.Author.Tests.{eq-eqb, ne-eqb}
+use Rattle.charset.specs.Class.{has}
+use Rattle.syntax.specs.declared.Assertion.the-variants.{TextStart, LineStart, TextEnd, LastLineEnd, LineEnd, WordBoundary, NoWordBoundary}
+use Rattle.syntax.specs.declared.Refusal.{Refusal}
+use Rattle.syntax.specs.Limits.{dotAllBit, multilineBit}
+use Rattle.syntax.specs.Read.{if_then_else_, byte, is, Read, sound, refused, andThen}
+use Rattle.syntax.specs.Sets.{Member, single, Class, isMember, isAny, inClass, only, notNewline, anyByte}
+use Rattle.syntax.specs.Tree.{Item, byteIn, assert, reference}
+use Rattle.syntax.specs.Escapes.{octal, common, forward, decimal, groupNumber, escape}
+use Rattle.syntax.specs.Classes.{class}
+use Rattle.syntax.specs.Grammar.{dotAll, multiline, atom}
+use Rattle.lexer.specs.declared.MemberRead.{MemberRead}
+use Rattle.lexer.specs.declared.MemberRead.the-variants.{Bad}
+use Rattle.lexer.specs.declared.GroupRead.{GroupRead}
+use Rattle.lexer.specs.declared.GroupRead.the-variants.{BadGroup}
+use Rattle.lexer.specs.declared.ClassEnd.{ClassEnd}
+use Rattle.lexer.specs.declared.ClassEnd.the-variants.{Closed, BadClass}
+use Rattle.lexer.specs.declared.Lexed.{Lexed}
+use Rattle.lexer.specs.declared.Token.the-variants.{Byte}
+use Rattle.lexer.specs.Says.{memberOf, nextOf, isRead, groupOf, HoldsClass, ClassIn, ItemIn, SaysItem}
+use Rattle.lexer.proofs.Digits.{inside, outside}
+use Rattle.lexer.proofs.MemberCases.{NotBad, sounds}
+
+-- equal readings say the same
+pub same-item : {a b : Read Item} (r : Lexed) → a ≡ b → SaysItem a r → SaysItem b r
+same-item r e h = rw e at h
+
+-- Byte items -----------------------------------------------------------------------------
+
+-- `none` holds no byte
+module _ (none words : List ℕ) (e : (x : ℕ) → x < 256 → has none x ≡ false) where
+  pub holds-any : ((x : ℕ) → x < 256 → has words x ≡ not (has none x)) → HoldsClass words anyByte
+  unfolding anyByte inClass isAny
+  holds-any h x l = h x l ∙ ap not (e x l)
+
+  pub holds-rest : (one : List ℕ) → ((x : ℕ) → x < 256 → has one x ≡ (eqb x 10 || has none x)) → ((x : ℕ) → x < 256 → has words x ≡ not (has one x)) → HoldsClass words notNewline
+  unfolding notNewline inClass isAny isMember
+  holds-rest one o h x l = h x l ∙ ap not (o x l) ∙ rw (e x l)
+
+-- what a member makes of an item
+abbrev pub alone : Read Member → Read Item
+alone a = andThen a (λ x next. sound (byteIn (only x)) next)
+
+pub alone-bad : (m : MemberRead) (f : Refusal) → m ≡ Bad f → refused (f .place) (f .reason) ≡ alone (memberOf m)
+alone-bad m f e = rw e
+
+pub alone-sound : (m : MemberRead) → NotBad m → (none words : List ℕ) → ((x : ℕ) → x < 256 → has none x ≡ false) → ((x : ℕ) → x < 256 → has words x ≡ (isRead x m || has none x)) → (n : ℕ) → n ≡ nextOf m → ItemIn (alone (memberOf m)) words (Byte n)
+unfolding only inClass isAny
+alone-sound m l none words e a n q = let s = sounds m l in (only (s .member), rw (s .is, q, s .behind), λ x h. a x h ∙ rw (s .has x, e x h))
+
+-- what a class makes of an item
+abbrev pub classed : Read Class → Read Item
+classed a = andThen a (λ x next. sound (byteIn x) next)
+
+pub class-closed : (a : Read Class) (words : List ℕ) (e : ClassEnd) (next : ℕ) → e ≡ Closed next → ClassIn a words e → ItemIn (classed a) words (Byte next)
+class-closed a words e next k h = from-closed (rw k at h)
+  where
+    from-closed : ClassIn a words (Closed next) → ItemIn (classed a) words (Byte next)
+    from-closed g = (g .0, rw (g .1), g .2)
+
+pub class-bad : (a : Read Class) (words : List ℕ) (e : ClassEnd) (f : Refusal) → e ≡ BadClass f → ClassIn a words e → refused (f .place) (f .reason) ≡ classed a
+class-bad a words e f k h = let g : ClassIn a words (BadClass f) = rw k at h in rw g
+
+-- what a group's number makes of an item
+abbrev pub referring : Read ℕ → Read Item
+referring a = andThen a (λ n next. sound (reference n) next)
+
+pub referring-bad : (g : GroupRead) (f : Refusal) → g ≡ BadGroup f → refused (f .place) (f .reason) ≡ referring (groupOf g)
+referring-bad g f e = rw e
+
+-- Flags ------------------------------------------------------------------------------------
+
+pub dotAll-set : (flags : ℕ) → flags % 2 ≡ 1 → dotAll flags ≡ true
+unfolding dotAll dotAllBit
+dotAll-set flags h = eq-eqb (flags / 1 % 2) 1 (omega arith)
+
+pub dotAll-unset : (flags : ℕ) → (flags % 2 ≡ 1 → ⊥) → dotAll flags ≡ false
+unfolding dotAll dotAllBit
+dotAll-unset flags h = ne-eqb (flags / 1 % 2) 1 (λ e. h (omega arith))
+
+pub multiline-set : (flags : ℕ) → flags / 2 % 2 ≡ 1 → multiline flags ≡ true
+unfolding multiline multilineBit
+multiline-set flags h = eq-eqb (flags / 2 % 2) 1 h
+
+pub multiline-unset : (flags : ℕ) → (flags / 2 % 2 ≡ 1 → ⊥) → multiline flags ≡ false
+unfolding multiline multilineBit
+multiline-unset flags h = ne-eqb (flags / 2 % 2) 1 h
+
+-- Escapes ------------------------------------------------------------------------------------
+
+module _ (s : List ℕ) (opened at b : ℕ) (p : b ≡ byte s (at + 1)) where
+  pub escape-newline : b ≡ 78 → escape s opened at ≡ sound (byteIn notNewline) (at + 2)
+  unfolding escape
+  escape-newline e = rw (← p, e)
+
+  pub escape-text-start : b ≡ 65 → sound (assert TextStart) (at + 2) ≡ escape s opened at
+  unfolding escape
+  escape-text-start e = rw (← p, e)
+
+  pub escape-text-end : b ≡ 122 → sound (assert TextEnd) (at + 2) ≡ escape s opened at
+  unfolding escape
+  escape-text-end e = rw (← p, e)
+
+  pub escape-last-line-end : b ≡ 90 → sound (assert LastLineEnd) (at + 2) ≡ escape s opened at
+  unfolding escape
+  escape-last-line-end e = rw (← p, e)
+
+  pub escape-boundary : b ≡ 98 → sound (assert WordBoundary) (at + 2) ≡ escape s opened at
+  unfolding escape
+  escape-boundary e = rw (← p, e)
+
+  pub escape-no-boundary : b ≡ 66 → sound (assert NoWordBoundary) (at + 2) ≡ escape s opened at
+  unfolding escape
+  escape-no-boundary e = rw (← p, e)
+
+  pub escape-octal : b ≡ 48 → (m : Read Member) → m ≡ octal s at → alone m ≡ escape s opened at
+  unfolding escape
+  escape-octal e m k = rw (k, ← p, e)
+
+  pub escape-group : b ≡ 103 → (g : Read ℕ) → g ≡ groupNumber s opened at → referring g ≡ escape s opened at
+  unfolding escape
+  escape-group e g k = rw (k, ← p, e)
+
+  twice : (a : Read ℕ) → referring (andThen a (λ n next. sound (forward n) next)) ≡ andThen a (λ n next. sound (reference (forward n)) next)
+  twice (sound n next) = refl
+  twice (refused place why) = refl
+
+  pub escape-number : 48 ≤ b → (b ≡ 48 → ⊥) → b < 58 → (g : Read ℕ) → g ≡ andThen (decimal s at (at + 1)) (λ n next. sound (forward n) next) → referring g ≡ escape s opened at
+  unfolding escape
+  escape-number h n l g k =
+      rw (k, twice (decimal s at (at + 1)), ← p)
+      (simp (ne-eqb b 78 (λ e. omega arith), ne-eqb b 65 (λ e. omega arith), ne-eqb b 122 (λ e. omega arith), ne-eqb b 90 (λ e. omega arith), ne-eqb b 98 (λ e. omega arith), ne-eqb b 66 (λ e. omega arith), ne-eqb b 48 n, inside 49 57 b (omega arith) (omega arith)))
+
+  pub escape-end : b ≡ 256 → (m : Read Member) → m ≡ common s at → alone m ≡ escape s opened at
+  unfolding escape
+  escape-end e m k = rw (k, ← p, e)
+
+  pub escape-common : (b ≡ 78 → ⊥) → (b ≡ 65 → ⊥) → (b ≡ 122 → ⊥) → (b ≡ 90 → ⊥) → (b ≡ 98 → ⊥) → (b ≡ 66 → ⊥) → (b ≡ 48 → ⊥) → (b ≡ 103 → ⊥) → (b < 49) ⊎ (57 < b) → (m : Read Member) → m ≡ common s at → alone m ≡ escape s opened at
+  unfolding escape
+  escape-common n1 n2 n3 n4 n5 n6 n7 n8 o m k =
+      rw (k, ← p) (simp (ne-eqb b 78 n1, ne-eqb b 65 n2, ne-eqb b 122 n3, ne-eqb b 90 n4, ne-eqb b 98 n5, ne-eqb b 66 n6, ne-eqb b 48 n7, outside 49 57 b o, ne-eqb b 103 n8))
+
+-- Items ----------------------------------------------------------------------------------------
+
+module _ (s : List ℕ) (flags opened at b : ℕ) (p : b ≡ byte s at) where
+  pub atom-escape : b ≡ 92 → escape s opened at ≡ atom s flags opened at
+  unfolding atom
+  atom-escape e = rw (← p, e)
+
+  pub atom-class : b ≡ 91 → classed (class s at) ≡ atom s flags opened at
+  unfolding atom
+  atom-class e = rw (← p, e)
+
+  pub atom-dot : b ≡ 46 → sound (byteIn (if dotAll flags then anyByte else notNewline)) (at + 1) ≡ atom s flags opened at
+  unfolding atom
+  atom-dot e = rw (← p, e)
+
+  pub atom-caret : b ≡ 94 → sound (assert (if multiline flags then LineStart else TextStart)) (at + 1) ≡ atom s flags opened at
+  unfolding atom
+  atom-caret e = rw (← p, e)
+
+  pub atom-dollar : b ≡ 36 → sound (assert (if multiline flags then LineEnd else LastLineEnd)) (at + 1) ≡ atom s flags opened at
+  unfolding atom
+  atom-dollar e = rw (← p, e)
+
+  pub atom-byte : (b ≡ 92 → ⊥) → (b ≡ 91 → ⊥) → (b ≡ 46 → ⊥) → (b ≡ 94 → ⊥) → (b ≡ 36 → ⊥) → sound (byteIn (only (single b))) (at + 1) ≡ atom s flags opened at
+  unfolding atom
+  atom-byte n1 n2 n3 n4 n5 = rw (← p) (simp (ne-eqb b 92 n1, ne-eqb b 91 n2, ne-eqb b 46 n3, ne-eqb b 94 n4, ne-eqb b 36 n5))

@@ -1,0 +1,195 @@
+// Items that are no group. `at` is the position of an item's first byte.
+use crate::ClassEnd;
+use crate::ClassRead;
+use crate::GroupRead;
+use crate::Lexed;
+use crate::MemberRead;
+use crate::Token;
+use crate::ascii::END;
+use crate::classes::class_at;
+use crate::classes::with_member;
+use crate::escapes::common_at;
+use crate::escapes::octal_at;
+use crate::members::next_of;
+use crate::numbers::peek;
+use crate::references::forward_at;
+use crate::references::group_number_at;
+use charset::add;
+use charset::complement;
+use charset::empty;
+use syntax::Assertion;
+use syntax::Refusal;
+ghost use mathlib.Core.Path.{_≡_};
+ghost use Prim.Native.Nat.{_≤_, _<_};
+ghost use lib.ListN.{length};
+ghost use Rattle.syntax.specs.declared.Assertion.the-variants.{TextStart, LineStart, LastLineEnd, LineEnd};
+ghost use Rattle.syntax.specs.Limits.{groupLimit};
+ghost use Rattle.syntax.specs.Read.{if_then_else_, Read, sound, refused, andThen};
+ghost use Rattle.syntax.specs.Sets.{Class, only, notNewline, anyByte};
+ghost use Rattle.syntax.specs.Tree.{byteIn, assert, reference};
+ghost use Rattle.syntax.specs.Escapes.{escape};
+ghost use Rattle.syntax.specs.Grammar.{dotAll, multiline, atom};
+ghost use Rattle.lexer.specs.Says.{memberOf, groupOf, HoldsClass, SaysClass, SaysItem};
+
+// Items with no class of their own -----------------------------------------------
+
+fn bad_item(refusal: Refusal) -> Lexed
+    ensures { λ r. ⌜ SaysItem (refused (refusal .place) (refusal .reason)) r ⌝ }
+{
+    Lexed {
+        words: [0; 8],
+        token: Token::BadItem(refusal),
+    }
+}
+
+fn assertion(which: Assertion, next: usize) -> Lexed
+    ensures { λ r. ⌜ SaysItem (sound (assert which) next) r ⌝ }
+{
+    Lexed {
+        words: [0; 8],
+        token: Token::Assert(which, next),
+    }
+}
+
+fn group_item(group: GroupRead) -> Lexed
+    ensures { λ r. ⌜ SaysItem (andThen (groupOf group) (λ n next. sound (reference n) next)) r ⌝ }
+{
+    match group {
+        GroupRead::Group(n, next) => Lexed {
+            words: [0; 8],
+            token: Token::Reference(n, next),
+        },
+        GroupRead::BadGroup(refusal) => bad_item(refusal),
+    }
+}
+
+// Byte items ------------------------------------------------------------------------
+
+// All bytes.
+fn any_byte() -> [u32; 8]
+    ensures { λ r. ⌜ HoldsClass r anyByte ⌝ }
+{
+    complement(empty())
+}
+
+// All bytes but the newline.
+fn not_newline() -> [u32; 8]
+    ensures { λ r. ⌜ HoldsClass r notNewline ⌝ }
+{
+    complement(add(empty(), b'\n'))
+}
+
+// A byte or a set outside a class.
+fn member_item(m: MemberRead) -> Lexed
+    ensures { λ r. ⌜ SaysItem (andThen (memberOf m) (λ x next. sound (byteIn (only x)) next)) r ⌝ }
+{
+    if let MemberRead::Bad(refusal) = m {
+        return bad_item(refusal);
+    }
+    let words = with_member(empty(), m);
+    let next = next_of(m);
+    Lexed {
+        words,
+        token: Token::Byte(next),
+    }
+}
+
+// A class as an item.
+fn class_item(class: ClassRead) -> Lexed
+    ensures { λ r. ⌜ ((a : Read Class) → SaysClass a class → SaysItem (andThen a (λ x next. sound (byteIn x) next)) r) ⌝ }
+{
+    let words = class.words;
+    let end = class.end;
+    match end {
+        ClassEnd::Closed(next) => Lexed {
+            words,
+            token: Token::Byte(next),
+        },
+        ClassEnd::BadClass(refusal) => bad_item(refusal),
+    }
+}
+
+// By the flags ------------------------------------------------------------------------
+
+// `.`
+fn dot(flags: u32, next: usize) -> Lexed
+    ensures { λ r. ⌜ SaysItem (sound (byteIn (if dotAll flags then anyByte else notNewline)) next) r ⌝ }
+{
+    if flags % 2 == 1 {
+        return Lexed {
+            words: any_byte(),
+            token: Token::Byte(next),
+        };
+    }
+    Lexed {
+        words: not_newline(),
+        token: Token::Byte(next),
+    }
+}
+
+// `^`
+fn caret(flags: u32, next: usize) -> Lexed
+    ensures { λ r. ⌜ SaysItem (sound (assert (if multiline flags then LineStart else TextStart)) next) r ⌝ }
+{
+    if flags / 2 % 2 == 1 {
+        return assertion(Assertion::LineStart, next);
+    }
+    assertion(Assertion::TextStart, next)
+}
+
+// `$`
+fn dollar(flags: u32, next: usize) -> Lexed
+    ensures { λ r. ⌜ SaysItem (sound (assert (if multiline flags then LineEnd else LastLineEnd)) next) r ⌝ }
+{
+    if flags / 2 % 2 == 1 {
+        return assertion(Assertion::LineEnd, next);
+    }
+    assertion(Assertion::LastLineEnd, next)
+}
+
+// By the first byte ---------------------------------------------------------------------
+
+// An escape outside a class, where so many groups have been opened.
+fn escape_at(rule: &[u8], opened: u32, at: usize) -> Lexed
+    requires { ⌜ (opened ≤ groupLimit) × (at < length (now rule)) ⌝ }
+    ensures { λ r. ⌜ SaysItem (escape (now (rule .entry)) opened at) r ⌝ }
+{
+    let next = at + 2;
+    let b = peek(rule, at + 1);
+    if b == END {
+        return member_item(common_at(rule, at));
+    }
+    let byte = b as u8;
+    match byte {
+        b'N' => Lexed {
+            words: not_newline(),
+            token: Token::Byte(next),
+        },
+        b'A' => assertion(Assertion::TextStart, next),
+        b'z' => assertion(Assertion::TextEnd, next),
+        b'Z' => assertion(Assertion::LastLineEnd, next),
+        b'b' => assertion(Assertion::WordBoundary, next),
+        b'B' => assertion(Assertion::NoWordBoundary, next),
+        b'0' => member_item(octal_at(rule, at)),
+        b'1'..=b'9' => group_item(forward_at(rule, at, at + 1)),
+        b'g' => group_item(group_number_at(rule, opened, at)),
+        _ => member_item(common_at(rule, at)),
+    }
+}
+
+// The item at a position, where so many groups have been opened.
+pub fn item_at(rule: &[u8], flags: u32, opened: u32, at: usize) -> Lexed
+    requires { ⌜ (opened ≤ groupLimit) × (at < length (now rule)) ⌝ }
+    ensures { λ r. ⌜ SaysItem (atom (now (rule .entry)) flags opened at) r ⌝ }
+{
+    let next = at + 1;
+    let b = rule[at];
+    match b {
+        b'\\' => escape_at(rule, opened, at),
+        b'[' => class_item(class_at(rule, at)),
+        b'.' => dot(flags, next),
+        b'^' => caret(flags, next),
+        b'$' => dollar(flags, next),
+        _ => member_item(MemberRead::Single(b, next)),
+    }
+}
