@@ -1,5 +1,5 @@
-mod Regions
-mod Compiled
+pub mod Regions
+pub mod Compiled
 mod Made
 mod Stores
 mod Trees

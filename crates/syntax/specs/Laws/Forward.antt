@@ -255,7 +255,7 @@ quantifier-on s at =
 unfoldable pub Forward : Inner → Type 0
 Forward inner = (opening at opened : ℕ) → Given (inner opening at opened) (Past at)
 
-atom-on : (s : List ℕ) (flags opened at : ℕ) → Given (atom s flags opened at) (Past (at + 1))
+pub atom-on : (s : List ℕ) (flags opened at : ℕ) → Given (atom s flags opened at) (Past (at + 1))
 unfolding atom
 atom-on s flags opened at =
     let b = byte s at in

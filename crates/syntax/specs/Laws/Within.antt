@@ -271,7 +271,7 @@ quantifier-in s at =
 unfoldable pub Inward : List ℕ → Inner → Type 0
 Inward s inner = (opening at opened : ℕ) → at ≤ length s → Given (inner opening at opened) (Upto s)
 
-atom-in : (s : List ℕ) (flags opened at : ℕ) → at < length s → Given (atom s flags opened at) (Upto s)
+pub atom-in : (s : List ℕ) (flags opened at : ℕ) → at < length s → Given (atom s flags opened at) (Upto s)
 unfolding atom
 atom-in s flags opened at h =
     let b = byte s at in
@@ -320,7 +320,7 @@ part-by s flags inner q opened at Stray h l k = tt
 part-by s flags inner q opened at Unfit h l k = unfitFor-in s q at
 part-by s flags inner q opened at (Times n m g next) h l k = repeating-in s q at n m g opened next k
 
-ends-false : (s : List ℕ) (at : ℕ) → ends (byte s at) ≡ false → at < length s
+pub ends-false : (s : List ℕ) (at : ℕ) → ends (byte s at) ≡ false → at < length s
 unfolding ends isEnd
 ends-false s at e = by-length s at (decLt at (length s)) (λ h. true-false (sym (rw h) ∙ e))
   where
