@@ -254,6 +254,10 @@ unfolding parsed
 parsed-fits s flags = then-given (Good 0 nestingLimit (suc nestingLimit)) (Good 0 nestingLimit (suc nestingLimit)) (alternation s flags (inside nestingLimit s flags) 0 0) _
     (alternation-fits s flags (inside nestingLimit s flags) 0 0 nestingLimit (inside-fits nestingLimit s flags) (omega arith)) (λ r p g. if-given _ _ _ (isEnd (byte s p)) g tt)
 
+-- the same of a rule whose references are not resolved yet
+pub parsed-formed : (s : List ℕ) (flags : ℕ) → Given (parsed s flags) (λ r at. (r .1 ≤ groupLimit) × Proper (r .1) (r .0) × (groupDepth (r .0) ≤ nestingLimit) × (repeatDepth (r .0) ≤ suc nestingLimit))
+parsed-formed s flags = given-less (Good 0 nestingLimit (suc nestingLimit)) _ (parsed s flags) (parsed-fits s flags) (λ r p g. (g .0 .1, g .1 .proper, g .1 .groups, g .1 .repeats))
+
 resolved-fits : (r : Rule × ℕ) (at : ℕ) (o : Option ℕ) → unresolved (r .1) (r .0) ≡ o → Good 0 nestingLimit (suc nestingLimit) r at → Given (resolved r at o) (λ x p. WellFormed (x .1) (x .0))
 unfolding resolved
 resolved-fits r at none e g = record { few = g .0 .1; proper = g .1 .proper; resolved = resolves (r .1) (r .0) e; groupsNest = g .1 .groups; repeatsNest = g .1 .repeats }

@@ -1,0 +1,105 @@
+-- The stack in the work area: a frame pushed, and the frame on top taken off. Assumes nothing.
+use mathlib.Core.Path.{_≡_, refl, _∙_}
+use mathlib.Core.List.{List, _∷_}
+use Prim.Native.Nat.{ℕ, zero, suc, _+_, _*_, _-_, _≤_, _<_}
+use native.Mathlib.Omega.{arith}
+use native.Mathlib.Numerals.{add-one}
+use lib.ListN.{length, getD, set, length-set}
+use lib.Seq.{getD-set-same, getD-set-other}
+use Rattle.syntax.specs.Limits.{registers}
+use Rattle.machine.specs.Code.{Program, repeatAt, RepeatFits}
+use Rattle.machine.specs.Moves.{undo, Stack, idle, set2, saved, go, goSet, begin, fall}
+use Rattle.machine.specs.Words.{frameOf, frameAt, stackOf}
+use Rattle.machine.specs.Ready.{StackFits}
+
+-- Pushing ------------------------------------------------------------------
+
+abbrev pushed : List ℕ → ℕ → ℕ → ℕ → ℕ → ℕ → List ℕ
+pushed w h kind a b c = set (set (set (set w (4 * h) kind) (4 * h + 1) a) (4 * h + 2) b) (4 * h + 3) c
+
+-- frames below do not see what is written above them
+stackOf-set : (w : List ℕ) (n i v : ℕ) → 4 * n ≤ i → stackOf (set w i v) n ≡ stackOf w n
+unfolding stackOf frameAt
+stackOf-set w zero i v h = refl
+stackOf-set w (suc n) i v h =
+    rw (getD-set-other w i (4 * n) v 0 (omega arith), getD-set-other w i (4 * n + 1) v 0 (omega arith), getD-set-other w i (4 * n + 2) v 0 (omega arith), getD-set-other w i (4 * n + 3) v 0 (omega arith), stackOf-set w n i v (omega arith))
+
+low-set : (l : List ℕ) (i j v : ℕ) → i < j → getD (set l j v) i 0 ≡ getD l i 0
+low-set l i j v h = getD-set-other l j i v 0 (omega arith)
+
+pub push-cons : (w : List ℕ) (h kind a b c : ℕ) → 4 * h + 4 ≤ length w → stackOf (pushed w h kind a b c) (h + 1) ≡ frameOf kind a b c ∷ stackOf w h
+unfolding stackOf frameAt
+push-cons w n kind a b c h =
+    let w₀ : List ℕ = set w (4 * n) kind in
+    let w₁ : List ℕ = set w₀ (4 * n + 1) a in
+    let w₂ : List ℕ = set w₁ (4 * n + 2) b in
+    let w₃ : List ℕ = set w₂ (4 * n + 3) c in
+    let e₀ : getD w₃ (4 * n) 0 ≡ kind = low-set w₂ _ _ c (omega arith) ∙ low-set w₁ _ _ b (omega arith) ∙ low-set w₀ _ _ a (omega arith) ∙ getD-set-same w _ kind 0 (omega arith) in
+    let e₁ : getD w₃ (4 * n + 1) 0 ≡ a = low-set w₂ _ _ c (omega arith) ∙ low-set w₁ _ _ b (omega arith) ∙ getD-set-same w₀ _ a 0 (simp length-set (omega arith)) in
+    let e₂ : getD w₃ (4 * n + 2) 0 ≡ b = low-set w₂ _ _ c (omega arith) ∙ getD-set-same w₁ _ b 0 (simp length-set (omega arith)) in
+    let e₃ : getD w₃ (4 * n + 3) 0 ≡ c = getD-set-same w₂ _ c 0 (simp length-set (omega arith)) in
+    let e₄ : stackOf w₃ n ≡ stackOf w n = stackOf-set w₂ n _ c (omega arith) ∙ stackOf-set w₁ n _ b (omega arith) ∙ stackOf-set w₀ n _ a (omega arith) ∙ stackOf-set w n _ kind (omega arith) in
+    rw (add-one n, e₀, e₁, e₂, e₃, e₄)
+
+pub go-pushed : (pc at h h′ : ℕ) (regs work : List ℕ) {st : Stack} → h′ ≡ h + 1 → stackOf work (h + 1) ≡ st → go pc at regs (stackOf work h′) ≡ go pc at regs st
+go-pushed pc at h h′ regs work e f = rw (e, f)
+
+pub go-saved : (pc at h h′ i x y : ℕ) (regs regs′ work work′ : List ℕ) → h′ ≡ h + 1 → regs′ ≡ set2 regs i x y → stackOf work′ (h + 1) ≡ saved regs i ∷ stackOf work h → go pc at regs′ (stackOf work′ h′) ≡ goSet i x y pc at regs (stackOf work h)
+go-saved pc at h h′ i x y regs regs′ work work′ e f g = rw (e, f, g)
+
+pub begin-saved : (p : Program) (q n at h h′ : ℕ) (regs regs′ work work′ : List ℕ) → h′ ≡ h + 1 → regs′ ≡ set2 regs (getD p (q + 3) 0) n at → stackOf work′ (h + 1) ≡ saved regs (getD p (q + 3) 0) ∷ stackOf work h
+    → go (getD p (q + 4) 0) at regs′ (stackOf work′ h′) ≡ begin (repeatAt p q) n at regs (stackOf work h)
+unfolding begin repeatAt
+begin-saved p q n at h h′ regs regs′ work work′ e f g = go-saved _ at h h′ (getD p (q + 3) 0) n at regs regs′ work work′ e f g
+
+-- Taking off -----------------------------------------------------------------
+
+stack-pop : (w : List ℕ) (h : ℕ) → 0 < h → stackOf w h ≡ frameAt w (h - 1) ∷ stackOf w (h - 1)
+unfolding stackOf
+stack-pop w zero s = absurd (omega arith)
+stack-pop w (suc h) s = let e : suc h - 1 ≡ h = omega arith in rw e
+
+frame-undo : (kind a b c : ℕ) → (kind ≡ 0 → ⊥) → (kind ≡ 1 → ⊥) → frameOf kind a b c ≡ undo b a c
+unfolding frameOf
+frame-undo zero a b c x y = absurd (x refl)
+frame-undo (suc zero) a b c x y = absurd (y refl)
+frame-undo (suc (suc n)) a b c x y = refl
+
+module _ (p : Program) (w : List ℕ) (h : ℕ) (some : 0 < h) where
+  abbrev top : ℕ → ℕ
+  top i = getD w (4 * (h - 1) + i) 0
+
+  abbrev kind : ℕ
+  kind = getD w (4 * (h - 1)) 0
+
+  pub pop-explore : (regs : List ℕ) → kind ≡ 0 → fall p regs (stackOf w h) ≡ go (top 1) (top 2) regs (stackOf w (h - 1))
+  unfolding fall frameAt frameOf
+  pop-explore regs e = rw (stack-pop w h some, e)
+
+  pub pop-again : (regs : List ℕ) → kind ≡ 1 → fall p regs (stackOf w h) ≡ begin (repeatAt p (top 1)) (top 2) (top 3) regs (stackOf w (h - 1))
+  unfolding fall frameAt frameOf
+  pop-again regs e = rw (stack-pop w h some, e)
+
+  pub pop-undo : (regs : List ℕ) → (kind ≡ 0 → ⊥) → (kind ≡ 1 → ⊥) → fall p regs (stackOf w h) ≡ fall p (set2 regs (top 2) (top 1) (top 3)) (stackOf w (h - 1))
+  unfolding fall frameAt
+  pop-undo regs x y = rw (stack-pop w h some, frame-undo kind (top 1) (top 2) (top 3) x y)
+
+  module _ (f : StackFits p (stackOf w h)) where
+    popped : StackFits p (frameAt w (h - 1) ∷ stackOf w (h - 1))
+    popped = rw (stack-pop w h some) at f
+
+    pub fits-rest : StackFits p (stackOf w (h - 1))
+    fits-rest = popped .1
+
+    pub fits-again : kind ≡ 1 → RepeatFits p (top 1)
+    unfolding frameAt frameOf
+    fits-again e = rw e at (popped .0)
+
+    pub fits-undo : (kind ≡ 0 → ⊥) → (kind ≡ 1 → ⊥) → top 2 + 2 ≤ registers
+    unfolding frameAt
+    fits-undo x y = rw (frame-undo kind (top 1) (top 2) (top 3) x y) at (popped .0)
+
+pub pop-none : (p : Program) (w : List ℕ) (h : ℕ) (regs : List ℕ) → h ≤ 0 → fall p regs (stackOf w h) ≡ idle regs
+unfolding fall stackOf
+pop-none p w zero regs e = refl
+pop-none p w (suc h) regs e = absurd (omega arith)

@@ -1,0 +1,5 @@
+-- The laws that the functions' proofs cite.
+pub mod Frames
+pub mod Tests
+pub mod Decisions
+pub mod Walking

@@ -1,0 +1,8 @@
+-- What is proved of the machine: first of single nodes, then that it emits the walk of a rule, then of runs to the next end.
+pub mod Code
+pub mod Registers
+pub mod Run
+pub mod Rounds
+pub mod Walk
+pub mod Stack
+pub mod Loop

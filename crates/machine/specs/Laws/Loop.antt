@@ -1,0 +1,255 @@
+-- Running to the next end: each move takes its run of events off the trace, and keeps the machine ready for the steps that are left.
+use mathlib.Core.Path.{_≡_, refl, ap, sym, _∙_, subst}
+use mathlib.Core.List.{List, [], _∷_, _++_}
+use Prim.Native.Nat.{ℕ, zero, suc, _+_, _-_, _≤_, _<_}
+use native.Mathlib.Omega.{arith}
+use native.Mathlib.Numerals.{add-one}
+use lib.ListN.{length, getD, take}
+use Rattle.syntax.specs.Limits.{spansLength}
+use Rattle.semantics.specs.States.{State}
+use Rattle.semantics.specs.Items.{Tried, fails, goes}
+use Rattle.semantics.specs.Walk.{Event, step, miss, end, Trace}
+use Rattle.machine.specs.Code.{Program, Instruction, ends, decodeAs, decode, Fits}
+use Rattle.machine.specs.Moves.{Stack, Configuration, Now, idle, busy, Move, emitting, state, shown, fall, tried, carryOut, move, Emits}
+use Rattle.machine.specs.Ready.{ended, nothing, spent, until, Ready}
+use Rattle.machine.specs.Laws.Stack.{fall-leaves, move-leaves}
+
+clash : _≡_ {A = ℕ} 0 1 → ⊥
+clash e = omega arith
+
+-- Runs of events ----------------------------------------------------------------
+
+-- none of the events is an end
+abbrev pub Mute : Trace → Type 0
+Mute [] = Unit {0}
+Mute (step ∷ t) = Mute t
+Mute (miss place at ∷ t) = Mute t
+Mute (end s ∷ t) = ⊥
+
+-- the steps are enough for the run, or they are not
+until-run : (es t : Trace) (left used : ℕ) → Mute es → length es ≤ left → until left used (es ++ t) ≡ until (left - length es) (used + length es) t
+unfolding until
+until-run [] t left used m h = let y : left - 0 ≡ left = omega arith in let z : used + 0 ≡ used = omega arith in rw (y, z)
+until-run (e ∷ es) t zero used m h = absurd (omega arith)
+until-run (step ∷ es) t (suc left) used m h =
+    let y : suc left - suc (length es) ≡ left - length es = omega arith in
+    let z : used + suc (length es) ≡ suc used + length es = omega arith in
+    rw (y, z) (until-run es t left (suc used) m (omega arith))
+until-run (miss place at ∷ es) t (suc left) used m h =
+    let y : suc left - suc (length es) ≡ left - length es = omega arith in
+    let z : used + suc (length es) ≡ suc used + length es = omega arith in
+    rw (y, z) (until-run es t left (suc used) m (omega arith))
+until-run (end s ∷ es) t (suc left) used m h = absurd m
+
+until-short : (es t : Trace) (left used : ℕ) → Mute es → left < length es → until left used (es ++ t) ≡ spent
+unfolding until
+until-short [] t left used m h = absurd (omega arith)
+until-short (e ∷ es) t zero used m h = refl
+until-short (step ∷ es) t (suc left) used m h = until-short es t left (suc used) m (omega arith)
+until-short (miss place at ∷ es) t (suc left) used m h = until-short es t left (suc used) m (omega arith)
+until-short (end s ∷ es) t (suc left) used m h = absurd m
+
+-- What `until` finds is where it stands in the trace: behind a run with no end, an end, nothing more, or a step beyond the budget.
+pub until-ended : (t : Trace) (left used n : ℕ) (s : State) (rest : Trace) → until left used t ≡ ended n s rest → (p : Trace) × Mute p × (t ≡ p ++ (end s ∷ rest)) × (n ≡ used + suc (length p)) × (n ≤ used + left)
+unfolding until
+until-ended [] left used n s rest e = absurd (clash (cc))
+until-ended (x ∷ t) zero used n s rest e = absurd (clash (cc))
+until-ended (step ∷ t) (suc left) used n s rest e =
+    let z = until-ended t left (suc used) n s rest e in
+    (step ∷ z .0, z .1, ap (λ (es : Trace). step ∷ es) (z .2), omega (arith, z .3), omega (arith, z .4))
+until-ended (miss place at ∷ t) (suc left) used n s rest e =
+    let z = until-ended t left (suc used) n s rest e in
+    (miss place at ∷ z .0, z .1, ap (λ (es : Trace). miss place at ∷ es) (z .2), omega (arith, z .3), omega (arith, z .4))
+until-ended (end u ∷ t) (suc left) used n s rest e =
+    let x : u ≡ s = cc in
+    let y : t ≡ rest = cc in
+    let z : suc used ≡ n = cc in
+    ([], tt, rw (x, y), omega arith, omega arith)
+
+pub until-nothing : (t : Trace) (left used n : ℕ) → until left used t ≡ nothing n → Mute t × (n ≡ used + length t) × (length t ≤ left)
+unfolding until
+until-nothing [] left used n e = let z : used ≡ n = cc in (tt, omega arith, omega arith)
+until-nothing (x ∷ t) zero used n e = absurd (clash (cc))
+until-nothing (step ∷ t) (suc left) used n e = let z = until-nothing t left (suc used) n e in (z .0, omega (arith, z .1), omega (arith, z .2))
+until-nothing (miss place at ∷ t) (suc left) used n e = let z = until-nothing t left (suc used) n e in (z .0, omega (arith, z .1), omega (arith, z .2))
+until-nothing (end u ∷ t) (suc left) used n e = absurd (clash (cc))
+
+pub until-spent : (t : Trace) (left used : ℕ) → until left used t ≡ spent → (p : Trace) × (e : Event) × (rest : Trace) × Mute p × (t ≡ p ++ (e ∷ rest)) × (length p ≡ left)
+unfolding until
+until-spent [] left used e = absurd (clash (cc))
+until-spent (x ∷ t) zero used e = ([], x, t, tt, refl, refl)
+until-spent (step ∷ t) (suc left) used e =
+    let z = until-spent t left (suc used) e in
+    (step ∷ z .0, z .1, z .2, z .3, ap (λ (es : Trace). step ∷ es) (z .4), ap suc (z .5))
+until-spent (miss place at ∷ t) (suc left) used e =
+    let z = until-spent t left (suc used) e in
+    (miss place at ∷ z .0, z .1, z .2, z .3, ap (λ (es : Trace). miss place at ∷ es) (z .4), ap suc (z .5))
+until-spent (end u ∷ t) (suc left) used e = absurd (clash (cc))
+
+mute-shown : (o e : Event) (os es : Trace) → o ≡ shown e → Mute (o ∷ os) → Mute es → Mute (e ∷ es)
+mute-shown o step os es q m n = n
+mute-shown o (miss place at) os es q m n = n
+mute-shown o (end s) os es q m n = rw q at m
+
+mute-tail : (o : Event) (os : Trace) → Mute (o ∷ os) → Mute os
+mute-tail step os m = m
+mute-tail (miss place at) os m = m
+mute-tail (end s) os m = absurd m
+
+module _ (p : Program) (sub : List ℕ) where
+  -- what is pending stands first in the trace
+  record Split (pend : Trace) (now : Now) (t : Trace) : Type 0 where
+    run : Trace
+    rest : Trace
+    whole : t ≡ run ++ rest
+    long : length run ≡ length pend
+    mute : Mute run
+    emits : Emits p sub [] now rest
+
+  split : (pend : Trace) (now : Now) (t : Trace) → Mute pend → Emits p sub pend now t → Split pend now t
+  unfolding Emits
+  split [] now t m x = record { run = []; rest = t; whole = refl; long = refl; mute = tt; emits = x }
+  split (o ∷ os) now [] m x = absurd x
+  split (o ∷ os) now (e ∷ t) m x =
+      let s = split os now t (mute-tail o os m) (x .1) in
+      record { run = e ∷ s .run; rest = s .rest; whole = ap (λ (z : Trace). e ∷ z) (s .whole); long = ap suc (s .long); mute = mute-shown o e os (s .run) (x .0) m (s .mute); emits = s .emits }
+
+  split-move : (c : Configuration) (t : Trace) → Mute (move p sub c .first ∷ move p sub c .more) → Emits p sub [] (busy c) t → Split (move p sub c .first ∷ move p sub c .more) (move p sub c .after) t
+  unfolding Emits
+  split-move c [] m x = absurd x
+  split-move c (e ∷ t) m x = split (move p sub c .first ∷ move p sub c .more) (move p sub c .after) (e ∷ t) m (x .1, x .2)
+
+  -- what is yet to come is in range
+  pub fits-now : (c : Configuration) (t : Trace) → Emits p sub [] (busy c) t → Fits p (c .pc)
+  unfolding Emits
+  fits-now c [] x = absurd x
+  fits-now c (e ∷ t) x = x .0
+
+  -- Kinds of moves ----------------------------------------------------------------
+
+  -- a move that emits one event, which is no end
+  record Quiet (m : Move) : Type 0 where
+    mute : Mute (m .first ∷ m .more)
+    single : length (m .more) ≡ 0
+
+  quiet-tried : (x : Tried) (place next at : ℕ) (regs : List ℕ) (st : Stack) → Quiet (tried p x place next at regs st)
+  unfolding tried
+  quiet-tried (goes u) place next at regs st = record { mute = tt; single = refl }
+  quiet-tried fails place next at regs st = record { mute = tt; single = refl }
+
+  quiet : (n pc at : ℕ) (regs : List ℕ) (st : Stack) → n ≤ 8 → Quiet (carryOut p sub (decodeAs n p pc) at regs st)
+  unfolding carryOut
+  quiet zero pc at regs st h = quiet-tried _ _ _ at regs st
+  quiet (suc zero) pc at regs st h = quiet-tried _ _ _ at regs st
+  quiet (suc (suc zero)) pc at regs st h = quiet-tried _ _ _ at regs st
+  quiet (suc (suc (suc zero))) pc at regs st h = record { mute = tt; single = refl }
+  quiet (suc (suc (suc (suc zero)))) pc at regs st h = record { mute = tt; single = refl }
+  quiet (suc (suc (suc (suc (suc zero))))) pc at regs st h = record { mute = tt; single = refl }
+  quiet (suc (suc (suc (suc (suc (suc zero)))))) pc at regs st h = record { mute = tt; single = refl }
+  quiet (suc (suc (suc (suc (suc (suc (suc zero))))))) pc at regs st h = record { mute = tt; single = refl }
+  quiet (suc (suc (suc (suc (suc (suc (suc (suc zero)))))))) pc at regs st h = record { mute = tt; single = refl }
+  quiet (suc (suc (suc (suc (suc (suc (suc (suc (suc n))))))))) pc at regs st h = absurd (omega arith)
+
+  decode-end : (n pc : ℕ) → 8 < n → decodeAs n p pc ≡ ends
+  decode-end zero pc h = absurd (omega arith)
+  decode-end (suc zero) pc h = absurd (omega arith)
+  decode-end (suc (suc zero)) pc h = absurd (omega arith)
+  decode-end (suc (suc (suc zero))) pc h = absurd (omega arith)
+  decode-end (suc (suc (suc (suc zero)))) pc h = absurd (omega arith)
+  decode-end (suc (suc (suc (suc (suc zero))))) pc h = absurd (omega arith)
+  decode-end (suc (suc (suc (suc (suc (suc zero)))))) pc h = absurd (omega arith)
+  decode-end (suc (suc (suc (suc (suc (suc (suc zero))))))) pc h = absurd (omega arith)
+  decode-end (suc (suc (suc (suc (suc (suc (suc (suc zero)))))))) pc h = absurd (omega arith)
+  decode-end (suc (suc (suc (suc (suc (suc (suc (suc (suc n))))))))) pc h = refl
+
+  -- The run ---------------------------------------------------------------------------
+
+  module _ (room budget : ℕ) (first : List ℕ) (t₀ : Trace) where
+    -- Of the budget, `used` steps are used; the trace from here on finds what t₀ did.
+    pub record Running (used : ℕ) (now : Now) : Type 0 where
+      pub rest : Trace
+      pub ready : Ready p sub room (budget - used) first now rest
+      pub same : until (budget - used) used rest ≡ until budget 0 t₀
+
+    pub running-start : (now : Now) → Ready p sub room budget first now t₀ → Running 0 now
+    running-start now x = let z : budget - 0 ≡ budget = omega arith in record { rest = t₀; ready = rw z x; same = rw z }
+
+    pub running-idle : (used : ℕ) (regs : List ℕ) → Running used (idle regs) → until budget 0 t₀ ≡ nothing used
+    unfolding Emits until
+    running-idle used regs g = f (g .rest) (g .ready .emits) (g .same)
+      where
+        f : (v : Trace) → Emits p sub [] (idle regs) v → until (budget - used) used v ≡ until budget 0 t₀ → until budget 0 t₀ ≡ nothing used
+        f [] x y = sym y
+        f (e ∷ v) x y = absurd x
+
+    module _ (used : ℕ) (c : Configuration) (g : Running used (busy c)) where
+      pub running-out : used ≡ budget → until budget 0 t₀ ≡ spent
+      unfolding Emits until
+      running-out h = f (g .rest) (g .ready .emits) (g .same)
+        where
+          f : (v : Trace) → Emits p sub [] (busy c) v → until (budget - used) used v ≡ until budget 0 t₀ → until budget 0 t₀ ≡ spent
+          f [] x y = absurd x
+          f (e ∷ v) x y = let z : budget - used ≡ 0 = omega arith in sym (rw z at y)
+
+      -- A move that emits a run of events, none of them an end: the budget has the whole run, or it ends within the run.
+      module _ (m : Mute (move p sub c .first ∷ move p sub c .more)) where
+        pub running-run : used + suc (length (move p sub c .more)) ≤ budget → Running (used + suc (length (move p sub c .more))) (move p sub c .after)
+        running-run h =
+            let s = split-move c (g .rest) m (g .ready .emits) in
+            let l : length (s .run) ≡ suc (length (move p sub c .more)) = s .long in
+            let e = until-run (s .run) (s .rest) (budget - used) used (s .mute) (omega arith) in
+            let z : budget - (used + suc (length (move p sub c .more))) ≡ budget - used - suc (length (move p sub c .more)) = omega arith in
+            let w = move-leaves p sub c (fits-now c (g .rest) (g .ready .emits)) (g .ready .fits) in
+            record {
+              rest = s .rest;
+              ready = record { emits = s .emits; fits = w .fits; low = omega (arith, w .low, g .ready .low); back = w .back ∙ g .ready .back };
+              same = rw z (sym (rw l at e) ∙ (rw (s .whole) at (g .same)));
+            }
+
+        pub running-cut : used ≤ budget → budget < used + suc (length (move p sub c .more)) → until budget 0 t₀ ≡ spent
+        running-cut k h =
+            let s = split-move c (g .rest) m (g .ready .emits) in
+            let l : length (s .run) ≡ suc (length (move p sub c .more)) = s .long in
+            sym (rw (s .whole) at (g .same)) ∙ until-short (s .run) (s .rest) (budget - used) used (s .mute) (omega arith)
+
+      -- a node that is no end
+      pub running-on : used < budget → getD p (c .pc) 0 ≤ 8 → Running (used + 1) (move p sub c .after)
+      running-on h k =
+          let q : Quiet (move p sub c) = unfold move decode in quiet (getD p (c .pc) 0) (c .pc) (c .at) (c .regs) (c .stack) k in
+          rw (q .single) at (running-run (q .mute) (omega (arith, q .single)))
+
+      -- an end
+      pub record Ended : Type 0 where
+        pub met : State
+        pub rest : Trace
+        pub until-is : until budget 0 t₀ ≡ ended (used + 1) met rest
+        pub at : met .at ≡ c .at
+        pub spans : met .spans ≡ take spansLength (c .regs)
+        pub ready : Ready p sub room (budget - (used + 1)) first (fall p (c .regs) (c .stack)) rest
+
+      at-end : (s : State) → _≡_ {A = Event} (end (state (c .at) (c .regs))) (shown (end s)) → state (c .at) (c .regs) ≡ record { at = s .at; spans = s .spans; path = [] }
+      at-end s e = cc
+
+      pub running-end : used < budget → 8 < getD p (c .pc) 0 → Ended
+      unfolding Emits move decode carryOut until
+      running-end h k = f (g .rest) (g .ready .emits) (g .same)
+        where
+          m : move p sub c ≡ emitting (end (state (c .at) (c .regs))) (fall p (c .regs) (c .stack))
+          m = ap (λ (j : Instruction). carryOut p sub j (c .at) (c .regs) (c .stack)) (decode-end (getD p (c .pc) 0) (c .pc) k)
+
+          f : (v : Trace) → Emits p sub [] (busy c) v → until (budget - used) used v ≡ until budget 0 t₀ → Ended
+          f [] x y = absurd x
+          f (step ∷ v) x y = let z : _≡_ {A = Event} (end (state (c .at) (c .regs))) step = sym (ap (λ (j : Move). j .first) m) ∙ x .1 in absurd (clash (cc))
+          f (miss place at ∷ v) x y = let z : _≡_ {A = Event} (end (state (c .at) (c .regs))) (miss place at) = sym (ap (λ (j : Move). j .first) m) ∙ x .1 in absurd (clash (cc))
+          f (end s ∷ v) x y =
+              let z : budget - used ≡ suc (budget - suc used) = omega arith in
+              let e = at-end s (sym (ap (λ (j : Move). j .first) m) ∙ x .1) in
+              let w = fall-leaves p (c .regs) (c .stack) (g .ready .fits) in
+              record {
+                met = s;
+                rest = v;
+                until-is = rw (add-one used) (sym (rw z at y));
+                at = sym (ap (λ (j : State). j .at) e);
+                spans = sym (ap (λ (j : State). j .spans) e);
+                ready = record { emits = subst (λ (j : Move). Emits p sub (j .more) (j .after) v) m (x .2); fits = w .fits; low = omega (arith, w .low, g .ready .low); back = w .back ∙ g .ready .back };
+              }

@@ -1,0 +1,76 @@
+-- What a move or falling back leaves of the stack: at most two frames more, all in range, and the same registers once all is undone.
+use mathlib.Core.Path.{_≡_, refl, ap}
+use mathlib.Core.List.{List, [], _∷_}
+use Prim.Native.Nat.{ℕ, zero, suc, _+_, _≤_}
+use native.Mathlib.Omega.{arith}
+use lib.ListN.{length, getD}
+use Rattle.syntax.specs.declared.Greed.the-variants.{Greedy, Lazy}
+use Rattle.semantics.specs.Items.{Tried, fails, goes}
+use Rattle.semantics.specs.Repeats.{Next, round, leave, either}
+use Rattle.machine.specs.Code.{Program, repeatAt, decodeAs, decode, RepeatFits, FitsAs, Fits}
+use Rattle.machine.specs.Moves.{explore, again, undo, Stack, Configuration, Now, set2, saved, begin, bump, fall, decided, decides, tried, carryOut, move}
+use Rattle.machine.specs.Words.{stackOf}
+use Rattle.machine.specs.Ready.{StackFits, frames, replay, origin}
+use Rattle.machine.specs.Laws.Code.{spans-in-registers}
+use Rattle.machine.specs.Laws.Registers.{undo-set2}
+
+pub length-stackOf : (work : List ℕ) (h : ℕ) → length (stackOf work h) ≡ h
+unfolding stackOf
+length-stackOf work zero = refl
+length-stackOf work (suc h) = ap suc (length-stackOf work h)
+
+-- at most n frames, all in range, with the registers `first` once all is undone
+pub record Leaves (p : Program) (n : ℕ) (first : List ℕ) (now : Now) : Type 0 where
+  pub low : length (frames now) ≤ n
+  pub fits : StackFits p (frames now)
+  pub back : origin now ≡ first
+
+leaves-more : {p : Program} {n m : ℕ} {first : List ℕ} {now : Now} → n ≤ m → Leaves p n first now → Leaves p m first now
+leaves-more h x = record { low = omega (arith, x .low); fits = x .fits; back = x .back }
+
+module _ (p : Program) where
+  replay-saved : (regs : List ℕ) (i a b : ℕ) (st : Stack) → replay (set2 regs i a b) (saved regs i ∷ st) ≡ replay regs st
+  unfolding replay
+  replay-saved regs i a b st = ap (λ (x : List ℕ). replay x st) (undo-set2 regs i a b)
+
+  begin-leaves : (q n at : ℕ) (regs : List ℕ) (st : Stack) → RepeatFits p q → StackFits p st → Leaves p (length st + 1) (replay regs st) (begin (repeatAt p q) n at regs st)
+  unfolding begin repeatAt
+  begin-leaves q n at regs st s f = record { low = omega arith; fits = (s .1, f); back = replay-saved regs (repeatAt p q .register) n at st }
+
+  pub fall-leaves : (regs : List ℕ) (st : Stack) → StackFits p st → Leaves p (length st) (replay regs st) (fall p regs st)
+  unfolding fall replay
+  fall-leaves regs [] f = record { low = omega arith; fits = tt; back = refl }
+  fall-leaves regs (explore pc at ∷ st) f = record { low = omega arith; fits = f .1; back = refl }
+  fall-leaves regs (again q n at ∷ st) f = leaves-more (omega arith) (begin-leaves q n at regs st (f .0) (f .1))
+  fall-leaves regs (undo i a b ∷ st) f = leaves-more (omega arith) (fall-leaves (set2 regs i a b) st (f .1))
+
+  decided-leaves : (d : Next) (q n at : ℕ) (regs : List ℕ) (st : Stack) → RepeatFits p q → StackFits p st → Leaves p (length st + 2) (replay regs st) (decided p d q n at regs st)
+  unfolding decided replay
+  decided-leaves round q n at regs st s f = leaves-more (omega arith) (begin-leaves q (bump n) at regs st s f)
+  decided-leaves leave q n at regs st s f = record { low = omega arith; fits = f; back = refl }
+  decided-leaves (either Greedy) q n at regs st s f = leaves-more (omega arith) (begin-leaves q (bump n) at regs (explore (repeatAt p q .next) at ∷ st) s (tt, f))
+  decided-leaves (either Lazy) q n at regs st s f = record { low = omega arith; fits = (s, f); back = refl }
+
+  tried-leaves : (x : Tried) (place next at : ℕ) (regs : List ℕ) (st : Stack) → StackFits p st → Leaves p (length st + 2) (replay regs st) (tried p x place next at regs st .after)
+  unfolding tried
+  tried-leaves fails place next at regs st f = leaves-more (omega arith) (fall-leaves regs st f)
+  tried-leaves (goes t) place next at regs st f = record { low = omega arith; fits = f; back = refl }
+
+  module _ (sub : List ℕ) where
+    carried-leaves : (n pc at : ℕ) (regs : List ℕ) (st : Stack) → FitsAs n p pc → StackFits p st → Leaves p (length st + 2) (replay regs st) (carryOut p sub (decodeAs n p pc) at regs st .after)
+    unfolding carryOut replay decides
+    carried-leaves zero pc at regs st w f = tried-leaves _ _ _ at regs st f
+    carried-leaves (suc zero) pc at regs st w f = tried-leaves _ _ _ at regs st f
+    carried-leaves (suc (suc zero)) pc at regs st w f = tried-leaves _ _ _ at regs st f
+    carried-leaves (suc (suc (suc zero))) pc at regs st w f = record { low = omega arith; fits = (w .1, f); back = replay-saved regs _ at 0 st }
+    carried-leaves (suc (suc (suc (suc zero)))) pc at regs st w f =
+        record { low = omega arith; fits = (omega (arith, w .2, spans-in-registers), f); back = replay-saved regs (getD p (pc + 3) 0) (getD regs (getD p (pc + 2) 0) 0) at st }
+    carried-leaves (suc (suc (suc (suc (suc zero))))) pc at regs st w f = record { low = omega arith; fits = (tt, f); back = refl }
+    carried-leaves (suc (suc (suc (suc (suc (suc zero)))))) pc at regs st w f = record { low = omega arith; fits = f; back = refl }
+    carried-leaves (suc (suc (suc (suc (suc (suc (suc zero))))))) pc at regs st w f = decided-leaves _ (pc + 2) 0 at regs st w f
+    carried-leaves (suc (suc (suc (suc (suc (suc (suc (suc zero)))))))) pc at regs st w f = decided-leaves _ (pc + 1) _ at regs st w f
+    carried-leaves (suc (suc (suc (suc (suc (suc (suc (suc (suc n))))))))) pc at regs st w f = leaves-more (omega arith) (fall-leaves regs st f)
+
+    pub move-leaves : (c : Configuration) → Fits p (c .pc) → StackFits p (c .stack) → Leaves p (length (c .stack) + 2) (replay (c .regs) (c .stack)) (move p sub c .after)
+    unfolding move decode
+    move-leaves c f g = carried-leaves (getD p (c .pc) 0) (c .pc) (c .at) (c .regs) (c .stack) (f .node) g

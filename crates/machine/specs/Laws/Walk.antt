@@ -1,0 +1,316 @@
+-- Where a rule stands compiled, the machine emits the rule's walk: one induction over the rule, with a lemma for each form.
+use mathlib.Core.Path.{_≡_, refl, ap, sym, _∙_, subst}
+use mathlib.Core.List.{List, [], _∷_, _++_, append-assoc, append-nil}
+use mathlib.Core.Bool.{Bool, true, false}
+use Prim.Native.Nat.{ℕ, zero, suc, _+_, _≤_, _<_}
+use native.Mathlib.Omega.{arith}
+use lib.ListN.{length, getD, drop, take}
+use lib.Dec.{eqb}
+use borrow.Author.Tests.{ltb-true}
+use Rattle.charset.specs.Class.{has}
+use Rattle.syntax.specs.declared.Assertion.{Assertion}
+use Rattle.syntax.specs.declared.Greed.{Greed}
+use Rattle.syntax.specs.declared.Greed.the-variants.{Greedy, Lazy}
+use Rattle.syntax.specs.declared.Most.{Most}
+use Rattle.syntax.specs.Limits.{spansLength, slot, registers}
+use Rattle.syntax.specs.Read.{byte}
+use Rattle.syntax.specs.Sets.{Class, inClass}
+use Rattle.syntax.specs.Tree.{Item, byteIn, assert, reference, Rule, empty, item, seq, alt, group, repeat, Branches, one, also}
+use Rattle.syntax.specs.WellFormed.{BoundsFit}
+use Rattle.syntax.specs.Compiled.{CompiledItem, Compiled, CompiledBranches}
+use Rattle.semantics.specs.States.{Choice, branch, again, goOn, State, chose, moved, closed}
+use Rattle.semantics.specs.Items.{Tried, fails, goes, when, refer, try}
+use Rattle.semantics.specs.Repeats.{Next, round, leave, either, decision}
+use Rattle.semantics.specs.Derivations.{branchCount}
+use Rattle.semantics.specs.Walk.{step, Trace, Go, _▹_, done, tried, decide, rounds, enough, walk, walks}
+use Rattle.semantics.specs.Laws.Traces.{bind-append, bind-bind, bind-done, bind-end}
+use Rattle.semantics.specs.Laws.Right.{try-reach}
+use Rattle.semantics.specs.Laws.Rounds.{unlessIdle, left, fewer}
+use Rattle.machine.specs.Code.{Program, Test, inSet, holding, sameAs, Instruction, tests, opens, closes, branches, lastBranch, enters, loops, repeatAt, decode, Fits}
+use Rattle.machine.specs.Moves.{Bytes, Stack, emitting, set2, state, go, tested, fall, decides, carryOut, Emits}
+use Rattle.machine.specs.Laws.Code.{assertion-read, repeat-read, decode-at, fits}
+use Rattle.machine.specs.Laws.Registers.{length-set2, getD-set2, first-set2, second-set2, take-behind, take-within}
+use Rattle.machine.specs.Laws.Run.{Way, plain, join, Run, run-miss, run-hit, run-open, run-close, run-branch, run-last, run-decides, run-end}
+use Rattle.machine.specs.Laws.Rounds.{counted, counted-none, bump-counted, decision-counted}
+
+-- Items: the machine's test and the rule's item -------------------------------
+
+-- an item of the rule and the machine's test go the same way, and leave the captures alone
+abbrev Agree : State → Tried → Tried → Type 0
+Agree s fails fails = Unit {0}
+Agree s fails (goes u) = ⊥
+Agree s (goes t) fails = ⊥
+Agree s (goes t) (goes u) = (t .at ≡ u .at) × (t .spans ≡ s .spans)
+
+agree-when : (s : State) (b c : Bool) (x y : Tried) → (b ≡ c) → (b ≡ true → Agree s x y) → Agree s (when b x) (when c y)
+unfolding when
+agree-when s true true x y e h = h refl
+agree-when s true false x y e h = let z : _≡_ {A = ℕ} 0 1 = cc in absurd (omega arith)
+agree-when s false true x y e h = let z : _≡_ {A = ℕ} 0 1 = cc in absurd (omega arith)
+agree-when s false false x y e h = tt
+
+byte-small : (sub : List ℕ) → Bytes sub → (i : ℕ) → i < length sub → byte sub i < 256
+unfolding byte
+byte-small [] bytes i h = absurd (omega arith)
+byte-small (b ∷ sub) bytes zero h = bytes 0
+byte-small (b ∷ sub) bytes (suc i) h = byte-small sub (λ j. bytes (suc j)) i (omega arith)
+
+module _ (sub : List ℕ) (s : State) (regs : List ℕ) where
+  agree-byte : Bytes sub → (c : Class) (f : ℕ → Bool) → ((x : ℕ) → x < 256 → f x ≡ inClass c x) → Agree s (try sub (byteIn c) s) (tested sub (inSet f) (state (s .at) regs))
+  unfolding try tested moved
+  agree-byte bytes c f same = agree-when s _ _ _ _ refl (λ e. agree-when s _ _ _ _ (sym (same (byte sub (s .at)) (byte-small sub bytes (s .at) (ltb-true (s .at) (length sub) e)))) (λ _. (refl, refl)))
+
+  agree-assert : (a : Assertion) → Agree s (try sub (assert a) s) (tested sub (holding a) (state (s .at) regs))
+  unfolding try tested
+  agree-assert a = agree-when s _ _ _ _ refl (λ _. (refl, refl))
+
+  agree-reference : (n : ℕ) → s .spans ≡ take spansLength regs → Agree s (try sub (reference n) s) (tested sub (sameAs (slot n)) (state (s .at) regs))
+  unfolding try tested refer moved
+  agree-reference n e = rw (← e) (agree-when s _ _ _ _ refl (λ _. agree-when s _ _ _ _ refl (λ _. agree-when s _ _ _ _ refl (λ _. (refl, refl)))))
+
+-- Carrying out a walk ---------------------------------------------------------
+
+module _ (p : Program) (sub : List ℕ) where
+  -- the registers are those of a state within the subject
+  pub record Mirrors (s : State) (regs : List ℕ) : Type 0 where
+    pub inside : s .at ≤ length sub
+    pub size : length regs ≡ registers
+    pub spans : s .spans ≡ take spansLength regs
+
+  -- a later state and its registers; those that are no captures and stand below r are as they were
+  pub record Later (r : ℕ) (s : State) (regs : List ℕ) (s′ : State) (regs′ : List ℕ) : Type 0 where
+    pub on : s .at ≤ s′ .at
+    pub mirrors : Mirrors s′ regs′
+    pub kept : (i : ℕ) → spansLength ≤ i → i < r → getD regs′ i 0 ≡ getD regs i 0
+
+  -- at the node `next` the machine emits what k does, from every later state
+  abbrev pub GoesOn : Way → (next r : ℕ) → State → List ℕ → Go → Type 0
+  GoesOn W next r s regs k = (s′ : State) (regs′ : List ℕ) → Later r s regs s′ regs′ → Run p sub W next (s′ .at) regs′ (k s′)
+
+  -- from pc the machine carries out the walk m, and goes on at `next`; it uses the registers from r on
+  abbrev pub Carries : Go → (pc next r : ℕ) → Type 1
+  Carries m pc next r = (W : Way) (s : State) (regs : List ℕ) (k : Go) → Mirrors s regs → GoesOn W next r s regs k → Run p sub W pc (s .at) regs (m s ▹ k)
+
+  at-once : (r : ℕ) (s : State) (regs : List ℕ) → Mirrors s regs → Later r s regs s regs
+  at-once r s regs f = record { on = omega arith; mirrors = f; kept = λ i _ _. refl }
+
+  later-still : {r : ℕ} {s t u : State} {regs regs′ regs″ : List ℕ} → Later r s regs t regs′ → Later r t regs′ u regs″ → Later r s regs u regs″
+  later-still x y = record { on = omega (arith, x .on, y .on); mirrors = y .mirrors; kept = λ i l h. y .kept i l h ∙ x .kept i l h }
+
+  -- choices are of no account here
+  mirrors-chose : (c : Choice) {s : State} {regs : List ℕ} → Mirrors s regs → Mirrors (chose c s) regs
+  unfolding chose
+  mirrors-chose c f = record { inside = f .inside; size = f .size; spans = f .spans }
+
+  later-chose : (c : Choice) {r : ℕ} {s s′ : State} {regs regs′ : List ℕ} → Later r (chose c s) regs s′ regs′ → Later r s regs s′ regs′
+  unfolding chose
+  later-chose c n = record { on = n .on; mirrors = n .mirrors; kept = n .kept }
+
+  -- the two registers of a group or a repeat are of no account outside
+  outside : {s s′ : State} {regs′ : List ℕ} (regs : List ℕ) (r x y : ℕ) → Later (r + 2) s (set2 regs r x y) s′ regs′ → Later r s regs s′ regs′
+  outside regs r x y n = record { on = n .on; mirrors = n .mirrors; kept = λ i l h. n .kept i l (omega arith) ∙ getD-set2 regs r x y i (omega arith) (omega arith) }
+
+  mirrors-set2 : {s : State} {regs : List ℕ} (j x y : ℕ) → spansLength ≤ j → Mirrors s regs → Mirrors s (set2 regs j x y)
+  mirrors-set2 {regs = regs} j x y l f = record { inside = f .inside; size = length-set2 regs j x y ∙ f .size; spans = f .spans ∙ sym (take-behind spansLength regs j x y l) }
+
+  -- a walk begun with a choice
+  carries-chose : (c : Choice) (m : Go) (pc next r : ℕ) → Carries m pc next r → (W : Way) (s : State) (regs : List ℕ) (k : Go) → Mirrors s regs → GoesOn W next r s regs k → Run p sub W pc (s .at) regs (m (chose c s) ▹ k)
+  unfolding chose
+  carries-chose c m pc next r v W s regs k f h = v W (chose c s) regs k (mirrors-chose c f) (λ t regs′ n. h t regs′ (later-chose c n))
+
+  -- Items, sequences, branches --------------------------------------------------
+
+  carries-item : (place : ℕ) (i : Item) (x : Test) (pc next r : ℕ) → Fits p pc → decode p pc ≡ tests x place next
+      → ((s : State) (regs : List ℕ) → s .spans ≡ take spansLength regs → Agree s (try sub i s) (tested sub x (state (s .at) regs))) → Carries (walk sub (item place i)) pc next r
+  unfolding walk tried _▹_ done
+  carries-item place i x pc next r f d same W s regs k g h = by (try sub i s) (tested sub x (state (s .at) regs)) refl refl (same s regs (g .spans))
+    where
+      by : (y z : Tried) → try sub i s ≡ y → tested sub x (state (s .at) regs) ≡ z → Agree s y z → Run p sub W pc (s .at) regs (tried place s (try sub i s) ▹ k)
+      by fails fails e e′ a = rw e (run-miss p sub W pc (s .at) regs f x place next d e′)
+      by fails (goes u) e e′ a = absurd a
+      by (goes t) fails e e′ a = absurd a
+      by (goes t) (goes u) e e′ a =
+          let y = try-reach sub i s t (g .inside) e in
+          rw (e, append-nil (k t))
+          (run-hit p sub W pc (s .at) regs f x place next u (k t) d e′
+          (subst (λ (z : ℕ). Run p sub W next z regs (k t)) (a .0) (h t regs (record { on = y .up; mirrors = record { inside = y .inside; size = g .size; spans = a .1 ∙ g .spans }; kept = λ i _ _. refl }))))
+
+  carries-seq : (a b : Rule) (pc next r mid : ℕ) → Carries (walk sub a) pc mid r → Carries (walk sub b) mid next r → Carries (walk sub (seq a b)) pc next r
+  unfolding walk
+  carries-seq a b pc next r mid v w W s regs k f h = rw bind-bind (v W s regs (λ t. walk sub b t ▹ k) f (λ t regs′ n. w W t regs′ k (n .mirrors) (λ u regs″ n′. h u regs″ (later-still n n′))))
+
+  -- From pc the machine carries out the branches, and then does what it does from the branch at `other`.
+  abbrev CarriesBranches : Branches → (pc other next r : ℕ) → Type 1
+  CarriesBranches bs pc other next r = (W : Way) (s : State) (regs : List ℕ) (k : Go) → Mirrors s regs → GoesOn W next r s regs k
+      → (rest : Trace) → Run p sub W other (s .at) regs rest → Run p sub W pc (s .at) regs ((walks sub bs s ▹ k) ++ rest)
+
+  carries-one : (a : Rule) (pc other next r body : ℕ) → Fits p pc → decode p pc ≡ branches body other → Carries (walk sub a) body next r → CarriesBranches (one a) pc other next r
+  unfolding walk _▹_
+  carries-one a pc other next r body f d v W s regs k g h rest z = run-branch p sub W pc (s .at) regs f body other _ _ d (carries-chose (branch 0) (walk sub a) body next r v W s regs k g h) z
+
+  carries-also : (bs : Branches) (b : Rule) (pc last other next r body : ℕ) → Fits p last → decode p last ≡ branches body other → CarriesBranches bs pc last next r → Carries (walk sub b) body next r
+      → CarriesBranches (also bs b) pc other next r
+  unfolding walk _▹_
+  carries-also bs b pc last other next r body f d w v W s regs k g h rest z =
+      rw (bind-append, append-assoc) (w W s regs k g h _ (run-branch p sub W last (s .at) regs f body other _ _ d (carries-chose (branch (branchCount bs)) (walk sub b) body next r v W s regs k g h) z))
+
+  carries-alt : (bs : Branches) (b : Rule) (pc last next r body : ℕ) → Fits p last → decode p last ≡ lastBranch body → CarriesBranches bs pc last next r → Carries (walk sub b) body next r
+      → Carries (walk sub (alt bs b)) pc next r
+  unfolding walk _▹_
+  carries-alt bs b pc last next r body f d w v W s regs k g h =
+      rw bind-append (w W s regs k g h _ (run-last p sub W last (s .at) regs f body _ d (carries-chose (branch (branchCount bs)) (walk sub b) body next r v W s regs k g h)))
+
+  -- Groups ------------------------------------------------------------------------
+
+  group-bind : (n : ℕ) (a : Rule) (s : State) (k : Go) → walk sub (group n a) s ▹ k ≡ step ∷ (walk sub a s ▹ (λ t. step ∷ k (closed n (s .at) t)))
+  unfolding walk _▹_ done
+  group-bind n a s k = simp (bind-bind, append-nil)
+
+  -- where a group closes, its registers have where it was opened
+  closing : (n r : ℕ) (s t : State) (regs regs′ : List ℕ) → slot n + 2 ≤ spansLength → spansLength ≤ r → r + 2 ≤ registers → Mirrors s regs → Later (r + 2) s (set2 regs r (s .at) 0) t regs′
+      → Later r s regs (closed n (s .at) t) (set2 regs′ (slot n) (getD regs′ r 0) (t .at))
+  unfolding closed
+  closing n r s t regs regs′ fit l room f w =
+      let e : getD regs′ r 0 ≡ s .at = w .kept r l (omega arith) ∙ first-set2 regs r (s .at) 0 (omega (arith, f .size)) in
+      record {
+        on = w .on;
+        mirrors = record {
+          inside = w .mirrors .inside;
+          size = length-set2 regs′ (slot n) (getD regs′ r 0) (t .at) ∙ w .mirrors .size;
+          spans = rw (e, w .mirrors .spans) (sym (take-within spansLength regs′ (slot n) (s .at) (t .at) fit));
+        };
+        kept = λ i l′ h. getD-set2 regs′ (slot n) (getD regs′ r 0) (t .at) i (omega arith) (omega arith) ∙ outside regs r (s .at) 0 w .kept i l′ h;
+      }
+
+  carries-group : (n : ℕ) (a : Rule) (pc next r body close : ℕ) → Fits p pc → Fits p close → decode p pc ≡ opens r body → decode p close ≡ closes r (slot n) next → slot n + 2 ≤ spansLength → spansLength ≤ r → r + 2 ≤ registers
+      → Carries (walk sub a) body close (r + 2) → Carries (walk sub (group n a)) pc next r
+  carries-group n a pc next r body close f f′ d d′ fit l room v W s regs k g h =
+      rw (group-bind n a s k)
+      (run-open p sub W pc (s .at) regs f r body _ d (v W s (set2 regs r (s .at) 0) (λ t. step ∷ k (closed n (s .at) t)) (mirrors-set2 r (s .at) 0 l g)
+      (λ t regs′ w. run-close p sub W close (t .at) regs′ f′ r (slot n) next _ d′ (unfold closed in h (closed n (s .at) t) (set2 regs′ (slot n) (getD regs′ r 0) (t .at)) (closing n r s t regs regs′ fit l room g w)))))
+
+  -- Repeats -------------------------------------------------------------------------
+
+  -- the states at which a decision begins a round, and at which it goes on
+  unfoldable turning : Next → State → State
+  turning round s = s
+  turning leave s = s
+  turning (either g) s = chose (again g) s
+
+  unfoldable leaving : Next → State → State
+  leaving round s = s
+  leaving leave s = s
+  leaving (either g) s = chose (goOn g) s
+
+  decide-bind : (d : Next) (s : State) (body k : Go) → decide d s body ▹ k ≡ join d (body (turning d s) ▹ k) (k (leaving d s))
+  unfolding decide join turning leaving
+  decide-bind round s body k = refl
+  decide-bind leave s body k = bind-done s k
+  decide-bind (either Greedy) s body k = simp (bind-append, bind-done)
+  decide-bind (either Lazy) s body k = simp (bind-append, bind-done)
+
+  carries-turning : (d : Next) (m : Go) (pc next r : ℕ) → Carries m pc next r → (W : Way) (s : State) (regs : List ℕ) (k : Go) → Mirrors s regs → GoesOn W next r s regs k → Run p sub W pc (s .at) regs (m (turning d s) ▹ k)
+  unfolding turning
+  carries-turning round m pc next r v W s regs k f h = v W s regs k f h
+  carries-turning leave m pc next r v W s regs k f h = v W s regs k f h
+  carries-turning (either g) m pc next r v W s regs k f h = carries-chose (again g) m pc next r v W s regs k f h
+
+  carries-leaving : (d : Next) (W : Way) (next r : ℕ) (s : State) (regs : List ℕ) (k : Go) → Mirrors s regs → GoesOn W next r s regs k → Run p sub W next (s .at) regs (k (leaving d s))
+  unfolding leaving chose
+  carries-leaving round W next r s regs k f h = h s regs (at-once r s regs f)
+  carries-leaving leave W next r s regs k f h = h s regs (at-once r s regs f)
+  carries-leaving (either g) W next r s regs k f h = h (chose (goOn g) s) regs (later-chose (goOn g) (at-once r (chose (goOn g) s) regs (mirrors-chose (goOn g) f)))
+
+  turning-at : (d : Next) (s : State) → turning d s .at ≡ s .at
+  unfolding turning chose
+  turning-at round s = refl
+  turning-at leave s = refl
+  turning-at (either g) s = refl
+
+  module _ (least : ℕ) (most : Most) (g : Greed) (a : Rule) (next r body loop : ℕ) (fit : BoundsFit least most) where
+    module _ (q : ℕ) (given : repeatAt p q ≡ record { least = least; most = most; greed = g; register = r; body = body; next = next }) (room : r + 2 ≤ registers) (fl : Fits p loop) (dl : decode p loop ≡ loops q) (l : spansLength ≤ r) (v : Carries (walk sub a) body loop (r + 2)) (W : Way) (k : Go) where
+      -- at a decision after n rounds
+      run-rounds : (f : ℕ) (i : Instruction) (pc n : ℕ) (still : Bool) (s : State) (regs : List ℕ) → Fits p pc → decode p pc ≡ i
+          → ((st : Stack) → carryOut p sub i (s .at) regs st ≡ emitting step (decides p q (counted n) still (s .at) regs st))
+          → Mirrors s regs → left (length sub) least n still (s .at) < f → GoesOn W next r s regs k → Run p sub W pc (s .at) regs (rounds (walk sub a) least most g f n still s ▹ k)
+      unfolding rounds _▹_ carryOut turning
+      run-rounds zero i pc n still s regs fp d y z m h = absurd (omega arith)
+      run-rounds (suc f) i pc n still s regs fp d y z m h =
+          let e : decision (repeatAt p q .least) (repeatAt p q .most) (repeatAt p q .greed) (counted n) still ≡ decision least most g n still = rw given (decision-counted least most g n still fit) in
+          rw (decide-bind (decision least most g n still) s (λ t. walk sub a t ▹ (λ u. rounds (walk sub a) least most g f (suc n) (eqb (t .at) (u .at)) u)) k, bind-bind, turning-at (decision least most g n still) s, ← e)
+          (run-decides p sub W i q pc (counted n) still (s .at) regs _ _ fp d y
+          (rw (e, given, bump-counted n) (λ b.
+          carries-turning (decision least most g n still) (walk sub a) body loop (r + 2) v W s (set2 regs r (counted (suc n)) (s .at)) (λ u. rounds (walk sub a) least most g f (suc n) (eqb (s .at) (u .at)) u ▹ k) (mirrors-set2 r (counted (suc n)) (s .at) l z) (λ t regs′ w.
+          let e₀ : getD regs′ r 0 ≡ counted (suc n) = w .kept r l (omega arith) ∙ first-set2 regs r (counted (suc n)) (s .at) (omega (arith, z .size)) in
+          let e₁ : getD regs′ (r + 1) 0 ≡ s .at = w .kept (r + 1) (omega arith) (omega arith) ∙ second-set2 regs r (counted (suc n)) (s .at) (omega (arith, z .size)) in
+          let m′ = fewer (length sub) least most g n still (s .at) (t .at) b (w .on) (w .mirrors .inside) in
+          run-rounds f (loops q) loop (suc n) (eqb (s .at) (t .at)) t regs′ fl dl (λ st. rw (given, e₀, e₁)) (w .mirrors) (omega arith) (λ u regs″ w′. h u regs″ (later-still (outside regs r (counted (suc n)) (s .at) w) w′)))))
+          (rw (e, given) (carries-leaving (decision least most g n still) W next r s regs k z h)))
+
+    carries-repeat : (place pc : ℕ) → repeatAt p (pc + 2) ≡ record { least = least; most = most; greed = g; register = r; body = body; next = next } → r + 2 ≤ registers → Fits p pc → Fits p loop → decode p pc ≡ enters (pc + 2) → decode p loop ≡ loops (pc + 2) → spansLength ≤ r
+        → Carries (walk sub a) body loop (r + 2) → Carries (walk sub (repeat place least most g a)) pc next r
+    unfolding walk enough left unlessIdle carryOut
+    carries-repeat place pc given room f f′ d d′ l v W s regs k z h =
+        run-rounds (pc + 2) given room f′ d′ l v W k (enough sub least (s .at)) (enters (pc + 2)) pc 0 false s regs f d (λ st. rw counted-none) z (omega arith) h
+
+  -- Rules -----------------------------------------------------------------------------
+
+  module _ (lo hi : ℕ) (within : hi ≤ length p) (bytes : Bytes sub) where
+    items : (i : Item) (place pc next r : ℕ) → CompiledItem p lo hi i place pc next → Carries (walk sub (item place i)) pc next r
+    items (byteIn c) place pc next r k =
+        let o = k .node in
+        carries-item place (byteIn c) (inSet (has (drop (pc + 3) p))) pc next r (fits p pc 0 (o .is) (omega (arith, o .high)) (omega (arith, o .high))) (decode-at p pc 0 (o .is) ∙ rw (k .goes, k .origin)) (λ s regs _. agree-byte sub s regs bytes c _ (k .set))
+    items (assert a) place pc next r k =
+        let o = k .node in
+        carries-item place (assert a) (holding a) pc next r (fits p pc 1 (o .is) (omega (arith, o .high)) (omega (arith, o .high))) (decode-at p pc 1 (o .is) ∙ rw (k .goes, k .origin, k .which, assertion-read a)) (λ s regs _. agree-assert sub s regs a)
+    items (reference n) place pc next r k =
+        let o = k .node in
+        carries-item place (reference n) (sameAs (slot n)) pc next r (fits p pc 2 (o .is) (omega (arith, o .high)) (omega (arith, o .high), rw (k .span) (k .fits))) (decode-at p pc 2 (o .is) ∙ rw (k .goes, k .origin, k .span)) (λ s regs e. agree-reference sub s regs n e)
+
+    mutual
+      unfolding Compiled walk
+
+      pub works : (x : Rule) (pc next r : ℕ) → Compiled p lo hi x pc next r → spansLength ≤ r → Carries (walk sub x) pc next r
+      works empty pc next r c l = λ W s regs k f h. rw (c, bind-done s k) (h s regs (at-once r s regs f))
+      works (item place i) pc next r c l = items i place pc next r c
+      works (seq a b) pc next r c l = carries-seq a b pc next r (c .mid) (works a pc (c .mid) r (c .left) l) (works b (c .mid) next r (c .right) l)
+      works (alt bs b) pc next r c l =
+          let o = c .node in
+          carries-alt bs b pc (c .last) next r (c .body) (fits p (c .last) 6 (o .is) (omega (arith, o .high)) (omega (arith, o .high))) (decode-at p (c .last) 6 (o .is) ∙ rw (c .goes)) (works-branches bs pc (c .last) next r (c .others) l) (works b (c .body) next r (c .inner) l)
+      works (group n a) pc next r c l =
+          let o = c .opening in
+          let d = c .node in
+          carries-group n a pc next r (c .body) (c .close)
+          (fits p pc 3 (o .is) (omega (arith, o .high)) (omega (arith, o .high), rw (c .opener) (c .room)))
+          (fits p (c .close) 4 (d .is) (omega (arith, d .high)) (omega (arith, d .high), rw (c .closer) (c .room), rw (c .span) (c .fits)))
+          (decode-at p pc 3 (o .is) ∙ rw (c .enters, c .opener)) (decode-at p (c .close) 4 (d .is) ∙ rw (c .goes, c .closer, c .span))
+          (c .fits) l (c .room) (works a (c .body) (c .close) (r + 2) (c .inner) (omega arith))
+      works (repeat place least most g a) pc next r c l =
+          let o = c .node in
+          let two : pc + 1 + 1 ≡ pc + 2 = omega arith in
+          let e₀ : pc + 2 + 1 ≡ pc + 3 = omega arith in
+          let e₁ : pc + 2 + 2 ≡ pc + 4 = omega arith in
+          let e₂ : pc + 2 + 3 ≡ pc + 5 = omega arith in
+          let e₃ : pc + 2 + 4 ≡ pc + 6 = omega arith in
+          let e₄ : pc + 2 + 5 ≡ pc + 7 = omega arith in
+          let e₅ : pc + 1 + 1 + 3 ≡ pc + 5 = omega arith in
+          let given = repeat-read p (pc + 2) least most g r (c .body) next (c .bounds) (c .least) (rw e₀ (c .most)) (rw e₁ (c .greed)) (rw e₂ (c .register)) (rw e₃ (c .enters)) (rw e₄ (c .goes)) in
+          carries-repeat least most g a next r (c .body) (pc + 1) (c .bounds) place pc given (c .room)
+          (fits p pc 7 (o .is) (omega (arith, o .high)) (omega (arith, o .high), rw (e₂, c .register) (c .room)))
+          (fits p (pc + 1) 8 (c .loop) (omega (arith, o .high)) (omega (arith, o .high), rw (e₅, c .register) (c .room)))
+          (decode-at p pc 7 (o .is)) (decode-at p (pc + 1) 8 (c .loop) ∙ ap loops two) l (works a (c .body) (pc + 1) (r + 2) (c .inner) (omega arith))
+
+      works-branches : (bs : Branches) (pc other next r : ℕ) → CompiledBranches p lo hi bs pc other next r → spansLength ≤ r → CarriesBranches bs pc other next r
+      works-branches (one a) pc other next r c l =
+          let o = c .node in
+          carries-one a pc other next r (c .body) (fits p pc 5 (o .is) (omega (arith, o .high)) (omega (arith, o .high))) (decode-at p pc 5 (o .is) ∙ rw (c .goes, c .fails)) (works a (c .body) next r (c .inner) l)
+      works-branches (also bs b) pc other next r c l =
+          let o = c .node in
+          carries-also bs b pc (c .last) other next r (c .body) (fits p (c .last) 5 (o .is) (omega (arith, o .high)) (omega (arith, o .high))) (decode-at p (c .last) 5 (o .is) ∙ rw (c .goes, c .fails)) (works-branches bs pc (c .last) next r (c .others) l) (works b (c .body) next r (c .inner) l)
+
+    -- a whole rule goes on at an end node, and over an empty stack the machine emits its walk and nothing more
+    pub whole : (x : Rule) (pc next : ℕ) (s : State) (regs : List ℕ) → Compiled p lo hi x pc next spansLength → (next < length p) × (getD p next 0 ≡ 9) → Mirrors s regs → Emits p sub [] (go pc (s .at) regs []) (walk sub x s)
+    unfolding Run fall Emits plain
+    whole x pc next s regs c e f =
+        let w : Run p sub plain pc (s .at) regs (walk sub x s ▹ done) = works x pc next spansLength c (omega arith) plain s regs done f (λ t regs′ n. run-end p sub next t regs′ (fits p next 9 (e .1) (e .0) tt) (decode-at p next 9 (e .1)) (n .mirrors .spans)) in
+        rw (append-nil, bind-end) at (w [] [] tt tt)

@@ -1,0 +1,141 @@
+-- The machine. It stands at a node and a position, with registers and a stack of what is left to try; each of its moves carries out one
+-- node, and emits the events of the walk.
+use mathlib.Core.Path.{_≡_}
+use mathlib.Core.List.{List, [], _∷_}
+use mathlib.Core.Bool.{Bool, false}
+use Prim.Native.Nat.{ℕ, suc, _+_, _<_, min}
+use lib.ListN.{length, getD, set, take}
+use lib.Dec.{ltb, eqb}
+use Rattle.syntax.specs.declared.Greed.the-variants.{Greedy, Lazy}
+use Rattle.syntax.specs.Limits.{unset, boundLimit, spansLength}
+use Rattle.syntax.specs.Read.{byte}
+use Rattle.semantics.specs.Assertions.{holds}
+use Rattle.semantics.specs.States.{State, moved}
+use Rattle.semantics.specs.Items.{Tried, fails, goes, when, refer}
+use Rattle.semantics.specs.Repeats.{Next, round, leave, either, decision}
+use Rattle.semantics.specs.Walk.{Event, step, miss, end, Trace}
+use Rattle.machine.specs.Code.{Program, Test, inSet, holding, sameAs, Repeat, Instruction, tests, opens, closes, branches, lastBranch, enters, loops, ends, repeatAt, decode, Fits}
+
+-- no byte of a subject is above 255
+abbrev pub Bytes : List ℕ → Type 0
+Bytes sub = (i : ℕ) → getD sub i 0 < 256
+
+-- Configurations ------------------------------------------------------------
+
+-- what is left to try, and what is to be undone on the way there
+pub data Frame : Type 0 where
+  explore : (pc at : ℕ) → Frame  -- go on at this node
+  again : (q n at : ℕ) → Frame  -- begin round n of the repeat at q: the step for its decision is taken already
+  undo : (i a b : ℕ) → Frame  -- put a and b back into the registers i and i + 1
+
+abbrev pub Stack : Type 0
+Stack = List Frame
+
+pub record Configuration : Type 0 where
+  pub pc : ℕ
+  pub at : ℕ
+  pub regs : List ℕ
+  pub stack : Stack
+
+-- nothing is left, with the registers as they then are; or at work
+pub data Now : Type 0 where
+  idle : List ℕ → Now
+  busy : Configuration → Now
+
+-- A move emits a run of events that is not empty, and costs its length. So far every run has one event.
+pub record Move : Type 0 where
+  pub first : Event
+  pub more : Trace
+  pub after : Now
+
+abbrev pub emitting : Event → Now → Move
+emitting e now = record { first = e; more = []; after = now }
+
+-- Registers -----------------------------------------------------------------
+
+-- Registers are written two at a time, and what they had goes onto the stack: one kind of frame undoes every change.
+abbrev pub set2 : List ℕ → ℕ → ℕ → ℕ → List ℕ
+set2 regs i a b = set (set regs i a) (i + 1) b
+
+abbrev pub saved : List ℕ → ℕ → Frame
+saved regs i = undo i (getD regs i 0) (getD regs (i + 1) 0)
+
+-- the state that the registers hold, without the choices
+abbrev pub state : ℕ → List ℕ → State
+state at regs = record { at = at; spans = take spansLength regs; path = [] }
+
+-- an event as the machine sees it: it keeps no choices
+abbrev pub shown : Event → Event
+shown step = step
+shown (miss place at) = miss place at
+shown (end s) = end (record { at = s .at; spans = s .spans; path = [] })
+
+-- Going on -------------------------------------------------------------------
+
+abbrev pub go : ℕ → ℕ → List ℕ → Stack → Now
+go pc at regs st = busy (record { pc = pc; at = at; regs = regs; stack = st })
+
+-- write two registers, and go on at pc
+abbrev pub goSet : ℕ → ℕ → ℕ → ℕ → ℕ → List ℕ → Stack → Now
+goSet i a b pc at regs st = go pc at (set2 regs i a b) (saved regs i ∷ st)
+
+-- begin round n of a repeat
+unfoldable pub begin : Repeat → ℕ → ℕ → List ℕ → Stack → Now
+begin q n at regs st = goSet (q .register) n at (q .body) at regs st
+
+-- Rounds are counted up to the greatest bound: no decision changes above it, and the count stays small whatever the subject.
+unfoldable pub bump : ℕ → ℕ
+bump n = min (n + 1) boundLimit
+
+-- an item tried at a state
+unfoldable pub tested : List ℕ → Test → State → Tried
+tested sub (inSet f) s = when (ltb (s .at) (length sub)) (when (f (byte sub (s .at))) (goes (moved (suc (s .at)) s)))
+tested sub (holding a) s = when (holds sub a (s .at)) (goes s)
+tested sub (sameAs slot) s = refer sub (getD (s .spans) slot unset) (getD (s .spans) (slot + 1) unset) s
+
+-- Moves -----------------------------------------------------------------------
+
+module _ (p : Program) where
+  -- falling back: "costs nothing"
+  unfoldable pub fall : List ℕ → Stack → Now
+  fall regs [] = idle regs
+  fall regs (explore pc at ∷ st) = go pc at regs st
+  fall regs (again q n at ∷ st) = begin (repeatAt p q) n at regs st
+  fall regs (undo i a b ∷ st) = fall (set2 regs i a b) st
+
+  -- what a decision after n rounds leads to
+  unfoldable pub decided : Next → (q n at : ℕ) → List ℕ → Stack → Now
+  decided round q n at regs st = begin (repeatAt p q) (bump n) at regs st
+  decided leave q n at regs st = go (repeatAt p q .next) at regs st
+  decided (either Greedy) q n at regs st = begin (repeatAt p q) (bump n) at regs (explore (repeatAt p q .next) at ∷ st)
+  decided (either Lazy) q n at regs st = go (repeatAt p q .next) at regs (again q (bump n) at ∷ st)
+
+  unfoldable pub decides : (q n : ℕ) → Bool → (at : ℕ) → List ℕ → Stack → Now
+  decides q n still at regs st = decided (decision (repeatAt p q .least) (repeatAt p q .most) (repeatAt p q .greed) n still) q n at regs st
+
+  unfoldable pub tried : Tried → (place next at : ℕ) → List ℕ → Stack → Move
+  tried fails place next at regs st = emitting (miss place at) (fall regs st)
+  tried (goes t) place next at regs st = emitting step (go next (t .at) regs st)
+
+  module _ (sub : List ℕ) where
+    unfoldable pub carryOut : Instruction → (at : ℕ) → List ℕ → Stack → Move
+    carryOut (tests t place next) at regs st = tried (tested sub t (state at regs)) place next at regs st
+    carryOut (opens i body) at regs st = emitting step (goSet i at 0 body at regs st)
+    carryOut (closes i slot next) at regs st = emitting step (goSet slot (getD regs i 0) at next at regs st)
+    carryOut (branches body other) at regs st = emitting step (go body at regs (explore other at ∷ st))
+    carryOut (lastBranch body) at regs st = emitting step (go body at regs st)
+    carryOut (enters q) at regs st = emitting step (decides q 0 false at regs st)
+    carryOut (loops q) at regs st = emitting step (decides q (getD regs (repeatAt p q .register) 0) (eqb (getD regs (repeatAt p q .register + 1) 0) at) at regs st)
+    carryOut ends at regs st = emitting (end (state at regs)) (fall regs st)
+
+    unfoldable pub move : Configuration → Move
+    move c = carryOut (decode p (c .pc)) (c .at) (c .regs) (c .stack)
+
+    -- The machine emits first what is pending and then, until nothing is left, what its moves emit; and all that its moves read is in range.
+    unfoldable pub Emits : Trace → Now → Trace → Type 0
+    Emits [] (idle regs) [] = Unit {0}
+    Emits [] (idle regs) (e ∷ t) = ⊥
+    Emits [] (busy c) [] = ⊥
+    Emits [] (busy c) (e ∷ t) = Fits p (c .pc) × (move c .first ≡ shown e) × Emits (move c .more) (move c .after) t
+    Emits (o ∷ os) now [] = ⊥
+    Emits (o ∷ os) now (e ∷ t) = (o ≡ shown e) × Emits os now t

@@ -1,0 +1,83 @@
+-- Running to the next end: when the machine can, and what it then finds, in terms of the trace.
+use mathlib.Core.Path.{_≡_}
+use mathlib.Core.List.{List, [], _∷_}
+use Prim.Native.Nat.{ℕ, zero, suc, _+_, _*_, _-_, _≤_}
+use lib.ListN.{length, take}
+use Rattle.syntax.specs.Limits.{spansLength, registers}
+use Rattle.semantics.specs.States.{State}
+use Rattle.semantics.specs.Walk.{step, miss, end, Trace}
+use Rattle.machine.specs.declared.Machine.{Machine}
+use Rattle.machine.specs.declared.Stop.{Stop}
+use Rattle.machine.specs.declared.Stop.the-variants.{End, Nothing, Spent}
+use Rattle.machine.specs.Code.{Program, RepeatFits}
+use Rattle.machine.specs.Moves.{Frame, explore, again, undo, Stack, Now, idle, busy, set2, fall, Emits}
+use Rattle.machine.specs.Words.{stackOf}
+
+-- The next end of a trace -----------------------------------------------------
+
+-- an end, with the steps used up to it, its state and what then remains; or nothing is left; or the steps are spent
+pub data Found : Type 0 where
+  ended : (used : ℕ) → State → (rest : Trace) → Found
+  nothing : (used : ℕ) → Found
+  spent : Found
+
+-- within `left` steps, when `used` are used already
+unfoldable pub until : (left used : ℕ) → Trace → Found
+until left used [] = nothing used
+until zero used (e ∷ t) = spent
+until (suc left) used (step ∷ t) = until left (suc used) t
+until (suc left) used (miss place at ∷ t) = until left (suc used) t
+until (suc left) used (end s ∷ t) = ended (suc used) s t
+
+-- The stack -------------------------------------------------------------------
+
+-- what falling back to a frame reads and writes is in range
+abbrev pub FrameFits : Program → Frame → Type 0
+FrameFits p (explore pc at) = Unit {0}
+FrameFits p (again q n at) = RepeatFits p q
+FrameFits p (undo i a b) = i + 2 ≤ registers
+
+abbrev pub StackFits : Program → Stack → Type 0
+StackFits p [] = Unit {0}
+StackFits p (f ∷ fs) = FrameFits p f × StackFits p fs
+
+abbrev pub frames : Now → Stack
+frames (idle regs) = []
+frames (busy c) = c .stack
+
+-- the registers when all is undone
+unfoldable pub replay : List ℕ → Stack → List ℕ
+replay regs [] = regs
+replay regs (explore pc at ∷ st) = replay regs st
+replay regs (again q n at ∷ st) = replay regs st
+replay regs (undo i a b ∷ st) = replay (set2 regs i a b) st
+
+abbrev pub origin : Now → List ℕ
+origin (idle regs) = regs
+origin (busy c) = replay (c .regs) (c .stack)
+
+-- Ready -------------------------------------------------------------------------
+
+-- The machine can run for `budget` steps over a work area of `room` numbers: it emits t, all that it reads and writes stays in range, and
+-- once nothing is left the registers are `first`. A frame takes four numbers, and a move adds at most two frames.
+pub record Ready (p sub : List ℕ) (room budget : ℕ) (first : List ℕ) (now : Now) (t : Trace) : Type 0 where
+  pub emits : Emits p sub [] now t
+  pub fits : StackFits p (frames now)
+  pub low : 4 * length (frames now) + 8 * budget ≤ room
+  pub back : origin now ≡ first
+
+-- At an end with the state s, reached after `used` steps: the machine's numbers are the state's, and falling back makes it ready again, for
+-- the steps that are left and the rest of the trace.
+pub record Reached (p sub : List ℕ) (room budget : ℕ) (first : List ℕ) (used : ℕ) (s : State) (rest : Trace) (m : Machine) (regs work : List ℕ) : Type 0 where
+  pub few : used ≤ budget
+  pub at : s .at ≡ m .at
+  pub spans : s .spans ≡ take spansLength regs
+  pub low : 4 * m .height ≤ room
+  pub fits : StackFits p (stackOf work (m .height))
+  pub ready : Ready p sub room (budget - used) first (fall p regs (stackOf work (m .height))) rest
+
+-- How a run stops that finds so much, with these registers and this work area left behind.
+pub data Agrees (p sub : List ℕ) (room budget : ℕ) (first regs work : List ℕ) : Found → Stop → Type 0 where
+  atEnd : {used : ℕ} {s : State} {rest : Trace} {m : Machine} → Reached p sub room budget first used s rest m regs work → Agrees p sub room budget first regs work (ended used s rest) (End used m)
+  allTried : {used : ℕ} → used ≤ budget → regs ≡ first → Agrees p sub room budget first regs work (nothing used) (Nothing used)
+  outOfSteps : Agrees p sub room budget first regs work spent Spent

@@ -1,0 +1,48 @@
+-- What the code's numbers stand for: the work area holds the stack, and a `Machine` tells where the machine stands.
+use mathlib.Core.List.{List, [], _∷_}
+use mathlib.Core.Bool.{Bool, true, false, _&&_}
+use Prim.Native.Nat.{ℕ, zero, suc, _+_, _*_}
+use lib.ListN.{length, getD}
+use lib.Dec.{ltb, leb}
+use Rattle.syntax.specs.Limits.{unset}
+use Rattle.semantics.specs.Items.{sameAt}
+use Rattle.machine.specs.declared.Machine.{Machine}
+use Rattle.machine.specs.Code.{decodeAs}
+use Rattle.machine.specs.Moves.{Frame, explore, again, undo, Stack, Configuration, Now, idle, busy, carryOut, move}
+
+-- A frame takes four numbers, the first of which is its kind. An undo frame has its register between the two values: side by side, they would
+-- be read as one word of 64 bits just after they were written as two of 32, and that stalls.
+unfoldable pub frameOf : (kind a b c : ℕ) → Frame
+frameOf zero a b c = explore a b
+frameOf (suc zero) a b c = again a b c
+frameOf (suc (suc n)) a b c = undo b a c
+
+unfoldable pub frameAt : List ℕ → ℕ → Frame
+frameAt work h = frameOf (getD work (4 * h) 0) (getD work (4 * h + 1) 0) (getD work (4 * h + 2) 0) (getD work (4 * h + 3) 0)
+
+-- the first h frames of a work area, the newest first
+unfoldable pub stackOf : List ℕ → ℕ → Stack
+stackOf work zero = []
+stackOf work (suc h) = frameAt work h ∷ stackOf work h
+
+abbrev pub configurationOf : List ℕ → List ℕ → Machine → Configuration
+configurationOf regs work m = record { pc = m .pc; at = m .at; regs = regs; stack = stackOf work (m .height) }
+
+abbrev pub pickNow : Bool → Now → Now → Now
+pickNow true a b = a
+pickNow false a b = b
+
+abbrev pub nowOf : List ℕ → List ℕ → Machine → Now
+nowOf regs work m = pickNow (m .live) (busy (configurationOf regs work m)) (idle regs)
+
+-- what one move leaves
+abbrev pub movedOn : (p sub regs work : List ℕ) → Machine → Now
+movedOn p sub regs work m = move p sub (configurationOf regs work m) .after
+
+-- the same, where the node is of a known kind
+abbrev pub carried : ℕ → (p sub regs work : List ℕ) → Machine → Now
+carried kind p sub regs work m = carryOut p sub (decodeAs kind p (m .pc)) (m .at) regs (stackOf work (m .height)) .after
+
+-- whether a span from `from` on is set and its n bytes stand at a position too
+abbrev pub refers : List ℕ → (from n at : ℕ) → Bool
+refers sub from n at = ltb from unset && (leb (at + n) (length sub) && sameAt sub n from at)

@@ -1,0 +1,80 @@
+// One step, and running to the next end.
+use crate::Machine;
+use crate::Stop;
+use crate::nodes::begin_branch;
+use crate::nodes::begin_last_branch;
+use crate::nodes::close_group;
+use crate::nodes::open_group;
+use crate::nodes::take_byte;
+use crate::nodes::test_assertion;
+use crate::nodes::test_reference;
+use crate::repeats::end_round;
+use crate::repeats::enter_repeat;
+ghost use mathlib.Core.Path.{_≡_};
+ghost use mathlib.Core.List.{List};
+ghost use Prim.Native.Nat.{ℕ, _+_, _*_, _≤_, _<_, _^_};
+ghost use lib.ListN.{length, getD};
+ghost use Rattle.syntax.specs.Limits.{registers};
+ghost use Rattle.semantics.specs.Walk.{Trace};
+ghost use Rattle.machine.specs.Code.{Fits};
+ghost use Rattle.machine.specs.Words.{stackOf, nowOf, movedOn};
+ghost use Rattle.machine.specs.Ready.{until, StackFits, Ready, Agrees};
+
+// One node that is no end; `kind` is its first number.
+fn step(
+    code: &[u32],
+    sub: &[u8],
+    regs: &mut [u32],
+    work: &mut [u32],
+    kind: u32,
+    m: Machine,
+) -> Machine
+    requires { ⌜ (kind ≡ getD (now code) (m .pc) 0) × (kind ≤ 8) × (length (now regs) ≡ registers) × (4 * m .height + 8 ≤ length (now work)) × (length (now sub) < 2 ^ 32) × (length (now code) < 2 ^ 32) ⌝ }
+    requires { ⌜ Fits (now code) (m .pc) ⌝ }
+    requires { ⌜ StackFits (now code) (stackOf (now work) (m .height)) ⌝ }
+    ensures { λ r. ⌜ nowOf (now (regs .exit)) (now (work .exit)) r ≡ movedOn (now (code .entry)) (now (sub .entry)) (now (regs .entry)) (now (work .entry)) m ⌝ }
+{
+    match kind {
+        0 => take_byte(code, sub, regs, work, m),
+        1 => test_assertion(code, sub, regs, work, m),
+        2 => test_reference(code, sub, regs, work, m),
+        3 => open_group(code, regs, work, m),
+        4 => close_group(code, regs, work, m),
+        5 => begin_branch(code, work, m),
+        6 => begin_last_branch(code, m),
+        7 => enter_repeat(code, regs, work, m),
+        _ => end_round(code, regs, work, m),
+    }
+}
+
+// Walks on to the next end, within `budget` steps. To go on after an end, fall back and call again.
+pub fn run_to_end(
+    code: &[u32],
+    sub: &[u8],
+    regs: &mut [u32],
+    work: &mut [u32],
+    m: Machine,
+    budget: u32,
+) -> Stop
+    requires { ⌜ (length (now regs) ≡ registers) × (length (now sub) < 2 ^ 32) × (length (now code) < 2 ^ 32) ⌝ }
+    requires { ⌜ ((first : List ℕ) × (t : Trace) × Ready (now code) (now sub) (length (now work)) budget first (nowOf (now regs) (now work) m) t) ⌝ }
+    ensures { λ r. ⌜ ((first : List ℕ) (t : Trace) → Ready (now (code .entry)) (now (sub .entry)) (length (now (work .entry))) budget first (nowOf (now (regs .entry)) (now (work .entry)) m) t
+        → Agrees (now (code .entry)) (now (sub .entry)) (length (now (work .entry))) budget first (now (regs .exit)) (now (work .exit)) (until budget 0 t) r) ⌝ }
+{
+    let mut used: u32 = 0;
+    let mut head = m;
+    while head.live {
+        if used == budget {
+            return Stop::Spent;
+        }
+        let pc = head.pc as usize;
+        let kind = code[pc];
+        used += 1;
+        if 8 < kind {
+            return Stop::End(used, head);
+        }
+        let next = step(code, sub, regs, work, kind, head);
+        head = next;
+    }
+    Stop::Nothing(used)
+}

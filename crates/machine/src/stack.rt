@@ -1,0 +1,121 @@
+// The stack in the work area, four numbers for each frame, and the registers, whose every change is undone by a frame.
+use crate::Machine;
+ghost use mathlib.Core.Path.{_≡_};
+ghost use mathlib.Core.List.{_∷_};
+ghost use Prim.Native.Nat.{_+_, _*_, _≤_};
+ghost use lib.ListN.{length, getD};
+ghost use Rattle.syntax.specs.Limits.{registers};
+ghost use Rattle.machine.specs.Code.{repeatAt};
+ghost use Rattle.machine.specs.Moves.{set2, saved, begin, fall};
+ghost use Rattle.machine.specs.Words.{frameOf, stackOf, nowOf};
+ghost use Rattle.machine.specs.Ready.{StackFits};
+
+// The kinds of frames.
+pub const EXPLORE: u32 = 0;
+
+pub const AGAIN: u32 = 1;
+
+const UNDO: u32 = 2;
+
+// A frame goes onto the stack.
+pub fn push(work: &mut [u32], height: usize, kind: u32, a: u32, b: u32, c: u32) -> usize
+    requires { ⌜ 4 * height + 4 ≤ length (now work) ⌝ }
+    ensures { λ r. ⌜ (r ≡ height + 1) × (stackOf (now (work .exit)) (height + 1) ≡ frameOf kind a b c ∷ stackOf (now (work .entry)) height) ⌝ }
+{
+    let w = 4 * height;
+    work[w] = kind;
+    work[w + 1] = a;
+    work[w + 2] = b;
+    work[w + 3] = c;
+    height + 1
+}
+
+// Two registers are written.
+fn write_pair(regs: &mut [u32], i: usize, x: u32, y: u32)
+    requires { ⌜ i + 2 ≤ length (now regs) ⌝ }
+    ensures { λ _. ⌜ now (regs .exit) ≡ set2 (now (regs .entry)) i x y ⌝ }
+{
+    regs[i] = x;
+    regs[i + 1] = y;
+}
+
+// Two registers are written, and the frame that undoes it is pushed.
+pub fn save_and_write(
+    regs: &mut [u32],
+    work: &mut [u32],
+    height: usize,
+    register: u32,
+    x: u32,
+    y: u32,
+) -> usize
+    requires { ⌜ (register + 2 ≤ length (now regs)) × (4 * height + 4 ≤ length (now work)) ⌝ }
+    ensures { λ r. ⌜ (r ≡ height + 1) × (now (regs .exit) ≡ set2 (now (regs .entry)) register x y) × (stackOf (now (work .exit)) (height + 1) ≡ saved (now (regs .entry)) register ∷ stackOf (now (work .entry)) height) ⌝ }
+{
+    let i = register as usize;
+    let a = regs[i];
+    let b = regs[i + 1];
+    let h = push(work, height, UNDO, a, register, b);
+    write_pair(regs, i, x, y);
+    h
+}
+
+// Round `n` begins of the repeat whose numbers stand at `q`.
+pub fn begin_round(
+    code: &[u32],
+    regs: &mut [u32],
+    work: &mut [u32],
+    q: usize,
+    n: u32,
+    at: u32,
+    height: usize,
+) -> Machine
+    requires { ⌜ (q + 6 ≤ length (now code)) × (getD (now code) (q + 3) 0 + 2 ≤ length (now regs)) × (4 * height + 4 ≤ length (now work)) ⌝ }
+    ensures { λ m. ⌜ nowOf (now (regs .exit)) (now (work .exit)) m ≡ begin (repeatAt (now (code .entry)) q) n at (now (regs .entry)) (stackOf (now (work .entry)) height) ⌝ }
+{
+    let register = code[q + 3];
+    let body = code[q + 4];
+    let h = save_and_write(regs, work, height, register, n, at);
+    Machine {
+        pc: body,
+        at: at,
+        height: h,
+        live: true,
+    }
+}
+
+// Falls back: undoes changes of registers until a frame is found to go on with.
+pub fn fall_back(code: &[u32], regs: &mut [u32], work: &mut [u32], height: usize) -> Machine
+    requires { ⌜ (length (now regs) ≡ registers) × (4 * height ≤ length (now work)) ⌝ }
+    requires { ⌜ StackFits (now code) (stackOf (now work) height) ⌝ }
+    ensures { λ m. ⌜ nowOf (now (regs .exit)) (now (work .exit)) m ≡ fall (now (code .entry)) (now (regs .entry)) (stackOf (now (work .entry)) height) ⌝ }
+{
+    let mut h = height;
+    while 0 < h {
+        h -= 1;
+        let w = 4 * h;
+        let kind = work[w];
+        let a = work[w + 1];
+        let b = work[w + 2];
+        let c = work[w + 3];
+        if kind == EXPLORE {
+            return Machine {
+                pc: a,
+                at: b,
+                height: h,
+                live: true,
+            };
+        }
+        if kind == AGAIN {
+            let q = a as usize;
+            return begin_round(code, regs, work, q, b, c, h);
+        }
+        let i = b as usize;
+        write_pair(regs, i, a, c);
+    }
+    Machine {
+        pc: 0,
+        at: 0,
+        height: 0,
+        live: false,
+    }
+}

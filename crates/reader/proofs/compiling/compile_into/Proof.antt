@@ -1,0 +1,58 @@
+-- `compile_into` meets its contract: each answer is a law of Compilations, at what the two passes ensure.
+use Rattle.reader.proofs.Compilations.{stands, entered, dangling, parse-refused}
+use borrow.Author.Needs.{needs}
+use Rattle.reader.proofs.compiling.compile_into.Statement.{statement}
+use Rattle.reader.proofs.compiling.compile_into.Tie as tie
+
+read-rule-requires : tie.Need-read-rule-requires
+read-rule-requires c κs = search needs
+
+enum-known-r : tie.Need-enum-known-r
+enum-known-r c = search needs
+
+enum-known-r-2 : tie.Need-enum-known-r-2
+enum-known-r-2 c = search needs
+
+link-requires : tie.Need-link-requires
+link-requires c κs = stands _ _ _ _ _ (rw (c .before .before .r2 .given .1) at (c .before .before .before .before .before .before .read-rule .ensures))
+
+enum-known-l : tie.Need-enum-known-l
+enum-known-l c = search needs
+
+enum-known-l-2 : tie.Need-enum-known-l-2
+enum-known-l-2 c = search needs
+
+same-length : tie.Need-same-length
+same-length c = search needs
+
+returns : tie.Need-returns
+returns c = parse-refused _ _ _ _ (rw (c .before .r .given .1) at (c .before .before .before .before .before .read-rule .ensures))
+
+same-length-2 : tie.Need-same-length-2
+same-length-2 c = search needs
+
+returns-2 : tie.Need-returns-2
+returns-2 c = entered _ _ _ _ _ (rw (c .before .before .before .before .before .before .before .before .r2 .given .1) at (c .before .before .before .before .before .before .before .before .before .before .before .before .read-rule .ensures)) _ _ (c .before .before .before .before .before .link .ensures) _ (c .before .l .given .1)
+
+same-length-3 : tie.Need-same-length-3
+same-length-3 c = search needs
+
+returns-3 : tie.Need-returns-3
+returns-3 c = dangling _ _ _ _ _ (rw (c .before .before .before .before .before .before .before .before .r2 .given .1) at (c .before .before .before .before .before .before .before .before .before .before .before .before .read-rule .ensures)) _ _ (c .before .before .before .before .before .link .ensures) _ (c .before .l2 .given .1)
+
+pub compile-into-spec : {M : Type 1} → statement M
+compile-into-spec =
+    tie.close
+    (tie.spec
+    read-rule-requires
+    enum-known-r
+    enum-known-r-2
+    link-requires
+    enum-known-l
+    enum-known-l-2
+    same-length
+    returns
+    same-length-2
+    returns-2
+    same-length-3
+    returns-3)

@@ -1,0 +1,270 @@
+// Reads a rule's alternations, sequences, items and groups, and appends a node for each part to a lent area.
+use lexer::peek;
+use syntax::Reason;
+use syntax::Refusal;
+ghost use mathlib.Core.Path.{_≡_};
+ghost use Prim.Native.Nat.{_+_, _≤_, _<_};
+ghost use lib.ListN.{length};
+ghost use Rattle.syntax.specs.Limits.{ruleLimit, ruleAreaNeed};
+ghost use Rattle.syntax.specs.Grammar.{ends};
+ghost use Rattle.reader.specs.Says.{behindNode, Ready, Groups, Turns, Branch, Furthers, Alternates, Reads};
+
+mod compiling;
+mod nodes;
+mod parts;
+
+pub use compiling::Compilation;
+pub use compiling::compile;
+use nodes::BRANCH;
+use nodes::FINISH;
+use nodes::LAST;
+use nodes::put_three;
+use parts::close;
+use parts::opening;
+use parts::other;
+
+// Bytes that a rule gives a meaning, and what stands past its end, as `peek` gives them.
+const OPENING: u32 = b'(' as u32;
+
+const CLOSING: u32 = b')' as u32;
+
+const QUESTION: u32 = b'?' as u32;
+
+const COLON: u32 = b':' as u32;
+
+const BAR: u32 = b'|' as u32;
+
+const END: u32 = 256;
+
+// What a repeat would find behind a part of a sequence: nothing that it can repeat, an item or a group, or a repeat.
+const NOTHING: u32 = 0;
+
+const REPEATABLE: u32 = 1;
+
+const REPEATED: u32 = 2;
+
+// How deep groups may nest.
+const NESTING_LIMIT: u32 = 24;
+
+// How far a rule has been read: the position in it, the numbers of the area that are used, and the groups opened.
+pub struct Cursor {
+    pub at: usize,
+    pub used: usize,
+    pub opened: u32,
+}
+
+// What was read: where it ends and the position of its last node, or 0 for none.
+pub enum Answer {
+    Sound(Cursor, usize),
+    Refused(Refusal),
+}
+
+// One part of a sequence: where it ends, its position, and what a repeat would find behind it.
+enum Turn {
+    Goes(Cursor, usize, u32),
+    Ends(Refusal),
+}
+
+// A group's opening: where its inside begins, the groups then opened, and its number, 0 for one that does not capture.
+enum Opening {
+    Opens(usize, u32, u32),
+    Unopened(Refusal),
+}
+
+// The cursor at a position, behind a node of n numbers.
+fn behind(c: Cursor, at: usize, n: usize) -> Cursor
+    requires { ⌜ c .used + n < 4294967296 ⌝ }
+    ensures { λ r. ⌜ r ≡ behindNode c at n ⌝ }
+{
+    let used = c.used;
+    let opened = c.opened;
+    Cursor {
+        at: at,
+        used: used + n,
+        opened: opened,
+    }
+}
+
+// A group, whose opening bracket stands at the cursor, behind the part at `before`.
+fn group(rule: &[u8], flags: u32, area: &mut [u32], c: Cursor, before: usize, depth: u32) -> Answer
+    requires { ⌜ Ready (length (now rule)) (now area) c × (c .at < length (now rule)) × (before < c .used) ⌝ }
+    ensures { λ r. ⌜ Groups (now (rule .entry)) flags depth (now (area .entry)) (now (area .exit)) c before r ⌝ }
+{
+    let at = c.at;
+    let used = c.used;
+    let opened = c.opened;
+    let o = opening(rule, at, opened);
+    match o {
+        Opening::Unopened(f) => Answer::Refused(f),
+        Opening::Opens(start, next, number) => {
+            if depth == 0 {
+                return Answer::Refused(Refusal {
+                    place: at,
+                    reason: Reason::TooDeep,
+                });
+            }
+            let r = alternation(
+                rule,
+                flags,
+                area,
+                Cursor {
+                    at: start,
+                    used: used,
+                    opened: next,
+                },
+                depth - 1,
+            );
+            match r {
+                Answer::Refused(f) => Answer::Refused(f),
+                Answer::Sound(d, p) => close(rule, area, at, number, before, d, p),
+            }
+        }
+    }
+}
+
+// One part of a sequence whose last part so far stands at `last`: an item, a group, or a repeat of that part.
+fn piece(
+    rule: &[u8],
+    flags: u32,
+    area: &mut [u32],
+    c: Cursor,
+    last: usize,
+    kind: u32,
+    depth: u32,
+) -> Turn
+    requires { ⌜ Ready (length (now rule)) (now area) c × (c .at < length (now rule)) × (last < c .used) ⌝ }
+    ensures { λ r. ⌜ Turns (now (rule .entry)) flags depth (now (area .entry)) (now (area .exit)) c last kind r ⌝ }
+{
+    let at = c.at;
+    let b = peek(rule, at);
+    if b == OPENING {
+        let r = group(rule, flags, area, c, last, depth);
+        match r {
+            Answer::Refused(f) => {
+                return Turn::Ends(f);
+            }
+            Answer::Sound(d, p) => {
+                return Turn::Goes(d, p, REPEATABLE);
+            }
+        }
+    }
+    other(rule, flags, area, c, last, kind)
+}
+
+// Whether a sequence ends at a byte.
+fn stops(b: u32) -> bool
+    ensures { λ r. ⌜ r ≡ ends b ⌝ }
+{
+    match b {
+        BAR | CLOSING | END => true,
+        _ => false,
+    }
+}
+
+// The parts up to a bar, a closing bracket or the end.
+fn sequence(rule: &[u8], flags: u32, area: &mut [u32], c: Cursor, depth: u32) -> Answer
+    requires { ⌜ Ready (length (now rule)) (now area) c ⌝ }
+    ensures { λ r. ⌜ Branch (now (rule .entry)) flags depth (now (area .entry)) (now (area .exit)) c r ⌝ }
+{
+    let mut d = c;
+    let mut last: usize = 0;
+    let mut kind = NOTHING;
+    loop {
+        let at = d.at;
+        let b = peek(rule, at);
+        let done = stops(b);
+        if done {
+            return Answer::Sound(d, last);
+        }
+        let r = piece(rule, flags, area, d, last, kind, depth);
+        match r {
+            Turn::Ends(f) => {
+                return Answer::Refused(f);
+            }
+            Turn::Goes(e, p, k) => {
+                d = e;
+                last = p;
+                kind = k;
+            }
+        }
+    }
+}
+
+// The further branches as long as a bar follows, behind the first, whose last part stands at `first`.
+fn further(rule: &[u8], flags: u32, area: &mut [u32], c: Cursor, first: usize, depth: u32) -> Answer
+    requires { ⌜ Ready (length (now rule)) (now area) c × (first < c .used) ⌝ }
+    ensures { λ r. ⌜ Furthers (now (rule .entry)) flags depth (now (area .entry)) (now (area .exit)) c first r ⌝ }
+{
+    let mut d = c;
+    let mut last = first;
+    let mut before: usize = 0;
+    loop {
+        let at = d.at;
+        let used = d.used;
+        let b = peek(rule, at);
+        if b != BAR {
+            if before == 0 {
+                return Answer::Sound(d, last);
+            }
+            put_three(area, used, LAST, last as u32, before as u32);
+            return Answer::Sound(behind(d, at, 3), used);
+        }
+        put_three(area, used, BRANCH, last as u32, before as u32);
+        let r = sequence(rule, flags, area, behind(d, at + 1, 3), depth);
+        match r {
+            Answer::Refused(f) => {
+                return Answer::Refused(f);
+            }
+            Answer::Sound(e, p) => {
+                d = e;
+                last = p;
+                before = used;
+            }
+        }
+    }
+}
+
+// The branches.
+fn alternation(rule: &[u8], flags: u32, area: &mut [u32], c: Cursor, depth: u32) -> Answer
+    requires { ⌜ Ready (length (now rule)) (now area) c ⌝ }
+    ensures { λ r. ⌜ Alternates (now (rule .entry)) flags depth (now (area .entry)) (now (area .exit)) c r ⌝ }
+{
+    let r = sequence(rule, flags, area, c, depth);
+    match r {
+        Answer::Refused(f) => Answer::Refused(f),
+        Answer::Sound(d, p) => further(rule, flags, area, d, p, depth),
+    }
+}
+
+// Reads a whole rule. Its nodes stand behind that of the end, at position 0.
+pub fn read_rule(rule: &[u8], flags: u32, area: &mut [u32]) -> Answer
+    requires { ⌜ (length (now rule) ≤ ruleLimit) × (ruleAreaNeed ≤ length (now area)) ⌝ }
+    ensures { λ r. ⌜ Reads (now (rule .entry)) flags (now (area .exit)) r ⌝ }
+{
+    area[0] = FINISH;
+    let r = alternation(
+        rule,
+        flags,
+        area,
+        Cursor {
+            at: 0,
+            used: 1,
+            opened: 0,
+        },
+        NESTING_LIMIT,
+    );
+    match r {
+        Answer::Refused(f) => Answer::Refused(f),
+        Answer::Sound(d, p) => {
+            let at = d.at;
+            let b = peek(rule, at);
+            if b == END {
+                return Answer::Sound(d, p);
+            }
+            Answer::Refused(Refusal {
+                place: at,
+                reason: Reason::UnopenedGroup,
+            })
+        }
+    }
+}

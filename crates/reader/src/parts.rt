@@ -1,0 +1,200 @@
+// Reads the parts of a sequence that are no groups, and the brackets of a group.
+use crate::Answer;
+use crate::CLOSING;
+use crate::COLON;
+use crate::Cursor;
+use crate::NOTHING;
+use crate::Opening;
+use crate::QUESTION;
+use crate::REPEATABLE;
+use crate::REPEATED;
+use crate::Turn;
+use crate::behind;
+use crate::nodes::ASSERTION;
+use crate::nodes::PLAIN;
+use crate::nodes::REFERENCE;
+use crate::nodes::assertion_word;
+use crate::nodes::put_byte;
+use crate::nodes::put_four;
+use crate::nodes::put_group;
+use crate::nodes::put_repeat;
+use crate::nodes::put_three;
+use lexer::Token;
+use lexer::item_at;
+use lexer::peek;
+use lexer::quantifier_at;
+use syntax::Greed;
+use syntax::Most;
+use syntax::Quantifier;
+use syntax::Reason;
+use syntax::Refusal;
+ghost use mathlib.Core.Path.{_≡_};
+ghost use Prim.Native.Nat.{_+_, _≤_, _<_};
+ghost use lib.ListN.{length};
+ghost use Rattle.syntax.specs.Limits.{groupLimit};
+ghost use Rattle.syntax.specs.Read.{byte, refused};
+ghost use Rattle.syntax.specs.Grammar.{Sequence, unfitFor};
+ghost use Rattle.reader.specs.Says.{Ready, kindOf, Items, Others, Repeats, SaysOpening, Closes};
+
+// How many groups a rule may have.
+const GROUP_LIMIT: u32 = 32;
+
+// The refusal of a repeat whose bounds do not fit.
+fn unfit(at: usize, kind: u32) -> Refusal
+    ensures { λ r. ⌜ ((q : Sequence) → kind ≡ kindOf q → unfitFor q at ≡ refused (r .place) (r .reason)) ⌝ }
+{
+    if kind == NOTHING {
+        return Refusal {
+            place: at,
+            reason: Reason::NothingToRepeat,
+        };
+    }
+    Refusal {
+        place: at,
+        reason: Reason::BadBraces,
+    }
+}
+
+// A repeat of the last part, which stands at `last`; the repeat ends at `next`.
+fn repeated(
+    area: &mut [u32],
+    c: Cursor,
+    last: usize,
+    kind: u32,
+    least: u32,
+    most: Most,
+    greed: Greed,
+    next: usize,
+) -> Turn
+    requires { ⌜ Ready next (now area) c × (c .at < next) × (last < c .used) ⌝ }
+    ensures { λ r. ⌜ Repeats (now (area .entry)) (now (area .exit)) c last kind least most greed next r ⌝ }
+{
+    let at = c.at;
+    let used = c.used;
+    if kind == NOTHING {
+        return Turn::Ends(Refusal {
+            place: at,
+            reason: Reason::NothingToRepeat,
+        });
+    }
+    if kind == REPEATED {
+        return Turn::Ends(Refusal {
+            place: at,
+            reason: Reason::RepeatOnRepeat,
+        });
+    }
+    let before = area[last + 1];
+    put_repeat(area, used, least, most, greed, last as u32, before);
+    Turn::Goes(behind(c, next, 8), used, REPEATED)
+}
+
+// An item that is no group, behind the part at `last`.
+fn item(rule: &[u8], flags: u32, area: &mut [u32], c: Cursor, last: usize) -> Turn
+    requires { ⌜ Ready (length (now rule)) (now area) c × (c .at < length (now rule)) × (last < c .used) ⌝ }
+    ensures { λ r. ⌜ Items (now (rule .entry)) flags (now (area .entry)) (now (area .exit)) c last r ⌝ }
+{
+    let at = c.at;
+    let used = c.used;
+    let opened = c.opened;
+    let lexed = item_at(rule, flags, opened, at);
+    let words = lexed.words;
+    let token = lexed.token;
+    match token {
+        Token::BadItem(f) => Turn::Ends(f),
+        Token::Byte(next) => {
+            put_byte(area, used, last as u32, at as u32, words);
+            Turn::Goes(behind(c, next, 11), used, REPEATABLE)
+        }
+        Token::Assert(k, next) => {
+            let which = assertion_word(k);
+            put_four(area, used, ASSERTION, last as u32, at as u32, which);
+            Turn::Goes(behind(c, next, 4), used, NOTHING)
+        }
+        Token::Reference(n, next) => {
+            put_four(area, used, REFERENCE, last as u32, at as u32, n);
+            Turn::Goes(behind(c, next, 4), used, REPEATABLE)
+        }
+    }
+}
+
+// One part of a sequence that is no group.
+pub fn other(rule: &[u8], flags: u32, area: &mut [u32], c: Cursor, last: usize, kind: u32) -> Turn
+    requires { ⌜ Ready (length (now rule)) (now area) c × (c .at < length (now rule)) × (last < c .used) × (byte (now rule) (c .at) ≡ 40 → ⊥) ⌝ }
+    ensures { λ r. ⌜ Others (now (rule .entry)) flags (now (area .entry)) (now (area .exit)) c last kind r ⌝ }
+{
+    let at = c.at;
+    let x = quantifier_at(rule, at);
+    match x {
+        Quantifier::Absent => item(rule, flags, area, c, last),
+        Quantifier::Stray => Turn::Ends(Refusal {
+            place: at,
+            reason: Reason::BadBraces,
+        }),
+        Quantifier::Unfit => Turn::Ends(unfit(at, kind)),
+        Quantifier::Times(least, most, greed, next) => repeated(
+            area,
+            c,
+            last,
+            kind,
+            least,
+            most,
+            greed,
+            next,
+        ),
+    }
+}
+
+// The opening of a group, whose bracket stands at a position.
+pub fn opening(rule: &[u8], at: usize, opened: u32) -> Opening
+    requires { ⌜ (at < length (now rule)) × (opened ≤ groupLimit) ⌝ }
+    ensures { λ r. ⌜ SaysOpening (now (rule .entry)) at opened r ⌝ }
+{
+    let b = peek(rule, at + 1);
+    if b == QUESTION {
+        let d = peek(rule, at + 2);
+        if d == COLON {
+            return Opening::Opens(at + 3, opened, 0);
+        }
+        return Opening::Unopened(Refusal {
+            place: at,
+            reason: Reason::UnknownGroup,
+        });
+    }
+    if opened < GROUP_LIMIT {
+        return Opening::Opens(at + 1, opened + 1, opened + 1);
+    }
+    Opening::Unopened(Refusal {
+        place: at,
+        reason: Reason::TooManyGroups,
+    })
+}
+
+// The end of the group of a number, 0 for one that does not capture, whose inside stands at p.
+pub fn close(
+    rule: &[u8],
+    area: &mut [u32],
+    opening: usize,
+    number: u32,
+    before: usize,
+    c: Cursor,
+    p: usize,
+) -> Answer
+    requires { ⌜ Ready (length (now rule)) (now area) c × (number ≤ groupLimit) × (before < c .used) × (p < c .used) ⌝ }
+    ensures { λ r. ⌜ Closes (now (rule .entry)) opening number before (now (area .entry)) (now (area .exit)) c p r ⌝ }
+{
+    let at = c.at;
+    let used = c.used;
+    let b = peek(rule, at);
+    if b != CLOSING {
+        return Answer::Refused(Refusal {
+            place: opening,
+            reason: Reason::UnclosedGroup,
+        });
+    }
+    if number == 0 {
+        put_three(area, used, PLAIN, before as u32, p as u32);
+        return Answer::Sound(behind(c, at + 1, 3), used);
+    }
+    put_group(area, used, before as u32, number, p as u32);
+    Answer::Sound(behind(c, at + 1, 7), used)
+}
