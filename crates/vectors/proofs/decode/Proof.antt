@@ -5,8 +5,8 @@ use lib.ListN.{length, length-set}
 use native.Mathlib.Omega.{arith}
 use Prim.Native.Nat.{_≤_, _-_}
 use Rattle.io.proofs.Counting.{counts}
-use Rattle.rule_vectors.proofs.decode.Statement.{statement}
-use Rattle.rule_vectors.proofs.decode.Tie as tie
+use Rattle.vectors.proofs.decode.Statement.{statement}
+use Rattle.vectors.proofs.decode.Tie as tie
 
 abbrev Inv-loop : tie.InvT-loop
 Inv-loop input from to rule₀ at₀ n₀ rule at n = (n ≤ length rule) × (from ≤ at) × (length rule ≡ length rule₀)

@@ -1,15 +1,14 @@
--- The position moves on, within the input.
+-- The position moves on, within the word.
 use borrow.Author.Needs.{needs}
-use lib.ListN.{length}
 use Prim.Native.Nat.{_≤_, _-_}
-use Rattle.rule_vectors.proofs.line_end.Statement.{statement}
-use Rattle.rule_vectors.proofs.line_end.Tie as tie
+use Rattle.vectors.proofs.word_end.Statement.{statement}
+use Rattle.vectors.proofs.word_end.Tie as tie
 
 abbrev Inv-loop : tie.InvT-loop
-Inv-loop input from i₀ i = (from ≤ i) × (i ≤ length input)
+Inv-loop input from to i₀ i = (from ≤ i) × (i ≤ to)
 
 abbrev μ-loop : tie.MeasureT-loop
-μ-loop input from i₀ i = length input - i
+μ-loop input from to i₀ i = to - i
 
 loop-holds : tie.Need-loop-holds Inv-loop μ-loop
 loop-holds c = search needs
@@ -32,8 +31,8 @@ loop-again c = search needs
 returns-2 : tie.Need-returns-2 Inv-loop μ-loop
 returns-2 c = search needs
 
-pub line-end-spec : {M : Type 1} → statement M
-line-end-spec =
+pub word-end-spec : {M : Type 1} → statement M
+word-end-spec =
     tie.close
     (tie.spec
     Inv-loop

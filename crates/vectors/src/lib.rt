@@ -1,0 +1,91 @@
+// Lines of test vectors: digits, hex bytes and the ends of words and lines.
+ghost use Prim.Native.Nat.{_≤_, _<_};
+ghost use lib.ListN.{length};
+ghost use Rattle.io.specs.Counts.{Counts};
+
+// What a hex digit stands for; 0 for any other byte.
+pub fn digit(b: u8) -> u8
+    ensures { λ r. ⌜ r < 16 ⌝ }
+{
+    match b {
+        48..=57 => b - 48,
+        97..=102 => b - 87,
+        _ => 0,
+    }
+}
+
+// The end of the line that begins at a position.
+pub fn line_end(input: &[u8], from: usize) -> usize
+    requires { ⌜ from ≤ length (now input) ⌝ }
+    ensures { λ r. ⌜ (from ≤ r) × (r ≤ length (now (input .entry))) ⌝ }
+{
+    let mut i = from;
+    while i < input.len() {
+        if input[i] == 10 {
+            return i;
+        }
+        i += 1;
+    }
+    i
+}
+
+// The bytes whose hex digits stand from a position to another, as many as there is room for; it says how many.
+pub fn decode(input: &[u8], from: usize, to: usize, rule: &mut [u8]) -> usize
+    requires { ⌜ to ≤ length (now input) ⌝ }
+    ensures { λ r. ⌜ (r ≤ length (now (rule .entry))) × Counts r (now (rule .exit)) ⌝ }
+{
+    let mut at = from;
+    let mut n = 0;
+    while at < to {
+        if to - at < 2 {
+            return n;
+        }
+        if n == rule.len() {
+            return n;
+        }
+        rule[n] = digit(input[at]) * 16 + digit(input[at + 1]);
+        n += 1;
+        at += 2;
+    }
+    n
+}
+
+// The end of the word that begins at a position, before another: a space ends it.
+pub fn word_end(input: &[u8], from: usize, to: usize) -> usize
+    requires { ⌜ (from ≤ to) × (to ≤ length (now input)) ⌝ }
+    ensures { λ r. ⌜ (from ≤ r) × (r ≤ to) ⌝ }
+{
+    let mut i = from;
+    while i < to {
+        if input[i] == 32 {
+            return i;
+        }
+        i += 1;
+    }
+    i
+}
+
+// The beginning of the next word.
+pub fn next_word(from: usize, to: usize) -> usize
+    requires { ⌜ from ≤ to ⌝ }
+    ensures { λ r. ⌜ (from ≤ r) × (r ≤ to) ⌝ }
+{
+    if from < to { from + 1 } else { to }
+}
+
+// The decimal number between two positions, at most 20,000.
+pub fn number(input: &[u8], from: usize, to: usize) -> u32
+    requires { ⌜ to ≤ length (now input) ⌝ }
+    ensures { λ r. ⌜ r ≤ 20000 ⌝ }
+{
+    let mut i = from;
+    let mut n: u32 = 0;
+    while i < to {
+        n = n * 10 + digit(input[i]) as u32;
+        if 20000 < n {
+            return 20000;
+        }
+        i += 1;
+    }
+    n
+}

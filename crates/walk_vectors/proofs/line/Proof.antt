@@ -1,0 +1,121 @@
+-- What is decoded is no longer than the arrays that it is decoded into.
+use native.Mathlib.Omega.{arith}
+use lib.ListN.{length-take}
+use Rattle.syntax.specs.Limits.{ruleLimit}
+use borrow.Author.Needs.{needs}
+use Rattle.walk_vectors.proofs.line.Statement.{statement}
+use Rattle.walk_vectors.proofs.line.Tie as tie
+
+returns : tie.Need-returns
+returns c = search needs
+
+shared-slice-read-digit : tie.Need-shared-slice-read-digit
+shared-slice-read-digit c = search needs
+
+digit-requires : tie.Need-digit-requires
+digit-requires c κs = search needs
+
+cast-flags : tie.Need-cast-flags
+cast-flags c = search needs
+
+word-end-requires : tie.Need-word-end-requires
+word-end-requires c κs = search needs
+
+next-word-requires : tie.Need-next-word-requires
+next-word-requires c κs = search needs
+
+word-end-requires-2 : tie.Need-word-end-requires-2
+word-end-requires-2 c κs = search needs
+
+next-word-requires-2 : tie.Need-next-word-requires-2
+next-word-requires-2 c κs = search needs
+
+word-end-requires-3 : tie.Need-word-end-requires-3
+word-end-requires-3 c κs = search needs
+
+next-word-requires-3 : tie.Need-next-word-requires-3
+next-word-requires-3 c κs = search needs
+
+word-end-requires-4 : tie.Need-word-end-requires-4
+word-end-requires-4 c κs = search needs
+
+next-word-requires-4 : tie.Need-next-word-requires-4
+next-word-requires-4 c κs = search needs
+
+number-requires : tie.Need-number-requires
+number-requires c κs = search needs
+
+number-requires-2 : tie.Need-number-requires-2
+number-requires-2 c κs = search needs
+
+cast-start : tie.Need-cast-start
+cast-start c = search needs
+
+slice-aggregate-decode : tie.Need-slice-aggregate-decode
+slice-aggregate-decode c = search needs
+
+decode-requires : tie.Need-decode-requires
+decode-requires c κs = search needs
+
+slice-aggregate-decode-2 : tie.Need-slice-aggregate-decode-2
+slice-aggregate-decode-2 c = search needs
+
+decode-requires-2 : tie.Need-decode-requires-2
+decode-requires-2 c κs = search needs
+
+array-share-prefix-rule : tie.Need-array-share-prefix-rule
+array-share-prefix-rule c = search needs
+
+slice-aggregate-tell : tie.Need-slice-aggregate-tell
+slice-aggregate-tell c = search needs
+
+array-share-prefix-sub : tie.Need-array-share-prefix-sub
+array-share-prefix-sub c = search needs
+
+slice-aggregate-tell-2 : tie.Need-slice-aggregate-tell-2
+slice-aggregate-tell-2 c = search needs
+
+tell-requires : tie.Need-tell-requires
+unfolding ruleLimit
+tell-requires c κs = (simp length-take (omega (arith, c .before .before .before .before .before .before .before .before .decode .ensures .0)), c .before .before .before .before .before .before .before .before .before .before .before .before .before .before .before .before .before .before .before .before .before .before .before .before .before .before .pre .2, simp length-take (omega (arith, c .before .before .before .before .before .decode2 .ensures .0)), omega (arith, c .before .before .before .before .before .before .before .before .before .before .before .number .ensures, c .before .before .before .before .before .before .before .before .before .before .before .before .before .before .before .before .before .before .before .before .before .before .before .before .before .before .pre .3))
+
+same-length : tie.Need-same-length
+same-length c = search needs
+
+same-length-2 : tie.Need-same-length-2
+same-length-2 c = search needs
+
+returns-2 : tie.Need-returns-2
+returns-2 c = search needs
+
+pub line-spec : {M : Type 1} → statement M
+line-spec =
+    tie.close
+    (tie.spec
+    returns
+    shared-slice-read-digit
+    digit-requires
+    cast-flags
+    word-end-requires
+    next-word-requires
+    word-end-requires-2
+    next-word-requires-2
+    word-end-requires-3
+    next-word-requires-3
+    word-end-requires-4
+    next-word-requires-4
+    number-requires
+    number-requires-2
+    cast-start
+    slice-aggregate-decode
+    decode-requires
+    slice-aggregate-decode-2
+    decode-requires-2
+    array-share-prefix-rule
+    slice-aggregate-tell
+    array-share-prefix-sub
+    slice-aggregate-tell-2
+    tell-requires
+    same-length
+    same-length-2
+    returns-2)

@@ -1,0 +1,96 @@
+#!/usr/bin/env python3
+"""Writes the walks that crates/walk_vectors is run on, and what it must say of them: each end with its captures and steps.
+
+What must be said comes from reference.py, an independent reading of document 01: no line of it is shared with the library.
+Usage: harness/walk_vectors.py (in the repository's root)
+"""
+import random
+import sys
+from pathlib import Path
+
+import reference
+
+TARGET = Path(__file__).resolve().parent.parent / "crates" / "walk_vectors"
+
+# The readings of document 01, its traps, and the inputs that tell the readings of its open points apart: rule, flags, subject.
+READINGS = [
+    (b"", 0, b""), (b"a", 0, b"a"), (b"a", 0, b"b"), (b"a|b", 0, b"b"), (b"a*", 0, b"aa"), (b"(\\d+),(\\d+)", 0, b"1,5"), (b"(a?)*", 0, b"b"),
+    (b"^(?:(\\d{1,3},\\d{3})|(\\d+,\\d+)) L$", 0, b"1,500 L"), (b"[][]", 0, b"]"), (b"[[]]", 0, b"[]"), (b".", 0, b"\n"), (b".", 1, b"\n"), (b"(", 0, b""),
+    (b"a**", 0, b""), (b"\\1", 0, b""), (b"[z-a]", 0, b""), (b"a|ab", 0, b"ab"), (b"(a)b|a", 0, b"a"), (b"(?:()a|()b){2}", 0, b"bb"), (b"\\1*?(a)$", 0, b"aa"),
+    (b"(a?)*", 0, b"aa"), (b"(|a){2,3}$", 0, b"a"), (b"(){3}", 0, b""), (b"a$", 0, b"a\n"), (b"a\\z", 0, b"a\n"), (b"a\\Z", 0, b"a\n"), (b"a$", 2, b"a\nb"), (b"^", 2, b"a\nb\n"),
+    (b"^b", 2, b"a\nb"), (b"\\bab\\b", 0, b"ab c"), (b"\\B.", 0, b"ab"), (b"(a)|a", 0, b"a"), (b"((a)*)*", 0, b"a"), (b"(a|b\\1)+", 0, b"aba"), (b"a?", 0, b"a"), (b"a{1}", 0, b"a"),
+    (b"a{0}", 0, b""), (b"a|a", 0, b"a"), (b"a|a|(a)", 0, b"a"), (b"\\1(a)", 0, b"a"), (b"(?:|a)", 0, b""), (b"(?:)", 0, b""), (b"a*?", 0, b"aa"), (b"a+?b", 0, b"aab"), (b"(a{2}){2}", 0, b"aaaa"),
+    (b"(?:a|ab)(?:c|bcd)", 0, b"abcd"), (b"(.)(.)\\g{-2}\\g{-1}", 0, b"ABAB"), (b"(\\w+)\\s+\\1", 0, b"the the"), (b"(a*)*", 0, b"aa"), (b"(a*)+", 0, b"b"), (b"(?:a*?)*?b", 0, b"aab"),
+    (b"(a|ab)(c|bcd)(d*)", 0, b"abcd"), (b"x*", 0, b"aaa"), (b"(?:a?){3}a{3}", 0, b"aaa"), (b"(a+)(a+)(a+)", 0, b"aaaaa"), (b"[^a]", 0, b"\n"), (b"[\\x80-\\xff]", 0, b"\x80"), (b"\\x00", 0, b"\x00"),
+    (b"(?:a{0,2}){0,2}", 0, b"aaaa"), (b"(a){2,}?", 0, b"aaaa"), (b"\\d+(?:,\\d{3})*", 0, b"1,500,000"), (b"(foo|foobar)(bar)?", 0, b"foobar"),
+]
+ATOMS = ["a", "b", "c", ".", "^", "$", "\\b", "\\B", "\\A", "\\z", "\\Z", "\\d", "\\w", "[ab]", "[^a]", "[a-c]", "\\1", "\\2", "\\g-1", "\\n", "1", "\\N"]
+REPEATS = ["*", "+", "?", "*?", "+?", "??", "{2}", "{0,2}", "{1,}", "{1,2}?", "{0}"]
+
+
+def random_rule(depth):
+    branches = []
+    for _ in range(random.choice([1, 1, 1, 2, 3])):
+        text = ""
+        for _ in range(random.randint(0, 3)):
+            if depth > 0 and random.random() < 0.4:
+                part = "(" + random.choice(["", "?:"]) + random_rule(depth - 1) + ")"
+            else:
+                part = random.choice(ATOMS)
+            if part not in ("^", "$", "\\b", "\\B", "\\A", "\\z", "\\Z") and random.random() < 0.4:
+                part += random.choice(REPEATS)
+            text += part
+        branches.append(text)
+    return "|".join(branches)
+
+
+def told(rule, flags, subject, start, budget):
+    """The lines of one walk, and the steps that it takes."""
+    try:
+        tree, groups = reference.read(rule, flags)
+    except reference.Refuse as refusal:
+        return ["%d at %d" % (refusal.n, refusal.p)], 0
+    lines, walk = [], reference.Walk(subject, tree, budget)
+
+    def on_end(at, spans):
+        shown = "".join(" %d-%d" % spans[g] if g in spans else " -" for g in range(1, groups + 1))
+        lines.append("end %d %d%s" % (walk.steps, at, shown))
+
+    try:
+        walk.run(start, on_end)
+    except reference.Done:
+        pass
+    lines.append("%s %d" % ("spent" if walk.cut else "done", walk.steps))
+    return lines, walk.steps
+
+
+def cases():
+    for rule, flags, subject in READINGS:
+        for start in range(len(subject) + 1):
+            yield rule, flags, subject, start, 20000
+        steps = told(rule, flags, subject, 0, 20000)[1]
+        for budget in {0, steps - 1, steps, steps // 2} - {-1}:
+            yield rule, flags, subject, 0, budget
+    random.seed(1)
+    made = 0
+    while made < 250:
+        rule, subject = random_rule(3).encode(), "".join(random.choice("aab1\nc") for _ in range(random.randint(0, 6))).encode()
+        flags, start, budget = random.randint(0, 3), random.randint(0, len(subject)), random.choice([50, 500, 2000])
+        lines = told(rule, flags, subject, start, budget)[0]
+        if len(lines) < 25:
+            made += 1
+            yield rule, flags, subject, start, budget
+
+
+def main():
+    asked, answers = [], []
+    for rule, flags, subject, start, budget in cases():
+        asked.append("%d %d %d %s %s\n" % (flags, budget, start, rule.hex(), subject.hex()))
+        answers += told(rule, flags, subject, start, budget)[0]
+    TARGET.joinpath("stdin").write_text("".join(asked))
+    TARGET.joinpath("stdout").write_text("".join(line + "\n" for line in answers))
+    print("%d walks, %d bytes, %d lines" % (len(asked), sum(map(len, asked)), len(answers)), file=sys.stderr)
+
+
+if __name__ == "__main__":
+    main()
