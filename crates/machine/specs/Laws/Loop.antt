@@ -9,6 +9,7 @@ use Rattle.syntax.specs.Limits.{spansLength}
 use Rattle.semantics.specs.States.{State}
 use Rattle.semantics.specs.Items.{Tried, fails, goes}
 use Rattle.semantics.specs.Walk.{Event, step, miss, end, Trace}
+use Rattle.semantics.specs.Laws.Loops.{Quiet}
 use Rattle.machine.specs.Code.{Program, Instruction, ends, decodeAs, decode, Fits}
 use Rattle.machine.specs.Moves.{Stack, Configuration, Now, idle, busy, Move, emitting, state, shown, fall, tried, carryOut, move, Emits}
 use Rattle.machine.specs.Ready.{ended, nothing, spent, until, Ready}
@@ -19,15 +20,8 @@ clash e = omega arith
 
 -- Runs of events ----------------------------------------------------------------
 
--- none of the events is an end
-abbrev pub Mute : Trace → Type 0
-Mute [] = Unit {0}
-Mute (step ∷ t) = Mute t
-Mute (miss place at ∷ t) = Mute t
-Mute (end s ∷ t) = ⊥
-
 -- the steps are enough for the run, or they are not
-until-run : (es t : Trace) (left used : ℕ) → Mute es → length es ≤ left → until left used (es ++ t) ≡ until (left - length es) (used + length es) t
+until-run : (es t : Trace) (left used : ℕ) → Quiet es → length es ≤ left → until left used (es ++ t) ≡ until (left - length es) (used + length es) t
 unfolding until
 until-run [] t left used m h = let y : left - 0 ≡ left = omega arith in let z : used + 0 ≡ used = omega arith in rw (y, z)
 until-run (e ∷ es) t zero used m h = absurd (omega arith)
@@ -41,7 +35,7 @@ until-run (miss place at ∷ es) t (suc left) used m h =
     rw (y, z) (until-run es t left (suc used) m (omega arith))
 until-run (end s ∷ es) t (suc left) used m h = absurd m
 
-until-short : (es t : Trace) (left used : ℕ) → Mute es → left < length es → until left used (es ++ t) ≡ spent
+until-short : (es t : Trace) (left used : ℕ) → Quiet es → left < length es → until left used (es ++ t) ≡ spent
 unfolding until
 until-short [] t left used m h = absurd (omega arith)
 until-short (e ∷ es) t zero used m h = refl
@@ -50,7 +44,7 @@ until-short (miss place at ∷ es) t (suc left) used m h = until-short es t left
 until-short (end s ∷ es) t (suc left) used m h = absurd m
 
 -- What `until` finds is where it stands in the trace: behind a run with no end, an end, nothing more, or a step beyond the budget.
-pub until-ended : (t : Trace) (left used n : ℕ) (s : State) (rest : Trace) → until left used t ≡ ended n s rest → (p : Trace) × Mute p × (t ≡ p ++ (end s ∷ rest)) × (n ≡ used + suc (length p)) × (n ≤ used + left)
+pub until-ended : (t : Trace) (left used n : ℕ) (s : State) (rest : Trace) → until left used t ≡ ended n s rest → (p : Trace) × Quiet p × (t ≡ p ++ (end s ∷ rest)) × (n ≡ used + suc (length p)) × (n ≤ used + left)
 unfolding until
 until-ended [] left used n s rest e = absurd (clash (cc))
 until-ended (x ∷ t) zero used n s rest e = absurd (clash (cc))
@@ -66,7 +60,7 @@ until-ended (end u ∷ t) (suc left) used n s rest e =
     let z : suc used ≡ n = cc in
     ([], tt, rw (x, y), omega arith, omega arith)
 
-pub until-nothing : (t : Trace) (left used n : ℕ) → until left used t ≡ nothing n → Mute t × (n ≡ used + length t) × (length t ≤ left)
+pub until-nothing : (t : Trace) (left used n : ℕ) → until left used t ≡ nothing n → Quiet t × (n ≡ used + length t) × (length t ≤ left)
 unfolding until
 until-nothing [] left used n e = let z : used ≡ n = cc in (tt, omega arith, omega arith)
 until-nothing (x ∷ t) zero used n e = absurd (clash (cc))
@@ -74,7 +68,7 @@ until-nothing (step ∷ t) (suc left) used n e = let z = until-nothing t left (s
 until-nothing (miss place at ∷ t) (suc left) used n e = let z = until-nothing t left (suc used) n e in (z .0, omega (arith, z .1), omega (arith, z .2))
 until-nothing (end u ∷ t) (suc left) used n e = absurd (clash (cc))
 
-pub until-spent : (t : Trace) (left used : ℕ) → until left used t ≡ spent → (p : Trace) × (e : Event) × (rest : Trace) × Mute p × (t ≡ p ++ (e ∷ rest)) × (length p ≡ left)
+pub until-spent : (t : Trace) (left used : ℕ) → until left used t ≡ spent → (p : Trace) × (e : Event) × (rest : Trace) × Quiet p × (t ≡ p ++ (e ∷ rest)) × (length p ≡ left)
 unfolding until
 until-spent [] left used e = absurd (clash (cc))
 until-spent (x ∷ t) zero used e = ([], x, t, tt, refl, refl)
@@ -86,15 +80,15 @@ until-spent (miss place at ∷ t) (suc left) used e =
     (miss place at ∷ z .0, z .1, z .2, z .3, ap (λ (es : Trace). miss place at ∷ es) (z .4), ap suc (z .5))
 until-spent (end u ∷ t) (suc left) used e = absurd (clash (cc))
 
-mute-shown : (o e : Event) (os es : Trace) → o ≡ shown e → Mute (o ∷ os) → Mute es → Mute (e ∷ es)
-mute-shown o step os es q m n = n
-mute-shown o (miss place at) os es q m n = n
-mute-shown o (end s) os es q m n = rw q at m
+quiet-shown : (o e : Event) (os es : Trace) → o ≡ shown e → Quiet (o ∷ os) → Quiet es → Quiet (e ∷ es)
+quiet-shown o step os es q m n = n
+quiet-shown o (miss place at) os es q m n = n
+quiet-shown o (end s) os es q m n = rw q at m
 
-mute-tail : (o : Event) (os : Trace) → Mute (o ∷ os) → Mute os
-mute-tail step os m = m
-mute-tail (miss place at) os m = m
-mute-tail (end s) os m = absurd m
+quiet-tail : (o : Event) (os : Trace) → Quiet (o ∷ os) → Quiet os
+quiet-tail step os m = m
+quiet-tail (miss place at) os m = m
+quiet-tail (end s) os m = absurd m
 
 module _ (p : Program) (sub : List ℕ) where
   -- what is pending stands first in the trace
@@ -103,18 +97,18 @@ module _ (p : Program) (sub : List ℕ) where
     rest : Trace
     whole : t ≡ run ++ rest
     long : length run ≡ length pend
-    mute : Mute run
+    no-end : Quiet run
     emits : Emits p sub [] now rest
 
-  split : (pend : Trace) (now : Now) (t : Trace) → Mute pend → Emits p sub pend now t → Split pend now t
+  split : (pend : Trace) (now : Now) (t : Trace) → Quiet pend → Emits p sub pend now t → Split pend now t
   unfolding Emits
-  split [] now t m x = record { run = []; rest = t; whole = refl; long = refl; mute = tt; emits = x }
+  split [] now t m x = record { run = []; rest = t; whole = refl; long = refl; no-end = tt; emits = x }
   split (o ∷ os) now [] m x = absurd x
   split (o ∷ os) now (e ∷ t) m x =
-      let s = split os now t (mute-tail o os m) (x .1) in
-      record { run = e ∷ s .run; rest = s .rest; whole = ap (λ (z : Trace). e ∷ z) (s .whole); long = ap suc (s .long); mute = mute-shown o e os (s .run) (x .0) m (s .mute); emits = s .emits }
+      let s = split os now t (quiet-tail o os m) (x .1) in
+      record { run = e ∷ s .run; rest = s .rest; whole = ap (λ (z : Trace). e ∷ z) (s .whole); long = ap suc (s .long); no-end = quiet-shown o e os (s .run) (x .0) m (s .no-end); emits = s .emits }
 
-  split-move : (c : Configuration) (t : Trace) → Mute (move p sub c .first ∷ move p sub c .more) → Emits p sub [] (busy c) t → Split (move p sub c .first ∷ move p sub c .more) (move p sub c .after) t
+  split-move : (c : Configuration) (t : Trace) → Quiet (move p sub c .first ∷ move p sub c .more) → Emits p sub [] (busy c) t → Split (move p sub c .first ∷ move p sub c .more) (move p sub c .after) t
   unfolding Emits
   split-move c [] m x = absurd x
   split-move c (e ∷ t) m x = split (move p sub c .first ∷ move p sub c .more) (move p sub c .after) (e ∷ t) m (x .1, x .2)
@@ -128,26 +122,26 @@ module _ (p : Program) (sub : List ℕ) where
   -- Kinds of moves ----------------------------------------------------------------
 
   -- a move that emits one event, which is no end
-  record Quiet (m : Move) : Type 0 where
-    mute : Mute (m .first ∷ m .more)
+  record Single (m : Move) : Type 0 where
+    no-end : Quiet (m .first ∷ m .more)
     single : length (m .more) ≡ 0
 
-  quiet-tried : (x : Tried) (place next at : ℕ) (regs : List ℕ) (st : Stack) → Quiet (tried p x place next at regs st)
+  quiet-tried : (x : Tried) (place next at : ℕ) (regs : List ℕ) (st : Stack) → Single (tried p x place next at regs st)
   unfolding tried
-  quiet-tried (goes u) place next at regs st = record { mute = tt; single = refl }
-  quiet-tried fails place next at regs st = record { mute = tt; single = refl }
+  quiet-tried (goes u) place next at regs st = record { no-end = tt; single = refl }
+  quiet-tried fails place next at regs st = record { no-end = tt; single = refl }
 
-  quiet : (n pc at : ℕ) (regs : List ℕ) (st : Stack) → n ≤ 8 → Quiet (carryOut p sub (decodeAs n p pc) at regs st)
+  quiet : (n pc at : ℕ) (regs : List ℕ) (st : Stack) → n ≤ 8 → Single (carryOut p sub (decodeAs n p pc) at regs st)
   unfolding carryOut
   quiet zero pc at regs st h = quiet-tried _ _ _ at regs st
   quiet (suc zero) pc at regs st h = quiet-tried _ _ _ at regs st
   quiet (suc (suc zero)) pc at regs st h = quiet-tried _ _ _ at regs st
-  quiet (suc (suc (suc zero))) pc at regs st h = record { mute = tt; single = refl }
-  quiet (suc (suc (suc (suc zero)))) pc at regs st h = record { mute = tt; single = refl }
-  quiet (suc (suc (suc (suc (suc zero))))) pc at regs st h = record { mute = tt; single = refl }
-  quiet (suc (suc (suc (suc (suc (suc zero)))))) pc at regs st h = record { mute = tt; single = refl }
-  quiet (suc (suc (suc (suc (suc (suc (suc zero))))))) pc at regs st h = record { mute = tt; single = refl }
-  quiet (suc (suc (suc (suc (suc (suc (suc (suc zero)))))))) pc at regs st h = record { mute = tt; single = refl }
+  quiet (suc (suc (suc zero))) pc at regs st h = record { no-end = tt; single = refl }
+  quiet (suc (suc (suc (suc zero)))) pc at regs st h = record { no-end = tt; single = refl }
+  quiet (suc (suc (suc (suc (suc zero))))) pc at regs st h = record { no-end = tt; single = refl }
+  quiet (suc (suc (suc (suc (suc (suc zero)))))) pc at regs st h = record { no-end = tt; single = refl }
+  quiet (suc (suc (suc (suc (suc (suc (suc zero))))))) pc at regs st h = record { no-end = tt; single = refl }
+  quiet (suc (suc (suc (suc (suc (suc (suc (suc zero)))))))) pc at regs st h = record { no-end = tt; single = refl }
   quiet (suc (suc (suc (suc (suc (suc (suc (suc (suc n))))))))) pc at regs st h = absurd (omega arith)
 
   decode-end : (n pc : ℕ) → 8 < n → decodeAs n p pc ≡ ends
@@ -192,12 +186,12 @@ module _ (p : Program) (sub : List ℕ) where
           f (e ∷ v) x y = let z : budget - used ≡ 0 = omega arith in sym (rw z at y)
 
       -- A move that emits a run of events, none of them an end: the budget has the whole run, or it ends within the run.
-      module _ (m : Mute (move p sub c .first ∷ move p sub c .more)) where
+      module _ (m : Quiet (move p sub c .first ∷ move p sub c .more)) where
         pub running-run : used + suc (length (move p sub c .more)) ≤ budget → Running (used + suc (length (move p sub c .more))) (move p sub c .after)
         running-run h =
             let s = split-move c (g .rest) m (g .ready .emits) in
             let l : length (s .run) ≡ suc (length (move p sub c .more)) = s .long in
-            let e = until-run (s .run) (s .rest) (budget - used) used (s .mute) (omega arith) in
+            let e = until-run (s .run) (s .rest) (budget - used) used (s .no-end) (omega arith) in
             let z : budget - (used + suc (length (move p sub c .more))) ≡ budget - used - suc (length (move p sub c .more)) = omega arith in
             let w = move-leaves p sub c (fits-now c (g .rest) (g .ready .emits)) (g .ready .fits) in
             record {
@@ -210,13 +204,13 @@ module _ (p : Program) (sub : List ℕ) where
         running-cut k h =
             let s = split-move c (g .rest) m (g .ready .emits) in
             let l : length (s .run) ≡ suc (length (move p sub c .more)) = s .long in
-            sym (rw (s .whole) at (g .same)) ∙ until-short (s .run) (s .rest) (budget - used) used (s .mute) (omega arith)
+            sym (rw (s .whole) at (g .same)) ∙ until-short (s .run) (s .rest) (budget - used) used (s .no-end) (omega arith)
 
       -- a node that is no end
       pub running-on : used < budget → getD p (c .pc) 0 ≤ 8 → Running (used + 1) (move p sub c .after)
       running-on h k =
-          let q : Quiet (move p sub c) = unfold move decode in quiet (getD p (c .pc) 0) (c .pc) (c .at) (c .regs) (c .stack) k in
-          rw (q .single) at (running-run (q .mute) (omega (arith, q .single)))
+          let q : Single (move p sub c) = unfold move decode in quiet (getD p (c .pc) 0) (c .pc) (c .at) (c .regs) (c .stack) k in
+          rw (q .single) at (running-run (q .no-end) (omega (arith, q .single)))
 
       -- an end
       pub record Ended : Type 0 where

@@ -1,0 +1,8 @@
+-- Facts for whoever calls the functions on calls, areas and rows.
+pub mod Refusals
+pub mod Areas
+pub mod Calls
+pub mod Compiled
+pub mod Outcomes
+pub mod Known
+pub mod Rows

@@ -1,0 +1,6 @@
+-- What the public calls promise.
+pub mod Inputs
+pub mod Outcomes
+pub mod Fitness
+pub mod Rows
+pub mod Laws
