@@ -1,2 +1,4 @@
--- The laws that the functions' proofs cite.
-pub mod Seeking
+-- The laws of the loops that the functions' proofs cite: over the starts of a match, and over the ends and starts of a listing.
+mod Seeking
+mod Ends
+mod Starts

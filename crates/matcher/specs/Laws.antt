@@ -4,5 +4,6 @@ pub mod Areas
 pub mod Calls
 pub mod Compiled
 pub mod Outcomes
+pub mod Listings
 pub mod Known
 pub mod Rows

@@ -1,0 +1,190 @@
+-- The loop keeps, for each rule that stands in the area, the rows and the steps of the starts before this one. A start that is through
+-- leads to the next one, or is the last.
+use mathlib.Core.Path.{refl, _∙_, ap}
+use mathlib.Core.List.{List}
+use Prim.Native.Nat.{ℕ, _-_}
+use native.Mathlib.Omega.{arith}
+use borrow.Author.Needs.{needs}
+use denote.Ref.{now}
+use lib.ListN.{length}
+use Rattle.syntax.specs.Limits.{subjectLimit}
+use Rattle.matcher.proofs.Starts.{between-first, Turning, turn-begins, turn-few, turn-last, turn-next, turn-full, turn-spent}
+use Rattle.matcher.proofs.listing.list_starts.Statement.{statement}
+use Rattle.matcher.proofs.listing.list_starts.Tie as tie
+
+abbrev Inv-loop : tie.InvT-loop
+Inv-loop code sub regs₀ work₀ results₀ entry budget last start₀ rows₀ steps₀ regs work results start rows steps =
+    Turning code sub entry budget regs₀ work₀ results₀ regs work results start rows steps
+
+abbrev μ-loop : tie.MeasureT-loop
+μ-loop code sub regs₀ work₀ results₀ entry budget last start₀ rows₀ steps₀ regs work results start rows steps = length sub - start
+
+cast-last : tie.Need-cast-last Inv-loop μ-loop
+unfolding subjectLimit
+cast-last c = omega arith
+
+loop-holds : tie.Need-loop-holds Inv-loop μ-loop
+loop-holds c =
+    let s = c .before .before .before .before .before in
+    record {
+      bytes = λ i. omega (arith, c .before .before .before .shared-slice-known2 .given i);
+      short = s .pre .0 .1;
+      cheap = omega arith;
+      clear = s .pre .0 .0;
+      same = refl;
+      wide = refl;
+      fits = s .pre .0 .3;
+      long = refl;
+      inside = omega arith;
+      small = omega arith;
+      between = λ x h. between-first (now (s .args .sub)) x (s .args .budget) (now (s .args .results));
+    }
+
+start-requires : tie.Need-start-requires Inv-loop μ-loop
+start-requires c κs = search needs
+
+list-start-requires : tie.Need-list-start-requires Inv-loop μ-loop
+unfolding subjectLimit
+list-start-requires c κs =
+    let l = c .before .before .before .before .loop in
+    let s = c .before .before .before .before .before .before .before .before .before .before in
+    let y = s .pre .1 in
+    ((l .inv .clear .size, omega (arith, l .inv .short), s .pre .0 .2), (_, turn-begins (l .inv) (c .before .before .before .start .ensures (l .regs) (l .work)) (y .0) (y .1)))
+
+enum-known-n : tie.Need-enum-known-n Inv-loop μ-loop
+enum-known-n c = search needs
+
+cast-steps : tie.Need-cast-steps Inv-loop μ-loop
+cast-steps c = omega arith
+
+add-steps : tie.Need-add-steps Inv-loop μ-loop
+unfolding subjectLimit
+add-steps c =
+    let l = c .before .before .before .before .before .before .before .before .before .before .before .before .before .before .loop in
+    let r = c .before .before .before .before .before .before .before .before .before .list-start in
+    let e = c .before .before .before .before .before .before .before .before .before .before .before .before .before .start .ensures (l .regs) (l .work) in
+    omega (arith, l .inv .small, l .inv .cheap, l .inv .inside, l .inv .short, turn-few (l .inv) e (r .ensures) _ _ (c .before .n .given .1) (c .before .before .before .before .before .before .before .before .before .before .before .before .before .before .before .before .before .before .before .before .pre .1))
+
+same-length : tie.Need-same-length Inv-loop μ-loop
+same-length c = c .before .before .before .before .before .before .before .before .before .before .list-start .kept .1 .1 .0 ∙ ap (λ (l : List ℕ). length l) (c .before .before .before .before .before .before .before .before .before .before .before .before .before .before .before .loop .inv .same)
+
+same-length-2 : tie.Need-same-length-2 Inv-loop μ-loop
+same-length-2 c = c .before .before .before .before .before .before .before .before .before .before .list-start .kept .1 .1 .1 .0 ∙ c .before .before .before .before .before .before .before .before .before .before .before .before .before .before .before .loop .inv .wide
+
+same-length-3 : tie.Need-same-length-3 Inv-loop μ-loop
+same-length-3 c = c .before .before .before .before .before .before .before .before .before .before .list-start .kept .1 .1 .1 .1 .0 ∙ c .before .before .before .before .before .before .before .before .before .before .before .before .before .before .before .loop .inv .long
+
+returns : tie.Need-returns Inv-loop μ-loop
+returns c =
+    let l = c .before .before .before .before .before .before .before .before .before .before .before .before .before .before .before .loop in
+    let r = c .before .before .before .before .before .before .before .before .before .before .list-start in
+    let e = c .before .before .before .before .before .before .before .before .before .before .before .before .before .before .start .ensures (l .regs) (l .work) in
+    turn-last (l .inv) e (r .ensures) _ _ (c .before .before .n .given .1) (omega arith)
+
+add-start : tie.Need-add-start Inv-loop μ-loop
+unfolding subjectLimit
+add-start c =
+    let l = c .before .before .before .before .before .before .before .before .before .before .before .before .before .before .before .loop in
+    omega (arith, l .inv .inside, l .inv .short)
+
+loop-less : tie.Need-loop-less Inv-loop μ-loop
+loop-less c =
+    let l = c .before .before .before .before .before .before .before .before .before .before .before .before .before .before .before .loop in
+    omega (arith, l .inv .inside)
+
+loop-again : tie.Need-loop-again Inv-loop μ-loop
+loop-again c =
+    let l = c .before .before .before .before .before .before .before .before .before .before .before .before .before .before .before .loop in
+    let r = c .before .before .before .before .before .before .before .before .before .before .list-start in
+    let e = c .before .before .before .before .before .before .before .before .before .before .before .before .before .before .start .ensures (l .regs) (l .work) in
+    turn-next (l .inv) e (r .ensures) _ _ (c .before .before .n .given .1) (omega (arith, l .inv .inside)) (c .before .before .before .before .before .before .before .before .before .before .before .before .before .before .before .before .before .before .before .before .before .pre .1) (r .kept .1 .1 .1 .0) (r .kept .1 .1 .1 .1 .0)
+
+enum-known-n-2 : tie.Need-enum-known-n-2 Inv-loop μ-loop
+enum-known-n-2 c = search needs
+
+cast-t28 : tie.Need-cast-t28 Inv-loop μ-loop
+cast-t28 c = omega arith
+
+add-t29 : tie.Need-add-t29 Inv-loop μ-loop
+unfolding subjectLimit
+add-t29 c =
+    let l = c .before .before .before .before .before .before .before .before .before .before .before .before .before .before .loop in
+    let r = c .before .before .before .before .before .before .before .before .before .list-start in
+    let e = c .before .before .before .before .before .before .before .before .before .before .before .before .before .start .ensures (l .regs) (l .work) in
+    let y = c .before .before .before .before .before .before .before .before .before .before .before .before .before .before .before .before .before .before .before .before .pre .1 in
+    omega (arith, l .inv .small, l .inv .cheap, l .inv .inside, l .inv .short, turn-full (l .inv) e (r .ensures) _ _ (c .before .n2 .given .1) (y .0) (y .1) .1)
+
+same-length-4 : tie.Need-same-length-4 Inv-loop μ-loop
+same-length-4 c = c .before .before .before .before .before .before .before .before .before .list-start .kept .1 .1 .0 ∙ ap (λ (l : List ℕ). length l) (c .before .before .before .before .before .before .before .before .before .before .before .before .before .before .loop .inv .same)
+
+same-length-5 : tie.Need-same-length-5 Inv-loop μ-loop
+same-length-5 c = c .before .before .before .before .before .before .before .before .before .list-start .kept .1 .1 .1 .0 ∙ c .before .before .before .before .before .before .before .before .before .before .before .before .before .before .loop .inv .wide
+
+same-length-6 : tie.Need-same-length-6 Inv-loop μ-loop
+same-length-6 c = c .before .before .before .before .before .before .before .before .before .list-start .kept .1 .1 .1 .1 .0 ∙ c .before .before .before .before .before .before .before .before .before .before .before .before .before .before .loop .inv .long
+
+returns-2 : tie.Need-returns-2 Inv-loop μ-loop
+returns-2 c =
+    let l = c .before .before .before .before .before .before .before .before .before .before .before .before .before .before .loop in
+    let r = c .before .before .before .before .before .before .before .before .before .list-start in
+    let e = c .before .before .before .before .before .before .before .before .before .before .before .before .before .start .ensures (l .regs) (l .work) in
+    λ x h. turn-full (l .inv) e (r .ensures) _ _ (c .before .n2 .given .1) x h .0
+
+enum-known-n-3 : tie.Need-enum-known-n-3 Inv-loop μ-loop
+enum-known-n-3 c = search needs
+
+add-t31 : tie.Need-add-t31 Inv-loop μ-loop
+unfolding subjectLimit
+add-t31 c =
+    let l = c .before .before .before .before .before .before .before .before .before .before .before .before .before .before .loop in
+    omega (arith, l .inv .small, l .inv .cheap, l .inv .inside, l .inv .short)
+
+same-length-7 : tie.Need-same-length-7 Inv-loop μ-loop
+same-length-7 c = c .before .before .before .before .before .before .before .before .before .list-start .kept .1 .1 .0 ∙ ap (λ (l : List ℕ). length l) (c .before .before .before .before .before .before .before .before .before .before .before .before .before .before .loop .inv .same)
+
+same-length-8 : tie.Need-same-length-8 Inv-loop μ-loop
+same-length-8 c = c .before .before .before .before .before .before .before .before .before .list-start .kept .1 .1 .1 .0 ∙ c .before .before .before .before .before .before .before .before .before .before .before .before .before .before .loop .inv .wide
+
+same-length-9 : tie.Need-same-length-9 Inv-loop μ-loop
+same-length-9 c = c .before .before .before .before .before .before .before .before .before .list-start .kept .1 .1 .1 .1 .0 ∙ c .before .before .before .before .before .before .before .before .before .before .before .before .before .before .loop .inv .long
+
+returns-3 : tie.Need-returns-3 Inv-loop μ-loop
+returns-3 c =
+    let l = c .before .before .before .before .before .before .before .before .before .before .before .before .before .before .loop in
+    let r = c .before .before .before .before .before .before .before .before .before .list-start in
+    let e = c .before .before .before .before .before .before .before .before .before .before .before .before .before .start .ensures (l .regs) (l .work) in
+    turn-spent (l .inv) e (r .ensures) _ (c .before .n3 .given .1)
+
+pub list-starts-spec : {M : Type 1} → statement M
+list-starts-spec =
+    tie.close
+    (tie.spec
+    Inv-loop
+    μ-loop
+    cast-last
+    loop-holds
+    start-requires
+    list-start-requires
+    enum-known-n
+    cast-steps
+    add-steps
+    same-length
+    same-length-2
+    same-length-3
+    returns
+    add-start
+    loop-less
+    loop-again
+    enum-known-n-2
+    cast-t28
+    add-t29
+    same-length-4
+    same-length-5
+    same-length-6
+    returns-2
+    enum-known-n-3
+    add-t31
+    same-length-7
+    same-length-8
+    same-length-9
+    returns-3)
