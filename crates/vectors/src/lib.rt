@@ -73,17 +73,17 @@ pub fn next_word(from: usize, to: usize) -> usize
     if from < to { from + 1 } else { to }
 }
 
-// The decimal number between two positions, at most 20,000.
-pub fn number(input: &[u8], from: usize, to: usize) -> u32
-    requires { ⌜ to ≤ length (now input) ⌝ }
-    ensures { λ r. ⌜ r ≤ 20000 ⌝ }
+// The decimal number between two positions, held at a limit.
+pub fn number(input: &[u8], from: usize, to: usize, limit: u32) -> u32
+    requires { ⌜ (to ≤ length (now input)) × (limit ≤ 100000000) ⌝ }
+    ensures { λ r. ⌜ r ≤ limit ⌝ }
 {
     let mut i = from;
     let mut n: u32 = 0;
     while i < to {
         n = n * 10 + digit(input[i]) as u32;
-        if 20000 < n {
-            return 20000;
+        if limit < n {
+            return limit;
         }
         i += 1;
     }

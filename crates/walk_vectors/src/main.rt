@@ -168,8 +168,8 @@ fn line(input: &[u8], from: usize, to: usize, area: &mut [u32], work: &mut [u32]
     let rule_at = vectors::next_word(start_end, to);
     let rule_end = vectors::word_end(input, rule_at, to);
     let sub_at = vectors::next_word(rule_end, to);
-    let budget = vectors::number(input, budget_at, budget_end);
-    let start = vectors::number(input, start_at, start_end) as usize;
+    let budget = vectors::number(input, budget_at, budget_end, 20000);
+    let start = vectors::number(input, start_at, start_end, 20000) as usize;
     let n = vectors::decode(input, rule_at, rule_end, &mut rule);
     let k = vectors::decode(input, sub_at, to, &mut sub);
     tell(&rule[..n], flags, &sub[..k], start, budget, area, work);

@@ -5,10 +5,10 @@ use Rattle.vectors.proofs.number.Statement.{statement}
 use Rattle.vectors.proofs.number.Tie as tie
 
 abbrev Inv-loop : tie.InvT-loop
-Inv-loop input from to i₀ n₀ i n = n ≤ 20000
+Inv-loop input from to limit i₀ n₀ i n = n ≤ limit
 
 abbrev μ-loop : tie.MeasureT-loop
-μ-loop input from to i₀ n₀ i n = to - i
+μ-loop input from to limit i₀ n₀ i n = to - i
 
 loop-holds : tie.Need-loop-holds Inv-loop μ-loop
 loop-holds c = search needs

@@ -61,7 +61,7 @@ slice-aggregate-decode-2 : tie.Need-slice-aggregate-decode-2
 slice-aggregate-decode-2 c = search needs
 
 decode-requires-2 : tie.Need-decode-requires-2
-decode-requires-2 c κs = search needs
+decode-requires-2 c κs = c .before .before .before .before .before .before .before .before .before .before .before .before .before .before .before .before .before .before .before .before .pre .1
 
 array-share-prefix-rule : tie.Need-array-share-prefix-rule
 array-share-prefix-rule c = search needs

@@ -1,0 +1,50 @@
+-- The position moves on, within the line.
+use borrow.Author.Needs.{needs}
+use Prim.Native.Nat.{_≤_, _-_}
+use Rattle.call_vectors.proofs.word.Statement.{statement}
+use Rattle.call_vectors.proofs.word.Tie as tie
+
+abbrev Inv-loop : tie.InvT-loop
+Inv-loop input from to k at₀ i₀ at i = (from ≤ at) × (at ≤ to)
+
+abbrev μ-loop : tie.MeasureT-loop
+μ-loop input from to k at₀ i₀ at i = k - i
+
+loop-holds : tie.Need-loop-holds Inv-loop μ-loop
+loop-holds c = search needs
+
+word-end-requires : tie.Need-word-end-requires Inv-loop μ-loop
+word-end-requires c κs = search needs
+
+next-word-requires : tie.Need-next-word-requires Inv-loop μ-loop
+next-word-requires c κs = search needs
+
+add-i : tie.Need-add-i Inv-loop μ-loop
+add-i c = search needs
+
+loop-less : tie.Need-loop-less Inv-loop μ-loop
+loop-less c = search needs
+
+loop-again : tie.Need-loop-again Inv-loop μ-loop
+loop-again c = search needs
+
+word-end-requires-2 : tie.Need-word-end-requires-2 Inv-loop μ-loop
+word-end-requires-2 c κs = search needs
+
+returns : tie.Need-returns Inv-loop μ-loop
+returns c = search needs
+
+pub word-spec : {M : Type 1} → statement M
+word-spec =
+    tie.close
+    (tie.spec
+    Inv-loop
+    μ-loop
+    loop-holds
+    word-end-requires
+    next-word-requires
+    add-i
+    loop-less
+    loop-again
+    word-end-requires-2
+    returns)

@@ -1,0 +1,282 @@
+// Runs the public calls and writes what they answer, with the rows.
+//
+// A line of input has eight words: the kind, 0 for a match and 1 for a listing; the flags, the budget and the lengths of the rule area, the
+// work area and the result area in decimal; the rule in hex; and how the subject is given, in hex, or 'x' and a count for so many bytes `a`.
+use libc::STDIN_FILENO;
+use libc::STDOUT_FILENO;
+use matcher::Listing;
+use matcher::Outcome;
+use syntax::Refusal;
+ghost use Prim.Native.Nat.{_≤_, _<_};
+ghost use lib.ListN.{length};
+
+fn put(text: &[u8]) {
+    io::write_all(STDOUT_FILENO, text);
+}
+
+fn put_number(n: u64) {
+    io::print_decimal(STDOUT_FILENO, n);
+}
+
+fn put_word(n: u32) {
+    put_number(n as u64);
+}
+
+// A group's span, if it is set.
+fn put_span(group: usize, from: u32, to: u32) {
+    if from == 4294967295 {
+        return;
+    }
+    put(b" ");
+    put_number(group as u64);
+    put(b":");
+    put_word(from);
+    put(b"-");
+    put_word(to);
+}
+
+// The row at a position, if it is there: start, end and the spans that are set.
+fn put_row(results: &[u32], base: usize) {
+    if results.len() < 66 {
+        return;
+    }
+    if results.len() - 66 < base {
+        return;
+    }
+    put(b"  ");
+    put_word(results[base]);
+    put(b" ");
+    put_word(results[base + 1]);
+    let mut i: usize = 1;
+    while i < 33 {
+        put_span(i, results[base + 2 * i], results[base + 2 * i + 1]);
+        i += 1;
+    }
+    put(b"\n");
+}
+
+// The first rows.
+fn put_rows(results: &[u32], rows: usize) {
+    let mut i: usize = 0;
+    let mut base: usize = 0;
+    while i < rows {
+        put_row(results, base);
+        if results.len() <= base {
+            return;
+        }
+        base += 66;
+        i += 1;
+    }
+}
+
+fn put_steps(steps: u64) {
+    put_number(steps);
+    put(b" steps\n");
+}
+
+fn put_refusal(f: Refusal) {
+    let reason = f.reason;
+    put(b"refused ");
+    put_number(syntax::number(reason) as u64);
+    put(b" at ");
+    put_number(f.place as u64);
+    put(b"\n");
+}
+
+fn tell_match(
+    rule: &[u8],
+    flags: u32,
+    sub: &[u8],
+    budget: u32,
+    area: &mut [u32],
+    work: &mut [u32],
+    results: &mut [u32],
+) {
+    match matcher::match_line(rule, flags, sub, budget, area, work, results) {
+        Outcome::Matched(steps) => {
+            put(b"matched ");
+            put_steps(steps);
+            put_rows(results, 1);
+        }
+        Outcome::NotMatched(steps) => {
+            put(b"not matched ");
+            put_steps(steps);
+        }
+        Outcome::Exhausted(start, steps) => {
+            put(b"exhausted at ");
+            put_word(start);
+            put(b" ");
+            put_steps(steps);
+        }
+        Outcome::Refused(f) => put_refusal(f),
+    }
+}
+
+fn tell_list(
+    rule: &[u8],
+    flags: u32,
+    sub: &[u8],
+    budget: u32,
+    area: &mut [u32],
+    work: &mut [u32],
+    results: &mut [u32],
+) {
+    match matcher::list_readings(rule, flags, sub, budget, area, work, results) {
+        Listing::Complete(rows, steps) => {
+            put(b"complete ");
+            put_steps(steps);
+            put_rows(results, rows);
+        }
+        Listing::Full(rows, steps) => {
+            put(b"full ");
+            put_steps(steps);
+            put_rows(results, rows);
+        }
+        Listing::Exhausted(start, rows, steps) => {
+            put(b"exhausted at ");
+            put_word(start);
+            put(b" ");
+            put_steps(steps);
+            put_rows(results, rows);
+        }
+        Listing::Refused(f) => put_refusal(f),
+    }
+}
+
+// A word of a line.
+struct Span {
+    at: usize,
+    end: usize,
+}
+
+// Word k of the line between two positions, counted from 0.
+fn word(input: &[u8], from: usize, to: usize, k: u32) -> Span
+    requires { ⌜ (from ≤ to) × (to ≤ length (now input)) ⌝ }
+    ensures { λ r. ⌜ (r .at ≤ r .end) × (r .end ≤ to) ⌝ }
+{
+    let mut at = from;
+    let mut i: u32 = 0;
+    while i < k {
+        let end = vectors::word_end(input, at, to);
+        at = vectors::next_word(end, to);
+        i += 1;
+    }
+    let end = vectors::word_end(input, at, to);
+    Span { at, end }
+}
+
+// Word k as a number.
+fn number(input: &[u8], from: usize, to: usize, k: u32) -> u32
+    requires { ⌜ (from ≤ to) × (to ≤ length (now input)) ⌝ }
+{
+    let w = word(input, from, to, k);
+    let at = w.at;
+    let end = w.end;
+    vectors::number(input, at, end, 2000000)
+}
+
+// A number held within a length.
+fn within(n: u32, length: usize) -> usize
+    ensures { λ r. ⌜ r ≤ length ⌝ }
+{
+    if (n as usize) < length {
+        n as usize
+    } else {
+        length
+    }
+}
+
+// What is lent to all calls.
+const RULE_AREA: usize = 16384;
+
+const WORK_AREA: usize = 320000;
+
+const RESULT_AREA: usize = 6600;
+
+// The call that the line between two positions asks for, on a subject.
+fn call(
+    input: &[u8],
+    from: usize,
+    to: usize,
+    sub: &[u8],
+    area: &mut [u32],
+    work: &mut [u32],
+    results: &mut [u32],
+)
+    requires { ⌜ (from ≤ to) × (to ≤ length (now input)) ⌝ }
+{
+    let mut rule = [0u8; 1001];
+    let w = word(input, from, to, 6);
+    let n = vectors::decode(input, w.at, w.end, &mut rule);
+    let flags = number(input, from, to, 1);
+    let budget = number(input, from, to, 2);
+    let a = within(number(input, from, to, 3), area.len());
+    let b = within(number(input, from, to, 4), work.len());
+    let c = within(number(input, from, to, 5), results.len());
+    if number(input, from, to, 0) == 0 {
+        tell_match(
+            &rule[..n],
+            flags,
+            sub,
+            budget,
+            &mut area[..a],
+            &mut work[..b],
+            &mut results[..c],
+        );
+    } else {
+        tell_list(
+            &rule[..n],
+            flags,
+            sub,
+            budget,
+            &mut area[..a],
+            &mut work[..b],
+            &mut results[..c],
+        );
+    }
+}
+
+// The subject in hex, or so many letters.
+fn line(
+    input: &[u8],
+    from: usize,
+    to: usize,
+    area: &mut [u32],
+    work: &mut [u32],
+    results: &mut [u32],
+)
+    requires { ⌜ (from ≤ to) × (to ≤ length (now input)) ⌝ }
+{
+    let w = word(input, from, to, 7);
+    let at = w.at;
+    let end = w.end;
+    if at < end {
+        if input[at] == b'x' {
+            let letters = [97u8; 65536];
+            let k = within(vectors::number(input, at + 1, end, 2000000), 65536);
+            call(input, from, to, &letters[..k], area, work, results);
+            return;
+        }
+    }
+    let mut sub = [0u8; 1000];
+    let k = vectors::decode(input, at, end, &mut sub);
+    call(input, from, to, &sub[..k], area, work, results);
+}
+
+fn lines(input: &[u8], area: &mut [u32], work: &mut [u32], results: &mut [u32]) {
+    let mut at = 0;
+    while at < input.len() {
+        let end = vectors::line_end(input, at);
+        line(input, at, end, area, work, results);
+        at = end + 1;
+    }
+}
+
+fn main() {
+    let mut buffer = io::large_buffer();
+    let n = io::read_full(STDIN_FILENO, &mut buffer);
+    let mut area = [7u32; RULE_AREA];
+    let mut work = [7u32; WORK_AREA];
+    let mut results = [7u32; RESULT_AREA];
+    lines(&buffer[..n], &mut area, &mut work, &mut results);
+}

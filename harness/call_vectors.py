@@ -1,0 +1,93 @@
+#!/usr/bin/env python3
+"""Writes the calls that crates/call_vectors is run on, and what it must say of them: outcomes, steps and rows, and refusals 1 to 7.
+
+What must be said comes from reference.py, an independent reading of document 01: no line of it is shared with the library.
+Usage: harness/call_vectors.py (in the repository's root)
+"""
+import sys
+from pathlib import Path
+
+import reference
+from walk_vectors import READINGS
+
+TARGET = Path(__file__).resolve().parent.parent / "crates" / "call_vectors"
+RULE_AREA, ROW = 16384, 66
+
+
+def row_line(row):
+    spans = "".join(" %d:%d-%d" % (g, row[2 * g], row[2 * g + 1]) for g in range(1, 33) if row[2 * g] != reference.U)
+    return "  %d %d%s" % (row[0], row[1], spans)
+
+
+def refusal(rule, flags, subject, budget, areas):
+    """Refusals 1 to 7, in their order; 0 for none."""
+    tests = [len(rule) > 1000, len(subject) > 65535, flags > 3, budget > 100000, areas[0] < RULE_AREA, areas[1] < 16 * budget, areas[2] < ROW]
+    return tests.index(True) + 1 if True in tests else 0
+
+
+def told(kind, rule, flags, subject, budget, areas):
+    number = refusal(rule, flags, subject, budget, areas)
+    if number:
+        return ["refused %d at 0" % number]
+    try:
+        if kind == 0:
+            got = reference.match(rule, flags, subject, budget)
+        else:
+            got = reference.listing(rule, flags, subject, budget, areas[2] // ROW)
+    except reference.Refuse as refused:
+        return ["refused %d at %d" % (refused.n, refused.p)]
+    if kind == 0:
+        return {"M": lambda: ["matched %d steps" % got[1], row_line(got[2])], "N": lambda: ["not matched %d steps" % got[1]],
+                "X": lambda: ["exhausted at %d %d steps" % (got[1], got[2])]}[got[0]]()
+    head = {"C": "complete", "F": "full"}.get(got[0]) or "exhausted at %d" % got[1]
+    return ["%s %d steps" % (head, got[-2])] + [row_line(row) for row in got[-1]]
+
+
+def cases():
+    """kind, rule, flags, subject, budget, lengths of the areas."""
+    for rule, flags, subject in READINGS:
+        for kind in (0, 1):
+            yield kind, rule, flags, subject, 1000, (RULE_AREA, 16000, 6600)
+        yield 1, rule, flags, subject, 1000, (RULE_AREA, 16000, ROW)
+        for budget in (0, 1, 6, 7, 8):
+            yield 0, rule, flags, subject, budget, (RULE_AREA, 16 * budget, ROW)
+            yield 1, rule, flags, subject, budget, (RULE_AREA, 16 * budget, 2 * ROW)
+    for kind in (0, 1):
+        for budget, work in ((100000, 320000), (100001, 320000), (20000, 320000), (1000, 15999), (1000, 16000), (1000, 16001)):
+            yield kind, b"a*", 0, b"aa", budget, (RULE_AREA, work, ROW)
+        for area in (0, RULE_AREA - 1, RULE_AREA):
+            yield kind, b"a", 0, b"a", 10, (area, 160, ROW)
+        for results in (0, 65, 66, 67, 131, 132, 133):
+            yield kind, b"", 0, b"a", 10, (RULE_AREA, 160, results)
+        for flags in (0, 1, 2, 3, 4, 5, 1000):
+            yield kind, b"^.$", flags, b"\n", 10, (RULE_AREA, 160, 660)
+        for size in (1000, 1001):
+            yield kind, b"a" * size, 0, b"a", 10, (RULE_AREA, 160, ROW)
+        for size in (0, 1, 65535, 65536):
+            yield kind, b"b", 0, b"a" * size, 10, (RULE_AREA, 160, ROW)
+            yield kind, b"a*", 0, b"a" * size, 20000, (RULE_AREA, 320000, ROW)
+            yield kind, b"\\z", 0, b"a" * size, 10, (RULE_AREA, 160, ROW)
+        # two faults: the lower number
+        yield kind, b"a" * 1001, 4, b"a" * 65536, 100001, (0, 0, 0)
+        yield kind, b"(", 4, b"a" * 65536, 100001, (0, 0, 0)
+        yield kind, b"(", 4, b"a", 100001, (0, 0, 0)
+        yield kind, b"(", 0, b"a", 100001, (0, 0, 0)
+        yield kind, b"(", 0, b"a", 10, (0, 0, 0)
+        yield kind, b"(", 0, b"a", 10, (RULE_AREA, 0, 0)
+        yield kind, b"(", 0, b"a", 10, (RULE_AREA, 160, 0)
+        yield kind, b"(", 0, b"a", 10, (RULE_AREA, 160, ROW)
+
+
+def main():
+    asked, answers = [], []
+    for kind, rule, flags, subject, budget, areas in cases():
+        given = "x%d" % len(subject) if subject == b"a" * len(subject) and len(subject) > 1000 else subject.hex()
+        asked.append("%d %d %d %d %d %d %s %s\n" % (kind, flags, budget, *areas, rule.hex(), given))
+        answers += told(kind, rule, flags, subject, budget, areas)
+    TARGET.joinpath("stdin").write_text("".join(asked))
+    TARGET.joinpath("stdout").write_text("".join(line + "\n" for line in answers))
+    print("%d calls, %d bytes, %d lines" % (len(asked), sum(map(len, asked)), len(answers)), file=sys.stderr)
+
+
+if __name__ == "__main__":
+    main()
