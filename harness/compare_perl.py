@@ -1,0 +1,59 @@
+#!/usr/bin/env python3
+"""Compares the matches of reference.py with those of the machine's Perl on random rules: start, end and captures.
+
+Each difference must be one of docs/DECISIONS.md, "Where Perl 5.36 and PCRE2 10.42 differ", or it is a fault of reference.py.
+Usage: harness/compare_perl.py [SEED [CASES]]
+"""
+import random
+import subprocess
+import sys
+
+import reference
+from walk_vectors import random_rule
+
+PERL = r"""
+no warnings;
+while (<STDIN>) {
+    chomp;
+    my ($flags, $rule, $subject, $groups) = split /\t/, $_, -1;
+    ($rule, $subject) = (pack("H*", $rule), pack("H*", $subject));
+    my $text = "(?^a" . (($flags & 1) ? "s" : "") . (($flags & 2) ? "m" : "") . ":$rule)";
+    my $compiled = eval { qr/$text/ };
+    if (!defined $compiled) { print "refused\n"; next }
+    if ($subject !~ $compiled) { print "none\n"; next }
+    print join(" ", $-[0], $+[0], map { defined $-[$_] ? "$-[$_]-$+[$_]" : "-" } 1 .. $groups), "\n";
+}
+"""
+
+
+def shown(answer, groups):
+    if answer[0] == "N":
+        return "none"
+    row = answer[2]
+    spans = ["-" if row[2 * g] == reference.U else "%d-%d" % (row[2 * g], row[2 * g + 1]) for g in range(1, groups + 1)]
+    return " ".join(["%d %d" % (row[0], row[1])] + spans)
+
+
+def main():
+    random.seed(int(sys.argv[1]) if len(sys.argv) > 1 else 1)
+    cases, wanted = [], int(sys.argv[2]) if len(sys.argv) > 2 else 5000
+    while len(cases) < wanted:
+        rule, flags = random_rule(3).encode(), random.randint(0, 3)
+        subject = "".join(random.choice("aab1\nc") for _ in range(random.randint(0, 6))).encode()
+        try:
+            groups = reference.read(rule, flags)[1]
+        except reference.Refuse:
+            continue
+        answer = reference.match(rule, flags, subject, 20000)
+        if answer[0] != "X":
+            cases.append((rule, flags, subject, groups, shown(answer, groups)))
+    asked = "".join("%d\t%s\t%s\t%d\n" % (flags, rule.hex(), subject.hex(), groups) for rule, flags, subject, groups, _ in cases)
+    lines = subprocess.run(["perl", "-e", PERL], input=asked, capture_output=True, text=True, check=True).stdout.split("\n")
+    differ = [(case, line) for case, line in zip(cases, lines) if case[4] != line]
+    for (rule, flags, subject, _, ours), theirs in differ:
+        print("%r flags %d on %r: here %s, Perl %s" % (rule.decode(), flags, subject.decode(), ours, theirs))
+    print("%d matches compared, %d differ" % (len(cases), len(differ)))
+
+
+if __name__ == "__main__":
+    main()
