@@ -7,7 +7,8 @@ Usage: harness/bench_machine.py [RUNS] (in the repository's root)
 """
 import subprocess
 import sys
-import time
+
+from timing import shortest
 
 RUNS = int(sys.argv[1]) if len(sys.argv) > 1 else 40
 PROGRAM = "target/bin/walk_vectors"
@@ -21,23 +22,13 @@ WALKS = {
 }
 
 
-def shortest(data):
-    best = None
-    for _ in range(RUNS):
-        began = time.perf_counter()
-        subprocess.run([PROGRAM], input=data, stdout=subprocess.DEVNULL, check=True)
-        took = time.perf_counter() - began
-        best = took if best is None else min(best, took)
-    return best
-
-
 def main():
     for name, (rule, subject) in WALKS.items():
         line = lambda budget: b"0 %d 0 %s %s\n" % (budget, rule.hex().encode(), subject.hex().encode())
         copies = 60000 // len(line(20000))
         out = subprocess.run([PROGRAM], input=line(20000), capture_output=True, check=True).stdout.decode().split()
         steps = int(out[-1])
-        took = shortest(line(20000) * copies) - shortest(line(0) * copies)
+        took = shortest(PROGRAM, line(20000) * copies, RUNS) - shortest(PROGRAM, line(0) * copies, RUNS)
         print("%-34s %6d steps a walk  %5.2f ns a step" % (name, steps, took / copies / steps * 1e9))
 
 

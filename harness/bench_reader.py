@@ -5,9 +5,9 @@ It runs target/bin/rule_vectors (made by `rt check rule_vectors`) on 32 copies o
 each, and divides the difference by 32. Decoding the hex digits and writing the verdict are in the time.
 Usage: harness/bench_reader.py [RUNS] (in the repository's root)
 """
-import subprocess
 import sys
-import time
+
+from timing import shortest
 
 RUNS = int(sys.argv[1]) if len(sys.argv) > 1 else 300
 PROGRAM = "target/bin/rule_vectors"
@@ -26,21 +26,11 @@ RULES = {
 }
 
 
-def shortest(data):
-    best = None
-    for _ in range(RUNS):
-        began = time.perf_counter()
-        subprocess.run([PROGRAM], input=data, stdout=subprocess.DEVNULL, check=True)
-        took = time.perf_counter() - began
-        best = took if best is None else min(best, took)
-    return best
-
-
 def main():
-    nothing = shortest(b"")
+    nothing = shortest(PROGRAM, b"", RUNS)
     for name, rule in RULES.items():
         data = (b"0" + rule.hex().encode() + b"\n") * COPIES
-        print("%-32s %5d bytes  %6.1f us" % (name, len(rule), (shortest(data) - nothing) / COPIES * 1e6))
+        print("%-32s %5d bytes  %6.1f us" % (name, len(rule), (shortest(PROGRAM, data, RUNS) - nothing) / COPIES * 1e6))
 
 
 if __name__ == "__main__":
