@@ -1,0 +1,41 @@
+-- `terravisco_list` meets its contract: the call's own promise, with its outcome in numbers.
+use mathlib.Core.Path.{_∙_, ap}
+use Rattle.terravisco.specs.Answers.{listNumbers}
+use borrow.Author.Needs.{needs}
+use Rattle.terravisco.proofs.terravisco_list.Statement.{statement}
+use Rattle.terravisco.proofs.terravisco_list.Tie as tie
+use Rattle.terravisco.proofs.terravisco_list.Reads as reads
+use Rattle.terravisco.proofs.terravisco_list.Lts as lts
+use Rattle.matcher.proofs.list_readings.Reads as list-readings-reads
+use Rattle.terravisco.proofs.tell_listing.Reads as tell-listing-reads
+
+list-readings-requires : tie.Need-list-readings-requires
+list-readings-requires c κs = search needs
+
+tell-listing-requires : tie.Need-tell-listing-requires
+tell-listing-requires c κs = search needs
+
+same-length : tie.Need-same-length
+same-length c = search needs
+
+same-length-2 : tie.Need-same-length-2
+same-length-2 c = search needs
+
+same-length-3 : tie.Need-same-length-3
+same-length-3 c = search needs
+
+returns : tie.Need-returns
+returns c =
+    let m = c .before .before .before .before .before .before .before .before .list-readings .ensures in
+    record { answer-is = c .tell-listing .ensures ∙ ap listNumbers (m .outcome-is); rule-area-is = m .rule-area-is; work-area-is = m .work-area-is; result-area-is = m .result-area-is }
+
+pub terravisco-list-spec : {M : Type 1} → statement M
+terravisco-list-spec =
+    tie.close
+    (tie.spec
+    list-readings-requires
+    tell-listing-requires
+    same-length
+    same-length-2
+    same-length-3
+    returns)

@@ -1,0 +1,41 @@
+-- `terravisco_match` meets its contract: the call's own promise, with its outcome in numbers.
+use mathlib.Core.Path.{_∙_, ap}
+use Rattle.terravisco.specs.Answers.{matchNumbers}
+use borrow.Author.Needs.{needs}
+use Rattle.terravisco.proofs.terravisco_match.Statement.{statement}
+use Rattle.terravisco.proofs.terravisco_match.Tie as tie
+use Rattle.terravisco.proofs.terravisco_match.Reads as reads
+use Rattle.terravisco.proofs.terravisco_match.Lts as lts
+use Rattle.matcher.proofs.match_line.Reads as match-line-reads
+use Rattle.terravisco.proofs.tell_match.Reads as tell-match-reads
+
+match-line-requires : tie.Need-match-line-requires
+match-line-requires c κs = search needs
+
+tell-match-requires : tie.Need-tell-match-requires
+tell-match-requires c κs = search needs
+
+same-length : tie.Need-same-length
+same-length c = search needs
+
+same-length-2 : tie.Need-same-length-2
+same-length-2 c = search needs
+
+same-length-3 : tie.Need-same-length-3
+same-length-3 c = search needs
+
+returns : tie.Need-returns
+returns c =
+    let m = c .before .before .before .before .before .before .before .before .match-line .ensures in
+    record { answer-is = c .tell-match .ensures ∙ ap matchNumbers (m .outcome-is); rule-area-is = m .rule-area-is; work-area-is = m .work-area-is; result-area-is = m .result-area-is }
+
+pub terravisco-match-spec : {M : Type 1} → statement M
+terravisco-match-spec =
+    tie.close
+    (tie.spec
+    match-line-requires
+    tell-match-requires
+    same-length
+    same-length-2
+    same-length-3
+    returns)

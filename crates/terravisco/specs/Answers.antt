@@ -1,0 +1,44 @@
+-- An outcome as the six numbers that `include/terravisco.h` names.
+use mathlib.Core.Path.{_≡_}
+use mathlib.Core.List.{List, [], _∷_}
+use Prim.Native.Nat.{ℕ, _/_, _%_, _^_}
+use Rattle.syntax.specs.declared.Reason.{Reason}
+use Rattle.syntax.specs.Refusals.{numberOf}
+use Rattle.semantics.specs.Calls.{Return, MatchOutcome, Matched, NotMatched, Exhausted, Refused, ListOutcome, Complete, Full, ListExhausted, ListRefused}
+
+-- what a number of 32 bits keeps of a larger one, and the rest
+unfoldable pub low : ℕ → ℕ
+low n = n % (2 ^ 32)
+
+unfoldable pub high : ℕ → ℕ
+high n = n / (2 ^ 32)
+
+-- "[0] kind, [1] exhausted start or refusal number, else 0, [2] refusal's place, else 0, [3] steps' low 32 bits, [4] their high 32 bits,
+-- [5] rows written"
+unfoldable pub numbers : (kind which place steps rows : ℕ) → List ℕ
+numbers kind which place steps rows = kind ∷ which ∷ low place ∷ low steps ∷ high steps ∷ low rows ∷ []
+
+-- "3 refused. Steps are 0 if refused."
+unfoldable pub refusalNumbers : (place : ℕ) → Reason → List ℕ
+refusalNumbers place why = numbers 3 (numberOf why) place 0 0
+
+-- "Kind of a match: 0 matched, 1 not matched, 2 exhausted, 3 refused."
+unfoldable pub matchNumbers : MatchOutcome → List ℕ
+matchNumbers (Matched steps) = numbers 0 0 0 steps 1
+matchNumbers (NotMatched steps) = numbers 1 0 0 steps 0
+matchNumbers (Exhausted start steps) = numbers 2 start 0 steps 0
+matchNumbers (Refused place why) = refusalNumbers place why
+
+-- "Kind of a listing: 0 complete, 1 full, 2 exhausted, 3 refused."
+unfoldable pub listNumbers : ListOutcome → List ℕ
+listNumbers (Complete rows steps) = numbers 0 0 0 steps rows
+listNumbers (Full rows steps) = numbers 1 0 0 steps rows
+listNumbers (ListExhausted start rows steps) = numbers 2 start 0 steps rows
+listNumbers (ListRefused place why) = refusalNumbers place why
+
+-- the answer's numbers are those of a return, and the areas are left as it says
+pub record Answered {A : Type 0} (inNumbers : A → List ℕ) (is : Return A) (answer ruleArea workArea resultArea : List ℕ) : Type 0 where
+  pub answer-is : answer ≡ inNumbers (is .outcome)
+  pub rule-area-is : ruleArea ≡ is .ruleArea
+  pub work-area-is : workArea ≡ is .workArea
+  pub result-area-is : resultArea ≡ is .resultArea

@@ -1,0 +1,3 @@
+-- What the C interface promises.
+pub mod Answers
+pub mod Laws

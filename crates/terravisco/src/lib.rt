@@ -1,0 +1,101 @@
+// The C interface: the two calls, with each outcome as six numbers. `include/terravisco.h` is its header.
+use matcher::Listing;
+use matcher::Outcome;
+use syntax::Refusal;
+ghost use mathlib.Core.Path.{_≡_};
+ghost use Rattle.semantics.specs.Calls.{matchCall, listCall};
+ghost use Rattle.matcher.specs.Inputs.{callOf};
+ghost use Rattle.matcher.specs.Outcomes.{outcomeOf};
+ghost use Rattle.matcher.specs.Listing.{listingOf};
+ghost use Rattle.terravisco.specs.Answers.{numbers, refusalNumbers, matchNumbers, listNumbers, Answered};
+
+// 2^32
+const WORD: u64 = 4294967296;
+
+// Writes an answer: the kind, the start or refusal number, the place, the steps in two halves and the rows.
+fn tell(answer: &mut [u32; 6], kind: u32, which: u32, place: usize, steps: u64, rows: usize)
+    ensures { λ _. ⌜ now (answer .exit) ≡ numbers kind which place steps rows ⌝ }
+{
+    *answer = [
+        kind,
+        which,
+        (place as u64 % WORD) as u32,
+        (steps % WORD) as u32,
+        (steps / WORD) as u32,
+        (rows as u64 % WORD) as u32,
+    ];
+}
+
+// A refusal has the same numbers from both calls.
+fn tell_refusal(answer: &mut [u32; 6], f: Refusal)
+    ensures { λ _. ⌜ now (answer .exit) ≡ refusalNumbers (f .place) (f .reason) ⌝ }
+{
+    let reason = f.reason;
+    tell(answer, 3, syntax::number(reason), f.place, 0, 0);
+}
+
+fn tell_match(answer: &mut [u32; 6], outcome: Outcome)
+    ensures { λ _. ⌜ now (answer .exit) ≡ matchNumbers (outcomeOf outcome) ⌝ }
+{
+    match outcome {
+        Outcome::Matched(steps) => tell(answer, 0, 0, 0, steps, 1),
+        Outcome::NotMatched(steps) => tell(answer, 1, 0, 0, steps, 0),
+        Outcome::Exhausted(start, steps) => tell(answer, 2, start, 0, steps, 0),
+        Outcome::Refused(f) => tell_refusal(answer, f),
+    }
+}
+
+fn tell_listing(answer: &mut [u32; 6], outcome: Listing)
+    ensures { λ _. ⌜ now (answer .exit) ≡ listNumbers (listingOf outcome) ⌝ }
+{
+    match outcome {
+        Listing::Complete(rows, steps) => tell(answer, 0, 0, 0, steps, rows),
+        Listing::Full(rows, steps) => tell(answer, 1, 0, 0, steps, rows),
+        Listing::Exhausted(start, rows, steps) => tell(answer, 2, start, 0, steps, rows),
+        Listing::Refused(f) => tell_refusal(answer, f),
+    }
+}
+
+// One match.
+#[no_mangle]
+pub extern "C" fn terravisco_match(
+    rule: &[u8],
+    flags: u32,
+    subject: &[u8],
+    budget: u32,
+    rule_area: &mut [u32],
+    work_area: &mut [u32],
+    result: &mut [u32],
+    answer: &mut [u32; 6],
+)
+    ensures { λ _. ⌜ Answered matchNumbers (matchCall (callOf (now (rule .entry)) flags (now (subject .entry)) budget (now («rule_area» .entry)) (now («work_area» .entry)) (now (result .entry)))) (now (answer .exit)) (now («rule_area» .exit)) (now («work_area» .exit)) (now (result .exit)) ⌝ }
+{
+    let outcome = matcher::match_line(rule, flags, subject, budget, rule_area, work_area, result);
+    tell_match(answer, outcome);
+}
+
+// One listing.
+#[no_mangle]
+pub extern "C" fn terravisco_list(
+    rule: &[u8],
+    flags: u32,
+    subject: &[u8],
+    budget: u32,
+    rule_area: &mut [u32],
+    work_area: &mut [u32],
+    result: &mut [u32],
+    answer: &mut [u32; 6],
+)
+    ensures { λ _. ⌜ Answered listNumbers (listCall (callOf (now (rule .entry)) flags (now (subject .entry)) budget (now («rule_area» .entry)) (now («work_area» .entry)) (now (result .entry)))) (now (answer .exit)) (now («rule_area» .exit)) (now («work_area» .exit)) (now (result .exit)) ⌝ }
+{
+    let outcome = matcher::list_readings(
+        rule,
+        flags,
+        subject,
+        budget,
+        rule_area,
+        work_area,
+        result,
+    );
+    tell_listing(answer, outcome);
+}
