@@ -57,7 +57,7 @@ clear-requires c κs =
     let m = c .before .before .before .before .before .before .before .compile-and-list in
     let a = c .before .before .before .before .before .before .before .before .before .before .before .before .before .before .before .before .args in
     let f = c .before .before .before .before .before .before .before .before .before .before .before .before .before .before .before .before .pre in
-    lent-fits ruleAreaNeed (m .last .1 .1 .1 .1 .0) (now (a .rule-area)) (m .kept .1 .1 .1 .1 .0) (f .rule-area-fits)
+    omega (arith, lent-fits ruleAreaNeed (m .last .1 .1 .1 .1 .0) (now (a .rule-area)) (m .kept .1 .1 .1 .1 .0) (f .rule-area-fits))
 
 clear-requires-2 : tie.Need-clear-requires-2
 unfolding workAreaNeed workPerStep
@@ -65,7 +65,7 @@ clear-requires-2 c κs =
     let m = c .before .before .before .before .before .before .before .before .before .before .before .compile-and-list in
     let a = c .before .before .before .before .before .before .before .before .before .before .before .before .before .before .before .before .before .before .before .before .args in
     let f = c .before .before .before .before .before .before .before .before .before .before .before .before .before .before .before .before .before .before .before .before .pre in
-    lent-fits (workAreaNeed (a .budget)) (m .last .1 .1 .1 .1 .1 .0) (now (a .work-area)) (m .kept .1 .1 .1 .1 .1 .0) (f .work-area-fits)
+    omega (arith, lent-fits (workAreaNeed (a .budget)) (m .last .1 .1 .1 .1 .1 .0) (now (a .work-area)) (m .kept .1 .1 .1 .1 .1 .0) (f .work-area-fits))
 
 same-length : tie.Need-same-length
 same-length c = search needs
