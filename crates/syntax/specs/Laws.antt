@@ -3,3 +3,4 @@ pub mod Forward
 pub mod Within
 pub mod Fuel
 pub mod Formation
+pub mod Places

@@ -42,12 +42,12 @@ by-length : (s : List ℕ) (i : ℕ) → Dec (i < length s) → (byte s i ≡ 25
 by-length s i (yes h) n = h
 by-length s i (no h) n = absurd (n (byte-past s i (omega arith)))
 
-not-end : (s : List ℕ) (i : ℕ) → isEnd (byte s i) ≡ false → i < length s
+pub not-end : (s : List ℕ) (i : ℕ) → isEnd (byte s i) ≡ false → i < length s
 unfolding isEnd
 not-end s i e = by-length s i (decLt i (length s)) (eqb-false (byte s i) 256 e)
 
 -- a byte that passes the test for a character's is there
-is-in : (s : List ℕ) (i c : ℕ) → c < 256 → eqb (byte s i) c ≡ true → i < length s
+pub is-in : (s : List ℕ) (i c : ℕ) → c < 256 → eqb (byte s i) c ≡ true → i < length s
 is-in s i c h e = let k : byte s i ≡ c = eqb-true (byte s i) c e in byte-in s i (omega arith)
 
 between-in : (s : List ℕ) (i c d : ℕ) → d < 256 → (leb c (byte s i) && leb (byte s i) d) ≡ true → i < length s
@@ -313,7 +313,7 @@ repeating-in s (unrepeatable t) at n m g opened next h = tt
 repeating-in s (repeatable b l) at n m g opened next h = h
 repeating-in s (repeated t) at n m g opened next h = tt
 
-part-by : (s : List ℕ) (flags : ℕ) (inner : Inner) (q : Sequence) (opened at : ℕ) (x : Quantifier) → Inward s inner → at < length s → Holding x (UptoIn s) → Given (part s flags inner q opened at x) (Upto s)
+pub part-by : (s : List ℕ) (flags : ℕ) (inner : Inner) (q : Sequence) (opened at : ℕ) (x : Quantifier) → Inward s inner → at < length s → Holding x (UptoIn s) → Given (part s flags inner q opened at x) (Upto s)
 unfolding part
 part-by s flags inner q opened at Absent h l k = nextItem-in s flags inner q opened at h l
 part-by s flags inner q opened at Stray h l k = tt
@@ -327,18 +327,18 @@ ends-false s at e = by-length s at (decLt at (length s)) (λ h. true-false (sym 
     true-false : true ≡ false → ⊥
     true-false x = let bad : _≡_ {A = ℕ} 0 1 = cc in omega arith
 
-sequence-in : (f : ℕ) (s : List ℕ) (flags : ℕ) (inner : Inner) (q : Sequence) (opened at : ℕ) → Inward s inner → at ≤ length s → Given (sequence f s flags inner q opened at) (Upto s)
+pub sequence-in : (f : ℕ) (s : List ℕ) (flags : ℕ) (inner : Inner) (q : Sequence) (opened at : ℕ) → Inward s inner → at ≤ length s → Given (sequence f s flags inner q opened at) (Upto s)
 unfolding sequence
 sequence-in zero s flags inner q opened at h l = l
 sequence-in (suc f) s flags inner q opened at h l = test-given _ _ _ (ends (byte s at)) (λ e. l) (λ e.
     then-given (Upto s) (Upto s) (part s flags inner q opened at (quantifier s at)) _ (part-by s flags inner q opened at (quantifier s at) h (ends-false s at e) (quantifier-in s at))
     (λ r p k. sequence-in f s flags inner (r .0) (r .1) p h k))
 
-branch-in : (s : List ℕ) (flags : ℕ) (inner : Inner) (opened at : ℕ) → Inward s inner → at ≤ length s → Given (branch s flags inner opened at) (Upto s)
+pub branch-in : (s : List ℕ) (flags : ℕ) (inner : Inner) (opened at : ℕ) → Inward s inner → at ≤ length s → Given (branch s flags inner opened at) (Upto s)
 unfolding branch
 branch-in s flags inner opened at h l = sequence-in (length s) s flags inner (unrepeatable empty) opened at h l
 
-further-in : (f : ℕ) (s : List ℕ) (flags : ℕ) (inner : Inner) (bs : Branches) (opened at : ℕ) → Inward s inner → at ≤ length s → Given (further f s flags inner bs opened at) (Upto s)
+pub further-in : (f : ℕ) (s : List ℕ) (flags : ℕ) (inner : Inner) (bs : Branches) (opened at : ℕ) → Inward s inner → at ≤ length s → Given (further f s flags inner bs opened at) (Upto s)
 unfolding further
 further-in zero s flags inner bs opened at h l = l
 further-in (suc f) s flags inner bs opened at h l = test-given _ _ _ (is "|" (byte s at))
