@@ -1,11 +1,13 @@
 // Lines of test vectors: digits, hex bytes and the ends of words and lines.
-ghost use Prim.Native.Nat.{_≤_, _<_};
+ghost use mathlib.Core.Path.{_≡_};
+ghost use Prim.Native.Nat.{_≤_};
 ghost use lib.ListN.{length};
-ghost use Rattle.io.specs.Counts.{Counts};
+ghost use lib.Seq.{slice};
+ghost use Rattle.vectors.specs.Text.{digitValue, numberIn, Decoded, lineEnd, wordEnd, nextWord};
 
 // What a hex digit stands for; 0 for any other byte.
 pub fn digit(b: u8) -> u8
-    ensures { λ r. ⌜ r < 16 ⌝ }
+    ensures { λ r. ⌜ r ≡ digitValue b ⌝ }
 {
     match b {
         48..=57 => b - 48,
@@ -16,8 +18,7 @@ pub fn digit(b: u8) -> u8
 
 // The end of the line that begins at a position.
 pub fn line_end(input: &[u8], from: usize) -> usize
-    requires { ⌜ from ≤ length (now input) ⌝ }
-    ensures { λ r. ⌜ (from ≤ r) × (r ≤ length (now (input .entry))) ⌝ }
+    ensures { λ r. ⌜ r ≡ lineEnd (now (input .entry)) from ⌝ }
 {
     let mut i = from;
     while i < input.len() {
@@ -32,7 +33,7 @@ pub fn line_end(input: &[u8], from: usize) -> usize
 // The bytes whose hex digits stand from a position to another, as many as there is room for; it says how many.
 pub fn decode(input: &[u8], from: usize, to: usize, rule: &mut [u8]) -> usize
     requires { ⌜ to ≤ length (now input) ⌝ }
-    ensures { λ r. ⌜ (r ≤ length (now (rule .entry))) × Counts r (now (rule .exit)) ⌝ }
+    ensures { λ r. ⌜ Decoded (slice from to (now (input .entry))) (now (rule .entry)) r (now (rule .exit)) ⌝ }
 {
     let mut at = from;
     let mut n = 0;
@@ -52,8 +53,8 @@ pub fn decode(input: &[u8], from: usize, to: usize, rule: &mut [u8]) -> usize
 
 // The end of the word that begins at a position, before another: a space ends it.
 pub fn word_end(input: &[u8], from: usize, to: usize) -> usize
-    requires { ⌜ (from ≤ to) × (to ≤ length (now input)) ⌝ }
-    ensures { λ r. ⌜ (from ≤ r) × (r ≤ to) ⌝ }
+    requires { ⌜ to ≤ length (now input) ⌝ }
+    ensures { λ r. ⌜ r ≡ wordEnd (now (input .entry)) from to ⌝ }
 {
     let mut i = from;
     while i < to {
@@ -67,25 +68,24 @@ pub fn word_end(input: &[u8], from: usize, to: usize) -> usize
 
 // The beginning of the next word.
 pub fn next_word(from: usize, to: usize) -> usize
-    requires { ⌜ from ≤ to ⌝ }
-    ensures { λ r. ⌜ (from ≤ r) × (r ≤ to) ⌝ }
+    ensures { λ r. ⌜ r ≡ nextWord from to ⌝ }
 {
     if from < to { from + 1 } else { to }
 }
 
-// The decimal number between two positions, held at a limit.
+// The decimal number between two positions, held at a limit. A sum of 64 bits has room for one digit more than any limit.
 pub fn number(input: &[u8], from: usize, to: usize, limit: u32) -> u32
-    requires { ⌜ (to ≤ length (now input)) × (limit ≤ 100000000) ⌝ }
-    ensures { λ r. ⌜ r ≤ limit ⌝ }
+    requires { ⌜ to ≤ length (now input) ⌝ }
+    ensures { λ r. ⌜ r ≡ numberIn (now (input .entry)) from to limit ⌝ }
 {
     let mut i = from;
-    let mut n: u32 = 0;
+    let mut n: u64 = 0;
     while i < to {
-        n = n * 10 + digit(input[i]) as u32;
-        if limit < n {
+        n = n * 10 + digit(input[i]) as u64;
+        if n > limit as u64 {
             return limit;
         }
         i += 1;
     }
-    n
+    n as u32
 }

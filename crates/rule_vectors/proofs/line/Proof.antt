@@ -32,7 +32,7 @@ slice-aggregate-tell c = search needs
 
 tell-requires : tie.Need-tell-requires
 unfolding ruleLimit
-tell-requires c κs = (simp length-take (omega (arith, c .before .before .before .decode .ensures .0)), omega arith)
+tell-requires c κs = (simp length-take (omega (arith, c .before .before .before .decode .ensures .counts .0)), omega arith)
 
 same-length : tie.Need-same-length
 same-length c = search needs

@@ -1,4 +1,6 @@
 -- What is decoded is no longer than the arrays that it is decoded into.
+use Rattle.vectors.specs.Laws.Digits.{number-most}
+use Rattle.vectors.specs.Laws.Ends.{word-within, next-within}
 use native.Mathlib.Omega.{arith}
 use lib.ListN.{length-take}
 use Rattle.syntax.specs.Limits.{ruleLimit}
@@ -43,10 +45,10 @@ next-word-requires-4 : tie.Need-next-word-requires-4
 next-word-requires-4 c κs = search needs
 
 number-requires : tie.Need-number-requires
-number-requires c κs = search needs
+number-requires c κs = omega (arith, word-within _ _ (c .before .before .before .before .before .before .before .before .before .before .before .before .before .before .pre .1) _ _ (c .before .before .before .before .before .word-end2 .ensures) (next-within _ _ _ (c .before .before .before .before .before .before .next-word .ensures)))
 
 number-requires-2 : tie.Need-number-requires-2
-number-requires-2 c κs = search needs
+number-requires-2 c κs = omega (arith, word-within _ _ (c .before .before .before .before .before .before .before .before .before .before .before .before .before .before .before .pre .1) _ _ (c .before .before .before .before .word-end3 .ensures) (next-within _ _ _ (c .before .before .before .before .before .next-word2 .ensures)))
 
 cast-start : tie.Need-cast-start
 cast-start c = search needs
@@ -55,7 +57,7 @@ slice-aggregate-decode : tie.Need-slice-aggregate-decode
 slice-aggregate-decode c = search needs
 
 decode-requires : tie.Need-decode-requires
-decode-requires c κs = search needs
+decode-requires c κs = omega (arith, word-within _ _ (c .before .before .before .before .before .before .before .before .before .before .before .before .before .before .before .before .before .pre .1) _ _ (c .before .before .before .before .word-end4 .ensures) (next-within _ _ _ (c .before .before .before .before .before .next-word3 .ensures)))
 
 slice-aggregate-decode-2 : tie.Need-slice-aggregate-decode-2
 slice-aggregate-decode-2 c = search needs
@@ -77,7 +79,7 @@ slice-aggregate-tell-2 c = search needs
 
 tell-requires : tie.Need-tell-requires
 unfolding ruleLimit
-tell-requires c κs = (simp length-take (omega (arith, c .before .before .before .before .before .before .before .before .decode .ensures .0)), c .before .before .before .before .before .before .before .before .before .before .before .before .before .before .before .before .before .before .before .before .before .before .before .before .before .before .pre .2, simp length-take (omega (arith, c .before .before .before .before .before .decode2 .ensures .0)), omega (arith, c .before .before .before .before .before .before .before .before .before .before .before .number .ensures, c .before .before .before .before .before .before .before .before .before .before .before .before .before .before .before .before .before .before .before .before .before .before .before .before .before .before .pre .3))
+tell-requires c κs = (simp length-take (omega (arith, c .before .before .before .before .before .before .before .before .decode .ensures .counts .0)), c .before .before .before .before .before .before .before .before .before .before .before .before .before .before .before .before .before .before .before .before .before .before .before .before .before .before .pre .2, simp length-take (omega (arith, c .before .before .before .before .before .decode2 .ensures .counts .0)), omega (arith, number-most _ _ _ _ _ (c .before .before .before .before .before .before .before .before .before .before .before .number .ensures), c .before .before .before .before .before .before .before .before .before .before .before .before .before .before .before .before .before .before .before .before .before .before .before .before .before .before .pre .3))
 
 same-length : tie.Need-same-length
 same-length c = search needs

@@ -1,4 +1,6 @@
 -- Each line is walked in turn; the areas keep their lengths, and the position moves on.
+use native.Mathlib.Omega.{arith}
+use Rattle.vectors.specs.Laws.Ends.{line-least, line-within}
 use borrow.Author.Needs.{needs}
 use mathlib.Core.Path.{_≡_}
 use lib.ListN.{length}
@@ -19,13 +21,13 @@ line-end-requires : tie.Need-line-end-requires Inv-loop μ-loop
 line-end-requires c κs = search needs
 
 line-requires : tie.Need-line-requires Inv-loop μ-loop
-line-requires c κs = search needs
+line-requires c κs = (line-least _ _ _ (c .before .before .line-end .ensures), line-within _ _ _ (c .before .before .line-end .ensures) (omega arith), search needs, search needs)
 
 add-at : tie.Need-add-at Inv-loop μ-loop
-add-at c = search needs
+add-at c = omega (arith, line-within _ _ _ (c .before .before .before .before .before .before .before .line-end .ensures) (omega arith))
 
 loop-less : tie.Need-loop-less Inv-loop μ-loop
-loop-less c = search needs
+loop-less c = omega (arith, line-least _ _ _ (c .before .before .before .before .before .before .before .line-end .ensures))
 
 loop-again : tie.Need-loop-again Inv-loop μ-loop
 loop-again c = search needs
