@@ -1,6 +1,6 @@
 -- `number` meets its contract. The loop's invariant: the digits passed stand for `n`, which is within the limit, and behind it the rest stand for the whole.
 use borrow.Author.Needs.{needs}
-use Prim.Native.Nat.{_+_, _-_, _*_}
+use Prim.Native.Nat.{_-_}
 use native.Mathlib.Omega.{arith}
 use Rattle.vectors.specs.Laws.Digits.{digit-small, Counted, counted-none, counted-more, counted-over, counted-all}
 use Rattle.vectors.proofs.number.Statement.{statement}
@@ -31,7 +31,7 @@ add-n : tie.Need-add-n Inv-loop μ-loop
 add-n c = omega (arith, digit-small _ _ (c .digit .ensures))
 
 returns : tie.Need-returns Inv-loop μ-loop
-returns c = counted-over _ _ _ _ _ _ (c .before .before .before .before .loop .inv) (omega arith) (c .before .before .before .before .before .before .pre) (c .before .before .before .before .loop .n * 10 + c .before .digit .result) (rw (c .before .digit .ensures)) (omega arith)
+returns c = counted-over _ _ _ _ _ _ (c .before .before .before .before .loop .inv) (omega arith) (c .before .before .before .before .before .before .pre) _ (rw (c .before .digit .ensures)) (c .if1 .taken)
 
 add-i : tie.Need-add-i Inv-loop μ-loop
 add-i c = search needs
@@ -40,7 +40,7 @@ loop-less : tie.Need-loop-less Inv-loop μ-loop
 loop-less c = search needs
 
 loop-again : tie.Need-loop-again Inv-loop μ-loop
-loop-again c = counted-more _ _ _ _ _ _ (c .before .before .before .before .loop .inv) (omega arith) (c .before .before .before .before .before .before .pre) (c .before .before .before .before .loop .n * 10 + c .before .digit .result) (rw (c .before .digit .ensures)) (omega arith)
+loop-again c = counted-more _ _ _ _ _ _ (c .before .before .before .before .loop .inv) (omega arith) (c .before .before .before .before .before .before .pre) _ (rw (c .before .digit .ensures)) (omega arith)
 
 cast-result : tie.Need-cast-result Inv-loop μ-loop
 cast-result c = search needs
