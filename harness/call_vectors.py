@@ -12,6 +12,7 @@ from walk_vectors import READINGS
 
 TARGET = Path(__file__).resolve().parent.parent / "crates" / "call_vectors"
 RULE_AREA, ROW = 16384, 66
+MOST = 100000  # the largest budget
 
 
 def row_line(row):
@@ -53,7 +54,7 @@ def cases():
             yield 0, rule, flags, subject, budget, (RULE_AREA, 16 * budget, ROW)
             yield 1, rule, flags, subject, budget, (RULE_AREA, 16 * budget, 2 * ROW)
     for kind in (0, 1):
-        for budget, work in ((100000, 320000), (100001, 320000), (20000, 320000), (1000, 15999), (1000, 16000), (1000, 16001)):
+        for budget, work in ((MOST, 16 * MOST), (MOST, 16 * MOST - 1), (MOST + 1, 16 * MOST), (20000, 320000), (1000, 15999), (1000, 16000), (1000, 16001)):
             yield kind, b"a*", 0, b"aa", budget, (RULE_AREA, work, ROW)
         for area in (0, RULE_AREA - 1, RULE_AREA):
             yield kind, b"a", 0, b"a", 10, (area, 160, ROW)
@@ -67,6 +68,7 @@ def cases():
             yield kind, b"b", 0, b"a" * size, 10, (RULE_AREA, 160, ROW)
             yield kind, b"a*", 0, b"a" * size, 20000, (RULE_AREA, 320000, ROW)
             yield kind, b"\\z", 0, b"a" * size, 10, (RULE_AREA, 160, ROW)
+        yield from at_the_largest_budget(kind)
         # two faults: the lower number
         yield kind, b"a" * 1001, 4, b"a" * 65536, 100001, (0, 0, 0)
         yield kind, b"(", 4, b"a" * 65536, 100001, (0, 0, 0)
@@ -76,6 +78,23 @@ def cases():
         yield kind, b"(", 0, b"a", 10, (RULE_AREA, 0, 0)
         yield kind, b"(", 0, b"a", 10, (RULE_AREA, 160, 0)
         yield kind, b"(", 0, b"a", 10, (RULE_AREA, 160, ROW)
+
+
+def at_the_largest_budget(kind):
+    most = lambda rule, subject, rows: (kind, rule, 0, subject, MOST, (RULE_AREA, 16 * MOST, rows * ROW))
+    # `^a*` takes its last step just within the budget, one more `a` needs two more
+    yield most(b"^a*", b"a" * 49998, 1)
+    yield most(b"^a*", b"a" * 49999, 1)
+    # steps double with each `a`: all starts are within the budget, the first is beyond it, or a later one
+    for size in (5, 11, 12, 13, 14, 20, 1000):
+        yield most(b"(a*)*b", b"a" * size, 1)
+    yield most(b"(a*)*c", b"b" + b"a" * 20, 1)
+    yield most(b"(?:a|a)*$", b"a" * 14 + b"b", 1)
+    yield most(b"(?:(a*)*b|a*)", b"a" * 13, 1)
+    # many ways to few readings, many readings with room for some, and with room for all
+    yield most(b"(?:a*)*", b"a" * 20, 100)
+    yield most(b"(a*)*", b"a" * 20, 100)
+    yield most(b"(?:a?){9}", b"a" * 9, 100)
 
 
 def main():

@@ -189,7 +189,7 @@ fn within(n: u32, length: usize) -> usize
 // What is lent to all calls.
 const RULE_AREA: usize = 16384;
 
-const WORK_AREA: usize = 320000;
+const WORK_AREA: usize = 1600000;
 
 const RESULT_AREA: usize = 6600;
 
@@ -272,11 +272,16 @@ fn lines(input: &[u8], area: &mut [u32], work: &mut [u32], results: &mut [u32]) 
     }
 }
 
+// All lines, with an area for work that is lent as an array: it is too long for the checker to be made a slice where it stands.
+fn all(input: &[u8], work: &mut [u32; WORK_AREA]) {
+    let mut area = [7u32; RULE_AREA];
+    let mut results = [7u32; RESULT_AREA];
+    lines(input, &mut area, work, &mut results);
+}
+
 fn main() {
     let mut buffer = io::large_buffer();
     let n = io::read_full(STDIN_FILENO, &mut buffer);
-    let mut area = [7u32; RULE_AREA];
     let mut work = [7u32; WORK_AREA];
-    let mut results = [7u32; RESULT_AREA];
-    lines(&buffer[..n], &mut area, &mut work, &mut results);
+    all(&buffer[..n], &mut work);
 }
