@@ -16,15 +16,19 @@ bytes-short [] h = refl
 bytes-short (d ∷ []) h = refl
 bytes-short (d ∷ e ∷ ds) h = absurd (omega arith)
 
+-- the bytes whose digits stand between two positions
+abbrev pub bytesIn : List ℕ → ℕ → ℕ → List ℕ
+bytesIn s from to = bytesOf (slice from to s)
+
 -- the byte whose two digits stand at a position
 byteAt : List ℕ → ℕ → ℕ
 byteAt s at = digitValue (getD s at 0) * 16 + digitValue (getD s (at + 1) 0)
 
 module _ (s : List ℕ) (at to : ℕ) (k : to ≤ length s) where
-  bytes-none : to ≤ at + 1 → bytesOf (slice at to s) ≡ []
+  bytes-none : to ≤ at + 1 → bytesIn s at to ≡ []
   bytes-none h = bytes-short (slice at to s) (rw (length-slice at to s k) (omega arith))
 
-  bytes-more : at + 1 < to → bytesOf (slice at to s) ≡ byteAt s at ∷ bytesOf (slice (at + 2) to s)
+  bytes-more : at + 1 < to → bytesIn s at to ≡ byteAt s at ∷ bytesIn s (at + 2) to
   unfolding bytesOf byteAt
   bytes-more h =
       let two : at + 2 ≡ suc (suc at) = omega arith in
@@ -42,9 +46,9 @@ over-more all old n h k =
 -- n bytes of the digits' are written over the first of the old ones, and those of the digits from `at` on are left
 pub record Filled (s : List ℕ) (from to : ℕ) (old : List ℕ) (at n : ℕ) (new : List ℕ) : Type 0 where
   pub room : n ≤ length old
-  pub made : n ≤ length (bytesOf (slice from to s))
-  pub rest : drop n (bytesOf (slice from to s)) ≡ bytesOf (slice at to s)
-  pub bytes : new ≡ take n (bytesOf (slice from to s)) ++ drop n old
+  pub made : n ≤ length (bytesIn s from to)
+  pub rest : drop n (bytesIn s from to) ≡ bytesIn s at to
+  pub bytes : new ≡ take n (bytesIn s from to) ++ drop n old
 
 module _ (s : List ℕ) (from to : ℕ) (old : List ℕ) where
   pub filled-none : Filled s from to old from 0 old
@@ -54,10 +58,10 @@ module _ (s : List ℕ) (from to : ℕ) (old : List ℕ) where
     pub filled-length : length new ≡ length old
     filled-length =
         let h : n ≤ length old = f .room in
-        let k : n ≤ length (bytesOf (slice from to s)) = f .made in
+        let k : n ≤ length (bytesIn s from to) = f .made in
         rw (f .bytes) (simp (length-append, length-take, length-drop) (omega arith))
 
-    decoded-by : n ≡ min (length old) (length (bytesOf (slice from to s))) → Decoded (slice from to s) old n new
+    decoded-by : n ≡ min (length old) (length (bytesIn s from to)) → Decoded (slice from to s) old n new
     decoded-by e =
         let h : n ≤ length new = omega (arith, filled-length, f .room) in
         record { number = e; bytes = f .bytes; counts = (h, sym (length-take-le n new h)) }
@@ -66,31 +70,31 @@ module _ (s : List ℕ) (from to : ℕ) (old : List ℕ) where
     pub filled-full : n ≡ length old → Decoded (slice from to s) old n new
     filled-full e = decoded-by (omega (arith, f .made))
 
-    left : length (bytesOf (slice from to s)) - n ≡ length (bytesOf (slice at to s))
-    left = sym (length-drop n (bytesOf (slice from to s))) ∙ ap length (f .rest)
+    left : length (bytesIn s from to) - n ≡ length (bytesIn s at to)
+    left = sym (length-drop n (bytesIn s from to)) ∙ ap length (f .rest)
 
     pub filled-all : to ≤ length s → to ≤ at + 1 → Decoded (slice from to s) old n new
     filled-all k h =
-        let none : length (bytesOf (slice at to s)) ≡ 0 = ap length (bytes-none s at to k h) in
+        let none : length (bytesIn s at to) ≡ 0 = ap length (bytes-none s at to k h) in
         decoded-by (omega (arith, left, f .made, f .room))
 
     module _ (k : to ≤ length s) (h : at + 1 < to) (r : n < length old) where
-      more : drop n (bytesOf (slice from to s)) ≡ byteAt s at ∷ bytesOf (slice (at + 2) to s)
+      more : drop n (bytesIn s from to) ≡ byteAt s at ∷ bytesIn s (at + 2) to
       more = f .rest ∙ bytes-more s at to k h
 
-      in-all : n < length (bytesOf (slice from to s))
+      in-all : n < length (bytesIn s from to)
       in-all = omega (arith, left, ap length (bytes-more s at to k h))
 
       stored : Filled s from to old (at + 2) (n + 1) (set new n (byteAt s at))
       stored =
-          let a : drop n (bytesOf (slice from to s)) ≡ byteAt s at ∷ bytesOf (slice (at + 2) to s) = more in
-          let b : drop n (bytesOf (slice from to s)) ≡ getD (bytesOf (slice from to s)) n 0 ∷ drop (suc n) (bytesOf (slice from to s)) = drop-cons _ n 0 in-all in
-          let e : byteAt s at ≡ getD (bytesOf (slice from to s)) n 0 = cc in
+          let a : drop n (bytesIn s from to) ≡ byteAt s at ∷ bytesIn s (at + 2) to = more in
+          let b : drop n (bytesIn s from to) ≡ getD (bytesIn s from to) n 0 ∷ drop (suc n) (bytesIn s from to) = drop-cons _ n 0 in-all in
+          let e : byteAt s at ≡ getD (bytesIn s from to) n 0 = cc in
           record {
             room = omega arith;
             made = omega (arith, in-all);
             rest = rw (add-one n) (cc);
-            bytes = rw (e, f .bytes) (over-more (bytesOf (slice from to s)) old n in-all r);
+            bytes = rw (e, f .bytes) (over-more (bytesIn s from to) old n in-all r);
           }
 
       pub filled-more : (high low : ℕ) → high ≡ digitValue (getD s at 0) → low ≡ digitValue (getD s (at + 1) 0)
