@@ -16,7 +16,7 @@ high n = n / (2 ^ 32)
 -- "[0] kind, [1] exhausted start or refusal number, else 0, [2] refusal's place, else 0, [3] steps' low 32 bits, [4] their high 32 bits,
 -- [5] rows written"
 unfoldable pub numbers : (kind which place steps rows : ℕ) → List ℕ
-numbers kind which place steps rows = kind ∷ which ∷ low place ∷ low steps ∷ high steps ∷ low rows ∷ []
+numbers kind which place steps rows = kind ∷ which ∷ place ∷ low steps ∷ high steps ∷ low rows ∷ []
 
 -- "3 refused. Steps are 0 if refused."
 unfoldable pub refusalNumbers : (place : ℕ) → Reason → List ℕ

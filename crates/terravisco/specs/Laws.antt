@@ -1,7 +1,19 @@
 -- What the numbers of an outcome are, by the code's own cases.
 use mathlib.Core.Path.{_≡_, refl}
-use Prim.Native.Nat.{ℕ}
+use Prim.Native.Nat.{ℕ, _≤_, _<_}
+use native.Mathlib.Omega.{arith}
+use native.Mathlib.Decide.{decLt}
+use lib.ListN.{length}
 use Rattle.syntax.specs.declared.Refusal.{Refusal}
+use Rattle.syntax.specs.declared.Reason.{Reason}
+use Rattle.syntax.specs.declared.Reason.the-variants.{RuleTooLong}
+use Rattle.syntax.specs.Limits.{ruleLimit}
+use Rattle.syntax.specs.Read.{Read, refused}
+use Rattle.syntax.specs.Reading.{reading}
+use Rattle.syntax.specs.Laws.Places.{Placed, reading-placed}
+use Rattle.semantics.specs.Calls.{Call, matchCall, listCall, MatchOutcome, Matched as Answer·Matched, NotMatched as Answer·NotMatched, Exhausted as Answer·Exhausted, Refused as Answer·Refused, ListOutcome, Complete as Answer·Complete, Full as Answer·Full, ListExhausted, ListRefused}
+use Rattle.semantics.specs.Demands.{Faultless, ruleTooLong, Refuses, itself, itsRule}
+use Rattle.semantics.specs.DemandsHold.{match-meets-demands, list-meets-demands}
 use Rattle.matcher.specs.declared.matching.Outcome.{Outcome}
 use Rattle.matcher.specs.declared.matching.Outcome.the-variants.{Matched, NotMatched, Exhausted, Refused}
 use Rattle.matcher.specs.declared.listing.Listing.{Listing}
@@ -10,7 +22,68 @@ use Rattle.matcher.specs.Outcomes.{outcomeOf}
 use Rattle.matcher.specs.Listing.{listingOf}
 use Rattle.terravisco.specs.Answers.{numbers, refusalNumbers, matchNumbers, listNumbers}
 
--- A match
+-- Places ------------------------------------------------------------------------
+
+-- a refusal's place is no more than a rule's length, and so fits into 32 bits
+abbrev pub MatchPlaced : MatchOutcome → Type 0
+MatchPlaced (Answer·Matched steps) = Unit
+MatchPlaced (Answer·NotMatched steps) = Unit
+MatchPlaced (Answer·Exhausted start steps) = Unit
+MatchPlaced (Answer·Refused place why) = place ≤ ruleLimit
+
+abbrev pub ListPlaced : ListOutcome → Type 0
+ListPlaced (Answer·Complete rows steps) = Unit
+ListPlaced (Answer·Full rows steps) = Unit
+ListPlaced (ListExhausted start rows steps) = Unit
+ListPlaced (ListRefused place why) = place ≤ ruleLimit
+
+of-reading : {A : Type 0} (n : ℕ) (x : Read A) (place : ℕ) (why : Reason) → x ≡ refused place why → Placed n x → place ≤ n
+of-reading n x place why e h = rw e at h
+
+short : (c : Call) → Faultless c → Dec (ruleLimit < length (c .rule)) → length (c .rule) ≤ ruleLimit
+short c f (yes h) = absurd (f RuleTooLong (ruleTooLong h))
+short c f (no h) = omega arith
+
+refuses-placed : (c : Call) (place : ℕ) (why : Reason) → Refuses c place why → place ≤ ruleLimit
+refuses-placed c place why (itself f) = omega arith
+refuses-placed c place why (itsRule f e) =
+    let h = of-reading (length (c .rule)) (reading (c .rule) (c .flags)) place why e (reading-placed (c .rule) (c .flags)) in
+    omega (arith, h, short c f (decLt ruleLimit (length (c .rule))))
+
+match-placed : (c : Call) → MatchPlaced (matchCall c .outcome)
+match-placed c = of (matchCall c .outcome) refl
+  where
+    of : (o : MatchOutcome) → matchCall c .outcome ≡ o → MatchPlaced o
+    of (Answer·Matched steps) e = tt
+    of (Answer·NotMatched steps) e = tt
+    of (Answer·Exhausted start steps) e = tt
+    of (Answer·Refused place why) e = refuses-placed c place why (match-meets-demands c .demand-1 .refused-exactly place why .0 e)
+
+list-placed : (c : Call) → ListPlaced (listCall c .outcome)
+list-placed c = of (listCall c .outcome) refl
+  where
+    of : (o : ListOutcome) → listCall c .outcome ≡ o → ListPlaced o
+    of (Answer·Complete rows steps) e = tt
+    of (Answer·Full rows steps) e = tt
+    of (ListExhausted start rows steps) e = tt
+    of (ListRefused place why) e = refuses-placed c place why (list-meets-demands c .demand-1 .refused-exactly place why .0 e)
+
+-- what the code's outcome is, a place in it fits
+pub match-told : (o : Outcome) (c : Call) → outcomeOf o ≡ matchCall c .outcome → MatchPlaced (outcomeOf o)
+match-told o c e = rw e (match-placed c)
+
+pub list-told : (o : Listing) (c : Call) → listingOf o ≡ listCall c .outcome → ListPlaced (listingOf o)
+list-told o c e = rw e (list-placed c)
+
+pub match-place : (o : Outcome) (f : Refusal) → o ≡ Refused f → MatchPlaced (outcomeOf o) → f .place ≤ ruleLimit
+unfolding outcomeOf
+match-place o f e h = rw e at h
+
+pub list-place : (o : Listing) (f : Refusal) → o ≡ Denied f → ListPlaced (listingOf o) → f .place ≤ ruleLimit
+unfolding listingOf
+list-place o f e h = rw e at h
+
+-- A match -----------------------------------------------------------------------
 
 pub of-matched : (o : Outcome) (steps : ℕ) → o ≡ Matched steps → numbers 0 0 0 steps 1 ≡ matchNumbers (outcomeOf o)
 unfolding matchNumbers outcomeOf
@@ -28,7 +101,7 @@ pub of-refused : (o : Outcome) (f : Refusal) → o ≡ Refused f → refusalNumb
 unfolding matchNumbers outcomeOf
 of-refused o f e = rw e refl
 
--- A listing
+-- A listing ---------------------------------------------------------------------
 
 pub of-whole : (o : Listing) (rows steps : ℕ) → o ≡ Complete rows steps → numbers 0 0 0 steps rows ≡ listNumbers (listingOf o)
 unfolding listNumbers listingOf

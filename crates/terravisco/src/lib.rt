@@ -3,23 +3,26 @@ use matcher::Listing;
 use matcher::Outcome;
 use syntax::Refusal;
 ghost use mathlib.Core.Path.{_≡_};
+ghost use Prim.Native.Nat.{_≤_};
+ghost use Rattle.syntax.specs.Limits.{ruleLimit};
 ghost use Rattle.semantics.specs.Calls.{matchCall, listCall};
 ghost use Rattle.matcher.specs.Inputs.{callOf};
 ghost use Rattle.matcher.specs.Outcomes.{outcomeOf};
 ghost use Rattle.matcher.specs.Listing.{listingOf};
 ghost use Rattle.terravisco.specs.Answers.{numbers, refusalNumbers, matchNumbers, listNumbers, Answered};
+ghost use Rattle.terravisco.specs.Laws.{MatchPlaced, ListPlaced};
 
 // 2^32
 const WORD: u64 = 4294967296;
 
 // Writes an answer: the kind, the start or refusal number, the place, the steps in two halves and the rows.
-fn tell(answer: &mut [u32; 6], kind: u32, which: u32, place: usize, steps: u64, rows: usize)
+fn tell(answer: &mut [u32; 6], kind: u32, which: u32, place: u32, steps: u64, rows: usize)
     ensures { λ _. ⌜ now (answer .exit) ≡ numbers kind which place steps rows ⌝ }
 {
     *answer = [
         kind,
         which,
-        (place as u64 % WORD) as u32,
+        place,
         (steps % WORD) as u32,
         (steps / WORD) as u32,
         (rows as u64 % WORD) as u32,
@@ -28,13 +31,15 @@ fn tell(answer: &mut [u32; 6], kind: u32, which: u32, place: usize, steps: u64, 
 
 // A refusal has the same numbers from both calls.
 fn tell_refusal(answer: &mut [u32; 6], f: Refusal)
+    requires { ⌜ f .place ≤ ruleLimit ⌝ }
     ensures { λ _. ⌜ now (answer .exit) ≡ refusalNumbers (f .place) (f .reason) ⌝ }
 {
     let reason = f.reason;
-    tell(answer, 3, syntax::number(reason), f.place, 0, 0);
+    tell(answer, 3, syntax::number(reason), f.place as u32, 0, 0);
 }
 
 fn tell_match(answer: &mut [u32; 6], outcome: Outcome)
+    requires { ⌜ MatchPlaced (outcomeOf outcome) ⌝ }
     ensures { λ _. ⌜ now (answer .exit) ≡ matchNumbers (outcomeOf outcome) ⌝ }
 {
     match outcome {
@@ -46,6 +51,7 @@ fn tell_match(answer: &mut [u32; 6], outcome: Outcome)
 }
 
 fn tell_listing(answer: &mut [u32; 6], outcome: Listing)
+    requires { ⌜ ListPlaced (listingOf outcome) ⌝ }
     ensures { λ _. ⌜ now (answer .exit) ≡ listNumbers (listingOf outcome) ⌝ }
 {
     match outcome {

@@ -1,6 +1,6 @@
 -- `tell_match` meets its contract: each case of the outcome has the numbers of its own law.
 use mathlib.Core.Path.{_∙_}
-use Rattle.terravisco.specs.Laws.{of-matched, of-not-matched, of-spent, of-refused}
+use Rattle.terravisco.specs.Laws.{of-matched, of-not-matched, of-spent, of-refused, match-place}
 use borrow.Author.Needs.{needs}
 use Rattle.terravisco.proofs.tell_match.Statement.{statement}
 use Rattle.terravisco.proofs.tell_match.Tie as tie
@@ -31,7 +31,7 @@ enum-known-outcome-4 : tie.Need-enum-known-outcome-4
 enum-known-outcome-4 c = search needs
 
 tell-refusal-requires : tie.Need-tell-refusal-requires
-tell-refusal-requires c κs = search needs
+tell-refusal-requires c κs = match-place _ _ (c .before .before .outcome4 .given .1) (c .before .before .before .before .pre)
 
 returns : tie.Need-returns
 returns c = c .tell .ensures ∙ of-matched _ _ (c .before .before .before .outcome .given .1)

@@ -1,6 +1,9 @@
 -- `terravisco_list` meets its contract: the call's own promise, with its outcome in numbers.
 use mathlib.Core.Path.{_∙_, ap}
 use Rattle.terravisco.specs.Answers.{listNumbers}
+use denote.Ref.{now}
+use Rattle.matcher.specs.Inputs.{callOf}
+use Rattle.terravisco.specs.Laws.{list-told}
 use borrow.Author.Needs.{needs}
 use Rattle.terravisco.proofs.terravisco_list.Statement.{statement}
 use Rattle.terravisco.proofs.terravisco_list.Tie as tie
@@ -13,7 +16,9 @@ list-readings-requires : tie.Need-list-readings-requires
 list-readings-requires c κs = search needs
 
 tell-listing-requires : tie.Need-tell-listing-requires
-tell-listing-requires c κs = search needs
+tell-listing-requires c κs =
+    let a = c .before .before .before .before .before .before .before .before .before .before .before .before .before .before .before .before .args in
+    list-told _ (callOf (now (a .rule)) (a .flags) (now (a .subject)) (a .budget) (now (a .rule-area)) (now (a .work-area)) (now (a .result))) (c .before .before .before .before .before .before .before .list-readings .ensures .outcome-is)
 
 same-length : tie.Need-same-length
 same-length c = search needs

@@ -1,6 +1,9 @@
 -- `terravisco_match` meets its contract: the call's own promise, with its outcome in numbers.
 use mathlib.Core.Path.{_∙_, ap}
 use Rattle.terravisco.specs.Answers.{matchNumbers}
+use denote.Ref.{now}
+use Rattle.matcher.specs.Inputs.{callOf}
+use Rattle.terravisco.specs.Laws.{match-told}
 use borrow.Author.Needs.{needs}
 use Rattle.terravisco.proofs.terravisco_match.Statement.{statement}
 use Rattle.terravisco.proofs.terravisco_match.Tie as tie
@@ -13,7 +16,9 @@ match-line-requires : tie.Need-match-line-requires
 match-line-requires c κs = search needs
 
 tell-match-requires : tie.Need-tell-match-requires
-tell-match-requires c κs = search needs
+tell-match-requires c κs =
+    let a = c .before .before .before .before .before .before .before .before .before .before .before .before .before .before .before .before .args in
+    match-told _ (callOf (now (a .rule)) (a .flags) (now (a .subject)) (a .budget) (now (a .rule-area)) (now (a .work-area)) (now (a .result))) (c .before .before .before .before .before .before .before .match-line .ensures .outcome-is)
 
 same-length : tie.Need-same-length
 same-length c = search needs
