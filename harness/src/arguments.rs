@@ -1,0 +1,31 @@
+//! The arguments that the test programs share: `--cases N` and `--seeds A..B`.
+
+use std::ops::Range;
+
+/// How many cases of each seed, and which seeds.
+pub struct Arguments {
+    pub cases: u64,
+    pub seeds: Range<u64>,
+}
+
+/// The arguments given, or these for the ones that are not; ends the program where they cannot be read.
+pub fn arguments(cases: u64, seeds: Range<u64>) -> Arguments {
+    let given: Vec<String> = std::env::args().skip(1).collect();
+    let mut arguments = Arguments { cases, seeds };
+    if !given.len().is_multiple_of(2) || !given.chunks(2).all(|pair| read(&mut arguments, &pair[0], &pair[1])) {
+        eprintln!("usage: [--cases N] [--seeds A..B]");
+        std::process::exit(2);
+    }
+    arguments
+}
+
+fn read(arguments: &mut Arguments, name: &str, value: &str) -> bool {
+    match name {
+        "--cases" => value.parse().map(|cases| arguments.cases = cases).is_ok(),
+        "--seeds" => {
+            let ends = value.split_once("..").and_then(|(from, to)| Some((from.parse().ok()?, to.parse().ok()?)));
+            ends.map(|(from, to)| arguments.seeds = from..to).is_some()
+        }
+        _ => false,
+    }
+}

@@ -1,0 +1,66 @@
+//! The library against the independent matcher on random calls: answers, steps, rows, refusals with their places, and every number of the
+//! three areas. `--cases N --seeds A..B` runs other cases, as many as wanted.
+
+use harness::arguments::arguments;
+use harness::case::{Case, Lender};
+use harness::independent::{Answer, Ending};
+use harness::random::calls;
+use harness::report::Group;
+use harness::shrink::shrunk;
+
+fn main() -> std::process::ExitCode {
+    let arguments = arguments(100_000, 1..4);
+    let mut group = Group::new("random calls against the independent matcher");
+    let mut lender = Lender::default();
+    let mut kinds = Kinds::default();
+    for seed in arguments.seeds.clone() {
+        for number in 0..arguments.cases {
+            let case = calls::case(seed, number);
+            let expected = case.expected();
+            let faults = lender.compare(&case, &expected);
+            kinds.count(&expected);
+            if faults.is_empty() {
+                group.pass();
+            } else {
+                group.fail(&told(&mut lender, seed, number, &case, &faults));
+            }
+        }
+    }
+    group.end(&format!("seeds {:?}: {}", arguments.seeds, kinds.told()))
+}
+
+/// How many cases had which answer: a test that meets only some of them shows little.
+#[derive(Default)]
+struct Kinds {
+    endings: [u64; 5],
+    refusals: [u64; 25],
+}
+
+impl Kinds {
+    fn count(&mut self, answer: &Answer) {
+        match answer.ending {
+            Ending::Matched => self.endings[0] += 1,
+            Ending::NotMatched => self.endings[1] += 1,
+            Ending::Complete => self.endings[2] += 1,
+            Ending::Full => self.endings[3] += 1,
+            Ending::Exhausted(_) => self.endings[4] += 1,
+            Ending::Refused(refusal) => self.refusals[refusal.number as usize] += 1,
+        }
+    }
+
+    fn told(&self) -> String {
+        let [matched, not, complete, full, exhausted] = self.endings;
+        let rarest = (1..25).filter(|number| ![8, 9].contains(number)).map(|number| self.refusals[number]).min().unwrap_or(0);
+        let refused: u64 = self.refusals.iter().sum();
+        format!(
+            "{matched} matched, {not} not, {complete} complete, {full} full, {exhausted} exhausted, {refused} refused, each refusal at least {rarest} times"
+        )
+    }
+}
+
+/// The case with its faults, and the smallest case like it.
+fn told(lender: &mut Lender, seed: u64, number: u64, case: &Case, faults: &[String]) -> String {
+    let small = shrunk(case, |smaller| !lender.compare(smaller, &smaller.expected()).is_empty());
+    let small_faults = lender.compare(&small, &small.expected());
+    format!("case {number} of seed {seed}\n{}\n{}\nsmaller: {}\n{}", case.shown(), faults.join("\n"), small.shown(), small_faults.join("\n"))
+}

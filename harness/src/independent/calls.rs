@@ -1,0 +1,145 @@
+//! The two calls: refusals 1 to 7, the starts one after another, rows, and how a call ends.
+
+use std::collections::HashSet;
+
+use crate::raw::Call;
+
+use super::reader::{self, Refusal};
+use super::tree::Rule;
+use super::walk::{End, Event, Walk};
+
+pub const ROW_LENGTH: usize = 66;
+pub const UNSET: u32 = 4_294_967_295;
+pub const RULE_AREA: usize = 16_384;
+pub const WORK_PER_STEP: usize = 16;
+
+/// A row: start, end, then 32 pairs.
+pub type Row = [u32; ROW_LENGTH];
+
+/// All that a call is given. Of the lent areas only their lengths matter for the answer.
+pub struct Inputs<'a> {
+    pub rule: &'a [u8],
+    pub flags: u32,
+    pub subject: &'a [u8],
+    pub budget: u32,
+    pub rule_area: usize,
+    pub work_area: usize,
+    pub result_area: usize,
+}
+
+#[derive(Clone, Copy, PartialEq, Eq, Debug)]
+pub enum Ending {
+    Matched,
+    NotMatched,
+    Complete,
+    Full,
+    /// Exhausted at this start.
+    Exhausted(usize),
+    Refused(Refusal),
+}
+
+/// What a call answers and the rows that it writes. A refusal has no steps.
+pub struct Answer {
+    pub ending: Ending,
+    pub steps: u64,
+    pub rows: Vec<Row>,
+}
+
+impl Answer {
+    /// "After refusals 1 to 7 both areas are unchanged; after any other return their needed first part is zero".
+    pub fn clears_areas(&self) -> bool {
+        !matches!(self.ending, Ending::Refused(refusal) if refusal.number <= 7)
+    }
+}
+
+/// The answer of one call.
+pub fn answer(call: Call, inputs: &Inputs) -> Answer {
+    let refused = |refusal| Answer { ending: Ending::Refused(refusal), steps: 0, rows: Vec::new() };
+    if let Some(number) = unacceptable(inputs) {
+        return refused(Refusal { number, place: 0 });
+    }
+    match (reader::read(inputs.rule, inputs.flags), call) {
+        (Err(refusal), _) => refused(refusal),
+        (Ok(rule), Call::Match) => first_reading(&rule, inputs),
+        (Ok(rule), Call::List) => all_readings(&rule, inputs),
+    }
+}
+
+/// The first of refusals 1 to 7 that is due, "tested in this order".
+fn unacceptable(inputs: &Inputs) -> Option<u32> {
+    let tests = [
+        inputs.rule.len() > 1_000,
+        inputs.subject.len() > 65_535,
+        inputs.flags > 3,
+        inputs.budget > 100_000,
+        inputs.rule_area < RULE_AREA,
+        inputs.work_area < WORK_PER_STEP * inputs.budget as usize,
+        inputs.result_area < ROW_LENGTH,
+    ];
+    (1..).zip(tests).find(|&(_, due)| due).map(|(number, _)| number)
+}
+
+/// "A match stops at the first end reached". The budget holds afresh at each start.
+fn first_reading(rule: &Rule, inputs: &Inputs) -> Answer {
+    let mut steps = 0;
+    for start in 0..=inputs.subject.len() {
+        let mut walk = Walk::new(rule, inputs.subject, start, u64::from(inputs.budget));
+        let event = walk.next_event();
+        steps += walk.steps;
+        match event {
+            Event::End(end) => return Answer { ending: Ending::Matched, steps, rows: vec![row(start, &end)] },
+            Event::Exhausted => return Answer { ending: Ending::Exhausted(start), steps, rows: Vec::new() },
+            Event::Over => {}
+        }
+    }
+    Answer { ending: Ending::NotMatched, steps, rows: Vec::new() }
+}
+
+/// "a listing goes on, and ends complete, full, or exhausted at a named start, which ends the whole call".
+fn all_readings(rule: &Rule, inputs: &Inputs) -> Answer {
+    let room = inputs.result_area / ROW_LENGTH;
+    let mut answer = Answer { ending: Ending::Complete, steps: 0, rows: Vec::new() };
+    for start in 0..=inputs.subject.len() {
+        let mut walk = Walk::new(rule, inputs.subject, start, u64::from(inputs.budget));
+        let cut = list_from(start, &mut walk, room, &mut answer.rows);
+        answer.steps += walk.steps;
+        if let Some(ending) = cut {
+            answer.ending = ending;
+            return answer;
+        }
+    }
+    answer
+}
+
+/// Adds a start's new readings to the rows, and says what cut the listing short, if anything did.
+fn list_from(start: usize, walk: &mut Walk, room: usize, rows: &mut Vec<Row>) -> Option<Ending> {
+    let mut known = HashSet::new();
+    loop {
+        match walk.next_event() {
+            Event::Over => return None,
+            Event::Exhausted => return Some(Ending::Exhausted(start)),
+            Event::End(end) => {
+                let reading = row(start, &end);
+                if known.insert(reading) {
+                    if rows.len() == room {
+                        return Some(Ending::Full);
+                    }
+                    rows.push(reading);
+                }
+            }
+        }
+    }
+}
+
+/// "A row is 66 numbers of 32 bits: start, end, then 32 pairs; an unset or missing group is 4294967295 twice."
+fn row(start: usize, end: &End) -> Row {
+    let number = |place: usize| u32::try_from(place).expect("a place in a subject fits");
+    let mut row = [UNSET; ROW_LENGTH];
+    (row[0], row[1]) = (number(start), number(end.end));
+    for (group, span) in end.spans.iter().enumerate().skip(1) {
+        if let Some((from, to)) = *span {
+            (row[2 * group], row[2 * group + 1]) = (number(from), number(to));
+        }
+    }
+    row
+}

@@ -1,0 +1,14 @@
+//! An independent matcher, written from document 01 and the readings of its open points alone. It shares no line with the library and is
+//! simple rather than fast: what it answers is what the library's answers are held against.
+
+mod calls;
+mod classes;
+mod escapes;
+mod reader;
+mod sets;
+pub mod tree;
+mod walk;
+
+pub use calls::{answer, Answer, Ending, Inputs, Row, ROW_LENGTH, RULE_AREA, UNSET, WORK_PER_STEP};
+pub use reader::{read, Refusal, FLAG_M, FLAG_S};
+pub use sets::ByteSet;

@@ -1,0 +1,235 @@
+//! The rule reader: from a rule's bytes to its tree, or to the refusal (10 to 24) that is met first from left to right.
+
+use super::escapes::Escape;
+use super::sets::ByteSet;
+use super::tree::{Alternation, Group, Part, Place, Repeat, Rule};
+
+/// A refusal's number and its place in the rule, counted from 0.
+#[derive(Clone, Copy, PartialEq, Eq, Debug)]
+pub struct Refusal {
+    pub number: u32,
+    pub place: usize,
+}
+
+pub const FLAG_S: u32 = 1;
+pub const FLAG_M: u32 = 2;
+
+const MOST_GROUPS: usize = 32;
+const MOST_DEPTH: usize = 24;
+const GREATEST_BOUND: u64 = 255;
+
+const NO_SUCH_GROUP: u32 = 13;
+const NOTHING_TO_REPEAT: u32 = 17;
+const BAD_BRACE: u32 = 18;
+const REPEATED_REPEAT: u32 = 19;
+const BRACKET_NOT_CLOSED: u32 = 20;
+const BRACKET_NOT_OPENED: u32 = 21;
+const OTHER_OPENING: u32 = 22;
+const TOO_MANY_GROUPS: u32 = 23;
+const TOO_DEEP: u32 = 24;
+
+/// Where the reading of a rule stands.
+pub struct Reader<'r> {
+    pub bytes: &'r [u8],
+    pub at: usize,
+    /// Capturing groups opened so far.
+    pub groups: usize,
+    flags: u32,
+    /// Each reference's place and the group it names, if it can name one at all.
+    references: Vec<(usize, Option<u64>)>,
+}
+
+/// What stands where a repeat could stand.
+enum Form {
+    Nothing,
+    /// A `{` that begins no well-formed repeat.
+    Stray,
+    /// A repeat by its form, its bounds as they are written, and its length without a lazy mark.
+    Bounds { least: u64, most: Option<u64>, length: usize },
+}
+
+/// Reads a rule, or gives its first refusal.
+pub fn read(rule: &[u8], flags: u32) -> Result<Rule, Refusal> {
+    let mut reader = Reader { bytes: rule, at: 0, groups: 0, flags, references: Vec::new() };
+    let whole = reader.alternation(0)?;
+    if reader.peek() == Some(b')') {
+        return Err(Refusal { number: BRACKET_NOT_OPENED, place: reader.at });
+    }
+    reader.references_are_met()?;
+    Ok(Rule { whole, groups: reader.groups })
+}
+
+impl<'r> Reader<'r> {
+    pub fn peek(&self) -> Option<u8> {
+        self.bytes.get(self.at).copied()
+    }
+
+    /// Takes the next byte. At the rule's end there is none, and nothing moves.
+    pub fn take(&mut self) -> Option<u8> {
+        let byte = self.peek()?;
+        self.at += 1;
+        Some(byte)
+    }
+
+    /// Takes the next byte if it is this one.
+    pub fn skip(&mut self, wanted: u8) -> bool {
+        let there = self.peek() == Some(wanted);
+        self.at += usize::from(there);
+        there
+    }
+
+    /// The value of the run of digits that begins here, at most so many of them, or none if there is no digit. A value too great for the
+    /// type is held at its greatest, which is above every limit.
+    pub fn digits(&mut self, base: u32, most: usize) -> Option<u64> {
+        let from = self.at;
+        let mut value = 0u64;
+        while let Some(digit) = self.peek().and_then(|byte| char::from(byte).to_digit(base)) {
+            if self.at - from == most {
+                break;
+            }
+            value = value.saturating_mul(u64::from(base)).saturating_add(u64::from(digit));
+            self.at += 1;
+        }
+        (self.at > from).then_some(value)
+    }
+
+    /// "13 is tested after the whole rule is otherwise sound, lowest place first."
+    fn references_are_met(&self) -> Result<(), Refusal> {
+        for &(place, group) in &self.references {
+            if !group.is_some_and(|number| (1..=self.groups as u64).contains(&number)) {
+                return Err(Refusal { number: NO_SUCH_GROUP, place });
+            }
+        }
+        Ok(())
+    }
+
+    /// Reads branches up to a `)` or the rule's end; `depth` groups are open around them.
+    fn alternation(&mut self, depth: usize) -> Result<Alternation, Refusal> {
+        let mut branches = vec![self.branch(depth)?];
+        while self.skip(b'|') {
+            branches.push(self.branch(depth)?);
+        }
+        Ok(Alternation { branches })
+    }
+
+    fn branch(&mut self, depth: usize) -> Result<Vec<Part>, Refusal> {
+        let mut parts = Vec::new();
+        while !matches!(self.peek(), None | Some(b'|') | Some(b')')) {
+            self.no_repeat_here()?;
+            let part = self.item(depth)?;
+            parts.push(if matches!(part, Part::Place(_)) { part } else { self.with_repeat(part)? });
+        }
+        Ok(parts)
+    }
+
+    /// Behind the rule's start, a group's opening, a bar or a place there is nothing to repeat.
+    fn no_repeat_here(&self) -> Result<(), Refusal> {
+        match self.form_here() {
+            Form::Nothing => Ok(()),
+            Form::Stray => Err(Refusal { number: BAD_BRACE, place: self.at }),
+            Form::Bounds { .. } => Err(Refusal { number: NOTHING_TO_REPEAT, place: self.at }),
+        }
+    }
+
+    /// Reads one item without its repeat.
+    fn item(&mut self, depth: usize) -> Result<Part, Refusal> {
+        let place = self.at;
+        let several_lines = self.flags & FLAG_M != 0;
+        match self.peek().expect("the caller has looked") {
+            b'(' => return self.group(depth),
+            b'[' => return Ok(Part::Byte(self.class()?)),
+            b'\\' => return self.escaped(place),
+            _ => {}
+        }
+        Ok(match self.take().expect("the caller has looked") {
+            b'^' if several_lines => Part::Place(Place::LineStart),
+            b'^' => Part::Place(Place::Start),
+            b'$' if several_lines => Part::Place(Place::LineEnd),
+            b'$' => Part::Place(Place::EndOrLastNewline),
+            b'.' if self.flags & FLAG_S != 0 => Part::Byte(ByteSet::empty().complement()),
+            b'.' => Part::Byte(ByteSet::one(0x0A).complement()),
+            byte => Part::Byte(ByteSet::one(byte)),
+        })
+    }
+
+    fn escaped(&mut self, place: usize) -> Result<Part, Refusal> {
+        Ok(match self.escape_outside()? {
+            Escape::Byte(byte) => Part::Byte(ByteSet::one(byte)),
+            Escape::Set(set) => Part::Byte(set),
+            Escape::Place(place) => Part::Place(place),
+            Escape::Reference(group) => {
+                self.references.push((place, group));
+                // A group that is not there is refused before the tree is used.
+                Part::Reference(group.and_then(|number| usize::try_from(number).ok()).unwrap_or(0))
+            }
+        })
+    }
+
+    /// Reads a group. All three faults of an opening have its place: "on one byte the lower number".
+    fn group(&mut self, depth: usize) -> Result<Part, Refusal> {
+        let place = self.at;
+        self.at += 1;
+        let capturing = !self.skip(b'?');
+        if !capturing && !self.skip(b':') {
+            return Err(Refusal { number: OTHER_OPENING, place });
+        }
+        if capturing && self.groups == MOST_GROUPS {
+            return Err(Refusal { number: TOO_MANY_GROUPS, place });
+        }
+        if depth == MOST_DEPTH {
+            return Err(Refusal { number: TOO_DEEP, place });
+        }
+        self.groups += usize::from(capturing);
+        let number = capturing.then_some(self.groups);
+        let inside = self.alternation(depth + 1)?;
+        if !self.skip(b')') {
+            return Err(Refusal { number: BRACKET_NOT_CLOSED, place });
+        }
+        Ok(Part::Group(Group { number, inside }))
+    }
+
+    /// The part with the repeat that follows it, if one does.
+    fn with_repeat(&mut self, body: Part) -> Result<Part, Refusal> {
+        let (least, most) = match self.good_bounds_here()? {
+            None => return Ok(body),
+            Some((least, most, length)) => {
+                self.at += length;
+                (least, most)
+            }
+        };
+        let greedy = !self.skip(b'?');
+        if self.good_bounds_here()?.is_some() {
+            return Err(Refusal { number: REPEATED_REPEAT, place: self.at });
+        }
+        Ok(Part::Repeat(Box::new(Repeat { body, least, most, greedy })))
+    }
+
+    /// The bounds and the length of the repeat that stands here, if one does; "18: stray `{`, a bound over 255, or n > m".
+    fn good_bounds_here(&self) -> Result<Option<(u64, Option<u64>, usize)>, Refusal> {
+        match self.form_here() {
+            Form::Nothing => Ok(None),
+            Form::Bounds { least, most, length } if least.max(most.unwrap_or(0)) <= GREATEST_BOUND && most.is_none_or(|most| least <= most) => {
+                Ok(Some((least, most, length)))
+            }
+            _ => Err(Refusal { number: BAD_BRACE, place: self.at }),
+        }
+    }
+
+    fn form_here(&self) -> Form {
+        match self.peek() {
+            Some(b'*') => Form::Bounds { least: 0, most: None, length: 1 },
+            Some(b'+') => Form::Bounds { least: 1, most: None, length: 1 },
+            Some(b'?') => Form::Bounds { least: 0, most: Some(1), length: 1 },
+            Some(b'{') => self.braces_here().unwrap_or(Form::Stray),
+            _ => Form::Nothing,
+        }
+    }
+
+    /// `{n}`, `{n,}` or `{n,m}`, if that is what stands here.
+    fn braces_here(&self) -> Option<Form> {
+        let mut ahead = Reader { bytes: self.bytes, at: self.at + 1, groups: 0, flags: 0, references: Vec::new() };
+        let least = ahead.digits(10, usize::MAX)?;
+        let most = if ahead.skip(b',') { ahead.digits(10, usize::MAX) } else { Some(least) };
+        ahead.skip(b'}').then_some(Form::Bounds { least, most, length: ahead.at - self.at })
+    }
+}

@@ -1,0 +1,56 @@
+//! What a sound rule is once it has been read: alternations of sequences of parts.
+
+use super::sets::ByteSet;
+
+/// A sound rule and the number of its capturing groups.
+pub struct Rule {
+    pub whole: Alternation,
+    pub groups: usize,
+}
+
+/// Branches in the rule's order; there is always one, which may be empty.
+pub struct Alternation {
+    pub branches: Vec<Vec<Part>>,
+}
+
+pub enum Part {
+    Byte(ByteSet),
+    Place(Place),
+    /// The group referred to, counted from 1.
+    Reference(usize),
+    Group(Group),
+    Repeat(Box<Repeat>),
+}
+
+pub struct Group {
+    /// The group's number, counted from 1, or none for `(?: )`.
+    pub number: Option<usize>,
+    pub inside: Alternation,
+}
+
+pub struct Repeat {
+    pub body: Part,
+    pub least: u64,
+    /// The most rounds, or none where they are not bounded.
+    pub most: Option<u64>,
+    pub greedy: bool,
+}
+
+/// The places of document 01; `^` and `$` are settled by the flag `m` when the rule is read.
+#[derive(Clone, Copy, PartialEq, Eq)]
+pub enum Place {
+    /// `\A`, and `^` without `m`.
+    Start,
+    /// `^` under `m`.
+    LineStart,
+    /// `\z`.
+    End,
+    /// `\Z`, and `$` without `m`.
+    EndOrLastNewline,
+    /// `$` under `m`.
+    LineEnd,
+    /// `\b`.
+    WordEdge,
+    /// `\B`.
+    NoWordEdge,
+}

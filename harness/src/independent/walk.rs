@@ -1,0 +1,219 @@
+//! The walk from one start: it tries derivations depth first, in the order of their priority, and counts its steps.
+//!
+//! What is still to be done is a list of tasks that states share, and the tries put off are a stack of states: nothing recurses, so a
+//! long subject cannot overflow the program's own stack.
+
+use std::rc::Rc;
+
+use super::sets;
+use super::tree::{Alternation, Part, Place, Repeat, Rule};
+
+/// The spans of the groups that are set, by number; entry 0 is not used.
+pub type Spans = Vec<Option<(usize, usize)>>;
+
+/// Where one start's walk ends with the rule's end reached.
+pub struct End {
+    pub end: usize,
+    pub spans: Rc<Spans>,
+}
+
+pub enum Event {
+    End(End),
+    Exhausted,
+    /// Nothing is left to try.
+    Over,
+}
+
+pub struct Walk<'r> {
+    subject: &'r [u8],
+    budget: u64,
+    pub steps: u64,
+    /// Tries put off, the next one last.
+    pending: Vec<State<'r>>,
+}
+
+#[derive(Clone)]
+struct State<'r> {
+    at: usize,
+    spans: Rc<Spans>,
+    todo: Todo<'r>,
+}
+
+type Todo<'r> = Option<Rc<Tasks<'r>>>;
+
+struct Tasks<'r> {
+    first: Task<'r>,
+    rest: Todo<'r>,
+}
+
+#[derive(Clone, Copy)]
+enum Task<'r> {
+    /// Begin the branch of this index, or, on falling back, one behind it.
+    Branch(&'r Alternation, usize),
+    /// Go through these parts.
+    Parts(&'r [Part]),
+    /// Close the group that was opened here.
+    Close { group: usize, from: usize },
+    /// Decide after so many rounds, the last of which began here.
+    Decide { repeat: &'r Repeat, rounds: u64, last_from: Option<usize> },
+}
+
+enum Tried<'r> {
+    On(State<'r>),
+    Failed,
+}
+
+/// The walk needs a step and has used its budget.
+struct NoStepLeft;
+
+fn push<'r>(first: Task<'r>, rest: &Todo<'r>) -> Todo<'r> {
+    Some(Rc::new(Tasks { first, rest: rest.clone() }))
+}
+
+impl<'r> Walk<'r> {
+    pub fn new(rule: &'r Rule, subject: &'r [u8], start: usize, budget: u64) -> Walk<'r> {
+        let todo = push(Task::Branch(&rule.whole, 0), &None);
+        let begin = State { at: start, spans: Rc::new(vec![None; rule.groups + 1]), todo };
+        Walk { subject, budget, steps: 0, pending: vec![begin] }
+    }
+
+    /// Goes on until the rule's end is reached, the budget is used or nothing is left.
+    pub fn next_event(&mut self) -> Event {
+        while let Some(mut state) = self.pending.pop() {
+            loop {
+                let Some(tasks) = state.todo.clone() else {
+                    return match self.step() {
+                        Ok(()) => Event::End(End { end: state.at, spans: state.spans }),
+                        Err(NoStepLeft) => Event::Exhausted,
+                    };
+                };
+                state.todo = tasks.rest.clone();
+                match self.perform(tasks.first, state) {
+                    Ok(Tried::On(next)) => state = next,
+                    Ok(Tried::Failed) => break,
+                    Err(NoStepLeft) => return Event::Exhausted,
+                }
+            }
+        }
+        Event::Over
+    }
+
+    fn step(&mut self) -> Result<(), NoStepLeft> {
+        if self.steps == self.budget {
+            return Err(NoStepLeft);
+        }
+        self.steps += 1;
+        Ok(())
+    }
+
+    /// Performs one task; the state's list holds what comes behind it.
+    fn perform(&mut self, task: Task<'r>, mut state: State<'r>) -> Result<Tried<'r>, NoStepLeft> {
+        match task {
+            Task::Branch(alternation, index) => self.begin_branch(alternation, index, state),
+            Task::Parts([]) => Ok(Tried::On(state)),
+            Task::Parts([part, behind @ ..]) => {
+                state.todo = push(Task::Parts(behind), &state.todo);
+                self.try_part(part, state)
+            }
+            Task::Close { group, from } => {
+                self.step()?;
+                let span = (from, state.at);
+                Rc::make_mut(&mut state.spans)[group] = Some(span);
+                Ok(Tried::On(state))
+            }
+            Task::Decide { repeat, rounds, last_from } => self.decide(repeat, rounds, last_from, state),
+        }
+    }
+
+    /// "a branch begun (two or more branches)": the later ones are tried on falling back, and each costs its step then.
+    fn begin_branch(&mut self, alternation: &'r Alternation, index: usize, mut state: State<'r>) -> Result<Tried<'r>, NoStepLeft> {
+        if alternation.branches.len() > 1 {
+            self.step()?;
+        }
+        if index + 1 < alternation.branches.len() {
+            let todo = push(Task::Branch(alternation, index + 1), &state.todo);
+            self.pending.push(State { at: state.at, spans: state.spans.clone(), todo });
+        }
+        state.todo = push(Task::Parts(&alternation.branches[index]), &state.todo);
+        Ok(Tried::On(state))
+    }
+
+    fn try_part(&mut self, part: &'r Part, mut state: State<'r>) -> Result<Tried<'r>, NoStepLeft> {
+        match part {
+            Part::Byte(set) => {
+                self.step()?;
+                let fits = self.subject.get(state.at).is_some_and(|&byte| set.has(byte));
+                state.at += 1;
+                Ok(if fits { Tried::On(state) } else { Tried::Failed })
+            }
+            Part::Place(place) => {
+                self.step()?;
+                Ok(if holds(*place, self.subject, state.at) { Tried::On(state) } else { Tried::Failed })
+            }
+            Part::Reference(group) => {
+                self.step()?;
+                Ok(self.refer(*group, state))
+            }
+            Part::Group(group) => {
+                if let Some(number) = group.number {
+                    self.step()?;
+                    state.todo = push(Task::Close { group: number, from: state.at }, &state.todo);
+                }
+                state.todo = push(Task::Branch(&group.inside, 0), &state.todo);
+                Ok(Tried::On(state))
+            }
+            Part::Repeat(repeat) => {
+                state.todo = push(Task::Decide { repeat, rounds: 0, last_from: None }, &state.todo);
+                Ok(Tried::On(state))
+            }
+        }
+    }
+
+    /// "A reference needs its group set, and matches the same bytes".
+    fn refer(&self, group: usize, mut state: State<'r>) -> Tried<'r> {
+        let Some((from, to)) = state.spans[group] else { return Tried::Failed };
+        if !self.subject[state.at..].starts_with(&self.subject[from..to]) {
+            return Tried::Failed;
+        }
+        state.at += to - from;
+        Tried::On(state)
+    }
+
+    /// "below the minimum a round; at the maximum go on; if the minimum is reached and the last round took no bytes, go on; else both, a
+    /// round first when greedy, going on first when lazy".
+    fn decide(&mut self, repeat: &'r Repeat, rounds: u64, last_from: Option<usize>, state: State<'r>) -> Result<Tried<'r>, NoStepLeft> {
+        self.step()?;
+        let again = push(Task::Decide { repeat, rounds: rounds + 1, last_from: Some(state.at) }, &state.todo);
+        let round = State {
+            at: state.at,
+            spans: state.spans.clone(),
+            todo: push(Task::Parts(std::slice::from_ref(&repeat.body)), &again),
+        };
+        if rounds < repeat.least {
+            return Ok(Tried::On(round));
+        }
+        if repeat.most == Some(rounds) || last_from == Some(state.at) {
+            return Ok(Tried::On(state));
+        }
+        let (first, second) = if repeat.greedy { (round, state) } else { (state, round) };
+        self.pending.push(second);
+        Ok(Tried::On(first))
+    }
+}
+
+/// Document 01, "Places".
+fn holds(place: Place, subject: &[u8], at: usize) -> bool {
+    let end = subject.len();
+    let last_newline = at + 1 == end && subject[at] == 0x0A;
+    let word = |index: Option<usize>| index.and_then(|index| subject.get(index)).is_some_and(|&byte| sets::is_word(byte));
+    let word_edge = word(at.checked_sub(1)) != word(Some(at));
+    match place {
+        Place::Start => at == 0,
+        Place::LineStart => at == 0 || (subject[at - 1] == 0x0A && at != end),
+        Place::End => at == end,
+        Place::EndOrLastNewline => at == end || last_newline,
+        Place::LineEnd => at == end || subject[at] == 0x0A,
+        Place::WordEdge => word_edge,
+        Place::NoWordEdge => !word_edge,
+    }
+}

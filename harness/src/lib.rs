@@ -1,0 +1,12 @@
+//! Tests of the library terravisco against the outside world: an independent matcher, Perl, PCRE2 and the examples of the documents.
+
+pub mod arguments;
+pub mod case;
+pub mod independent;
+pub mod random;
+pub mod raw;
+pub mod refusal;
+pub mod report;
+pub mod shrink;
+pub mod terravisco;
+pub mod text;

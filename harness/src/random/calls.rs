@@ -1,0 +1,59 @@
+//! Random calls: a rule of one of the kinds, a subject near it, flags, a budget and areas.
+
+use super::{damage, rules, subjects, Rng};
+use crate::case::Case;
+use crate::independent::{self, ROW_LENGTH, RULE_AREA, WORK_PER_STEP};
+use crate::raw::Call;
+
+/// The case of this seed and number.
+pub fn case(seed: u64, number: u64) -> Case {
+    let rng = &mut Rng::new(seed, number);
+    let style = rules::any_style(rng);
+    let rule = match rng.weighted(&[62, 17, 12, 3, 6]) {
+        0 => rules::rule(rng, style),
+        1 => damage::damaged(rng),
+        2 => damage::jumble(rng),
+        3 => damage::noise(rng),
+        _ => damage::at_limit(rng),
+    };
+    let flags = if rng.percent(1) { *rng.pick(&[4, 5, 8, 0x8000_0000, u32::MAX]) } else { rng.below(4) as u32 };
+    let tree = independent::read(&rule, flags).ok();
+    let mut subject = subjects::subject(rng, tree.as_ref(), style.alphabet);
+    if rng.below(1_000) == 0 {
+        subject.resize(65_536 + rng.below(2), b'a');
+    }
+    let budget = budget(rng);
+    let (rule_area, work_area, result_area) = areas(rng, budget);
+    let call = if rng.percent(50) { Call::Match } else { Call::List };
+    Case { call, rule, flags, subject, budget, rule_area, work_area, result_area }
+}
+
+fn budget(rng: &mut Rng) -> u32 {
+    let budget = match rng.weighted(&[400, 100, 480, 3, 2, 15]) {
+        0 => rng.between(0, 30),
+        1 => rng.between(31, 300),
+        2 => 1_000,
+        3 => rng.between(1_001, 20_000),
+        4 => rng.between(99_999, 100_000),
+        _ => *rng.pick(&[100_001, 100_002, 200_000, u32::MAX as usize]),
+    };
+    budget as u32
+}
+
+/// Lengths of rule, work and result area: exactly enough, one short, or longer.
+fn areas(rng: &mut Rng, budget: u32) -> (usize, usize, usize) {
+    // A budget over the limit is refused before the areas are looked at.
+    let work = if budget > 100_000 { 16 } else { WORK_PER_STEP * budget as usize };
+    let rows = 1 + rng.weighted(&[20, 15, 10, 10, 5, 5, 5, 5, 25]);
+    let result = ROW_LENGTH * if rows == 9 { rng.between(9, 40) } else { rows } + rng.below(2) * rng.below(ROW_LENGTH);
+    (length(rng, RULE_AREA), length(rng, work), if rng.percent(2) { *rng.pick(&[0, 1, 64, 65]) } else { result })
+}
+
+fn length(rng: &mut Rng, needed: usize) -> usize {
+    match rng.weighted(&[67, 30, 2, 1]) {
+        0 => needed,
+        1 => needed + rng.between(1, 20),
+        2 => needed.saturating_sub(1),
+        _ => rng.between(0, needed),
+    }
+}

@@ -1,0 +1,219 @@
+//! Random rules within the held syntax. Weights favour what goes wrong in matchers: nested repeats, empty rounds and branches, references
+//! to groups before and behind, classes with `-` and `]` at odd places.
+
+use super::Rng;
+
+/// How a rule is made.
+#[derive(Clone, Copy)]
+pub struct Style {
+    /// The bytes of literals.
+    pub alphabet: &'static [u8],
+    /// How deep groups may nest.
+    pub depth: usize,
+    /// Only forms that Perl and PCRE2 read as document 01 does: no zeros before a number, no references that may count as octal, no
+    /// bracket in a class that may begin a POSIX form.
+    pub plain: bool,
+}
+
+pub const ALPHABETS: [&[u8]; 5] = [b"ab", b"ab", b"ab1\n", b"a1, -_", b"\x00a\n\x7F\x80\x85\xA0\xFF]"];
+
+const SETS: &[u8] = b"dDwWsShHvV";
+const NAMES: [&str; 14] =
+    ["alpha", "upper", "lower", "alnum", "xdigit", "blank", "cntrl", "ascii", "print", "graph", "punct", "digit", "word", "space"];
+
+/// A style for any reader of document 01.
+pub fn any_style(rng: &mut Rng) -> Style {
+    Style { alphabet: ALPHABETS[rng.below(ALPHABETS.len())], depth: rng.between(1, 4), plain: false }
+}
+
+/// A style for rules that other matchers are to read too.
+pub fn plain_style(rng: &mut Rng) -> Style {
+    Style { plain: true, ..any_style(rng) }
+}
+
+/// A rule of this style. It is nearly always sound; a reference may have no group, and a class range may be bad.
+pub fn rule(rng: &mut Rng, style: Style) -> Vec<u8> {
+    let mut maker = Maker { rng, style, groups: 0, rule: Vec::new() };
+    maker.alternation(style.depth);
+    maker.rule
+}
+
+struct Maker<'r> {
+    rng: &'r mut Rng,
+    style: Style,
+    groups: usize,
+    rule: Vec<u8>,
+}
+
+impl Maker<'_> {
+    fn write(&mut self, text: &str) {
+        self.rule.extend_from_slice(text.as_bytes());
+    }
+
+    fn alternation(&mut self, depth: usize) {
+        let branches = 1 + self.rng.weighted(&[60, 25, 10, 5]);
+        for branch in 0..branches {
+            if branch > 0 {
+                self.write("|");
+            }
+            let items = self.rng.weighted(&[12, 40, 28, 14, 6]);
+            for _ in 0..items {
+                self.item(depth);
+            }
+        }
+    }
+
+    fn item(&mut self, depth: usize) {
+        let group = if depth > 0 { 25 } else { 0 };
+        match self.rng.weighted(&[30, 5, 4, 6, 10, 8, 8, group, group / 2]) {
+            0 => self.literal(),
+            1 => self.write("."),
+            2 => self.byte_escape(),
+            3 => {
+                let letter = if self.rng.percent(15) { b'N' } else { *self.rng.pick(SETS) };
+                self.rule.extend([b'\\', letter]);
+            }
+            4 => self.class(),
+            5 => {
+                let place = *self.rng.pick(&["^", "$", "\\A", "\\z", "\\Z", "\\b", "\\B"]);
+                self.write(place);
+                return;
+            }
+            6 => self.reference(),
+            7 => {
+                self.groups += 1;
+                self.group("(", depth);
+            }
+            _ => self.group("(?:", depth),
+        }
+        if self.rng.percent(45) {
+            self.repeat();
+        }
+    }
+
+    fn group(&mut self, opening: &str, depth: usize) {
+        self.write(opening);
+        self.alternation(depth - 1);
+        self.write(")");
+    }
+
+    fn literal(&mut self) {
+        let byte = *self.rng.pick(self.style.alphabet);
+        if b"\\^$.|()[*+?{".contains(&byte) || (!byte.is_ascii_alphanumeric() && byte != b'_' && self.rng.percent(10)) {
+            self.rule.push(b'\\');
+        }
+        self.rule.push(byte);
+    }
+
+    /// An escape for one byte, mostly of the alphabet.
+    fn byte_escape(&mut self) {
+        let byte = if self.rng.percent(70) { *self.rng.pick(self.style.alphabet) } else { self.rng.byte() };
+        let zeros = if self.style.plain { 0 } else { self.rng.below(3) };
+        match self.rng.below(5) {
+            0 => self.write(&format!("\\x{byte:02x}")),
+            1 => self.write(&format!("\\x{{{:0>zeros$}{byte:X}}}", "")),
+            2 => self.write(&format!("\\o{{{:0>zeros$}{byte:o}}}", "")),
+            3 => {
+                let control = *self.rng.pick(b"@ajM[]^_?");
+                self.rule.extend([b'\\', b'c', control]);
+            }
+            _ => {
+                let letter = *self.rng.pick(b"aefnrt");
+                self.rule.extend([b'\\', letter]);
+            }
+        }
+    }
+
+    /// A reference to a group before or behind, or, seldom, to none.
+    fn reference(&mut self) {
+        let group = self.rng.between(1, self.groups + 1);
+        let back = self.groups + 1 - group.min(self.groups);
+        let zero = if !self.style.plain && self.rng.percent(3) { "0" } else { "" };
+        let text = match self.rng.below(5) {
+            0 | 1 if group < 10 => format!("\\{group}"),
+            2 => format!("\\g{{-{zero}{back}}}"),
+            3 if !self.style.plain => format!("\\g-{zero}{back}"),
+            _ => format!("\\g{{{zero}{group}}}"),
+        };
+        self.write(&text);
+    }
+
+    fn repeat(&mut self) {
+        let low = self.rng.weighted(&[25, 35, 30, 10]);
+        let high = low + self.rng.weighted(&[30, 40, 20, 10]);
+        let zero = if !self.style.plain && self.rng.percent(2) { "0" } else { "" };
+        let text = match self.rng.weighted(&[28, 20, 18, 10, 10, 14]) {
+            0 => "*".to_string(),
+            1 => "+".to_string(),
+            2 => "?".to_string(),
+            3 => format!("{{{zero}{low}}}"),
+            4 => format!("{{{zero}{low},}}"),
+            _ => format!("{{{low},{zero}{high}}}"),
+        };
+        self.write(&text);
+        if self.rng.percent(30) {
+            self.write("?");
+        }
+    }
+
+    fn class(&mut self) {
+        self.write("[");
+        if self.rng.percent(25) {
+            self.write("^");
+        }
+        if self.rng.percent(12) {
+            let first = *self.rng.pick(&["]", "-", "]-a", "--a"]);
+            self.write(first);
+        }
+        let members = self.rng.between(1, 3);
+        for _ in 0..members {
+            self.member();
+        }
+        if self.rng.percent(10) {
+            self.write("-");
+        }
+        self.write("]");
+    }
+
+    fn member(&mut self) {
+        match self.rng.weighted(&[40, 20, 12, 14, 8, 6]) {
+            0 => self.class_literal(),
+            1 => self.range(),
+            2 => {
+                let letter = *self.rng.pick(SETS);
+                self.rule.extend([b'\\', letter]);
+            }
+            3 => {
+                let name = *self.rng.pick(&NAMES);
+                let not = if self.rng.percent(25) { "^" } else { "" };
+                self.write(&format!("[:{not}{name}:]"));
+            }
+            4 => {
+                let escape = *self.rng.pick(&["\\b", "\\n", "\\t", "\\x41", "\\x{61}", "\\o{12}", "\\012", "\\61", "\\-", "\\]", "\\\\", "\\cJ"]);
+                self.write(escape);
+            }
+            _ => {
+                let odd = if self.style.plain { "+" } else { *self.rng.pick(&["[", "[:", "[a", "-", "--", "^", ":]"]) };
+                self.write(odd);
+            }
+        }
+    }
+
+    fn class_literal(&mut self) {
+        let byte = *self.rng.pick(self.style.alphabet);
+        if b"\\]-[".contains(&byte) {
+            self.rule.push(b'\\');
+        }
+        self.rule.push(byte);
+    }
+
+    /// A range between two bytes, nearly always in their order.
+    fn range(&mut self) {
+        let (one, other) = (*self.rng.pick(b"abc19,Zz"), *self.rng.pick(b"abc19,Zz"));
+        let (low, high) = if self.rng.percent(97) { (one.min(other), one.max(other)) } else { (one, other) };
+        self.rule.extend([low, b'-', high]);
+        if self.rng.percent(10) {
+            self.write("-");
+        }
+    }
+}

@@ -1,0 +1,89 @@
+//! Random subjects: bytes of a small alphabet, and lines that a rule nearly fits.
+
+use super::Rng;
+use crate::independent::tree::{Alternation, Part, Rule};
+
+/// Lines that grow from a rule are cut here.
+const LONGEST: usize = 40;
+
+/// A subject for a rule, which is none if the rule is refused.
+pub fn subject(rng: &mut Rng, rule: Option<&Rule>, alphabet: &[u8]) -> Vec<u8> {
+    let mut subject = match rule {
+        Some(rule) if rng.percent(60) => fitting(rng, rule),
+        _ => any(rng, alphabet),
+    };
+    if rng.percent(35) {
+        let at = rng.between(0, subject.len());
+        let byte = if rng.percent(90) { *rng.pick(alphabet) } else { rng.byte() };
+        match rng.below(3) {
+            0 => subject.insert(at, byte),
+            1 => subject.truncate(at),
+            _ if at < subject.len() => subject[at] = byte,
+            _ => subject.push(byte),
+        }
+    }
+    if rng.percent(8) {
+        subject.push(b'\n');
+    }
+    subject
+}
+
+/// Mostly short; seldom a line of some length.
+fn any(rng: &mut Rng, alphabet: &[u8]) -> Vec<u8> {
+    let length = match rng.weighted(&[80, 17, 3]) {
+        0 => rng.between(0, 6),
+        1 => rng.between(7, 14),
+        _ => rng.between(15, 60),
+    };
+    let all_values = rng.percent(5);
+    (0..length).map(|_| if all_values { rng.byte() } else { *rng.pick(alphabet) }).collect()
+}
+
+/// A line grown along the rule: the bytes of some branches and rounds. Places are not looked at, so it need not fit.
+fn fitting(rng: &mut Rng, rule: &Rule) -> Vec<u8> {
+    let mut line = Line { text: Vec::new(), groups: vec![Vec::new(); rule.groups + 1] };
+    line.alternation(rng, &rule.whole);
+    line.text.truncate(LONGEST);
+    line.text
+}
+
+struct Line {
+    text: Vec<u8>,
+    groups: Vec<Vec<u8>>,
+}
+
+impl Line {
+    fn alternation(&mut self, rng: &mut Rng, alternation: &Alternation) {
+        for part in rng.pick(&alternation.branches) {
+            self.part(rng, part);
+        }
+    }
+
+    fn part(&mut self, rng: &mut Rng, part: &Part) {
+        if self.text.len() >= LONGEST {
+            return;
+        }
+        match part {
+            Part::Byte(set) => {
+                let bytes = set.bytes();
+                if !bytes.is_empty() {
+                    self.text.push(*rng.pick(&bytes));
+                }
+            }
+            Part::Place(_) => {}
+            Part::Reference(group) => self.text.extend_from_slice(&self.groups[*group]),
+            Part::Group(group) => {
+                let from = self.text.len();
+                self.alternation(rng, &group.inside);
+                self.groups[group.number.unwrap_or(0)] = self.text[from..].to_vec();
+            }
+            Part::Repeat(repeat) => {
+                let least = repeat.least as usize;
+                let rounds = rng.between(least, repeat.most.map_or(least + 2, |most| (least + 2).min(most as usize)));
+                for _ in 0..rounds {
+                    self.part(rng, &repeat.body);
+                }
+            }
+        }
+    }
+}

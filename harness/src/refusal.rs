@@ -1,0 +1,80 @@
+//! Why a call was refused: document 01, "Refusal numbers".
+
+use std::fmt;
+
+/// The reason, and the place in the rule that it is about, counted in bytes from 0; 0 for reasons 1 to 7.
+#[derive(Clone, Copy, PartialEq, Eq, Debug)]
+pub struct Refusal {
+    pub reason: Reason,
+    pub place: usize,
+}
+
+#[derive(Clone, Copy, PartialEq, Eq, Debug)]
+pub enum Reason {
+    RuleTooLong = 1,
+    SubjectTooLong = 2,
+    UnknownFlag = 3,
+    BudgetTooGreat = 4,
+    RuleAreaShort = 5,
+    WorkAreaShort = 6,
+    ResultAreaShort = 7,
+    LoneBackslash = 10,
+    EscapeNotHeld = 11,
+    EscapeIllFormed = 12,
+    NoSuchGroup = 13,
+    ClassNotClosed = 14,
+    BadRange = 15,
+    UnknownSet = 16,
+    NothingToRepeat = 17,
+    BadBraces = 18,
+    RepeatOnRepeat = 19,
+    GroupNotClosed = 20,
+    GroupNotOpened = 21,
+    UnknownOpening = 22,
+    TooManyGroups = 23,
+    TooDeep = 24,
+}
+
+/// Every reason with its sentence.
+const SENTENCES: [(Reason, &str); 22] = [
+    (Reason::RuleTooLong, "the rule is over 1,000 bytes"),
+    (Reason::SubjectTooLong, "the subject is over 65,535 bytes"),
+    (Reason::UnknownFlag, "a flag bit above 1 is set"),
+    (Reason::BudgetTooGreat, "the budget is over 100,000"),
+    (Reason::RuleAreaShort, "the rule area is short"),
+    (Reason::WorkAreaShort, "the work area is short"),
+    (Reason::ResultAreaShort, "the result area is under 66 numbers"),
+    (Reason::LoneBackslash, "a backslash is the rule's last byte"),
+    (Reason::EscapeNotHeld, "the escape is not held here"),
+    (Reason::EscapeIllFormed, "the escape's number or letter is missing, of another form, unclosed or over its limit"),
+    (Reason::NoSuchGroup, "there is no such group"),
+    (Reason::ClassNotClosed, "the class is not closed"),
+    (Reason::BadRange, "the range is bad"),
+    (Reason::UnknownSet, "the named set is unknown"),
+    (Reason::NothingToRepeat, "there is nothing to repeat"),
+    (Reason::BadBraces, "a stray `{`, a bound over 255, or bounds in the wrong order"),
+    (Reason::RepeatOnRepeat, "a repeat on a repeat"),
+    (Reason::GroupNotClosed, "the group is not closed"),
+    (Reason::GroupNotOpened, "a `)` without opening"),
+    (Reason::UnknownOpening, "`(?` is not followed by `:`"),
+    (Reason::TooManyGroups, "a 33rd capturing group"),
+    (Reason::TooDeep, "groups nest more than 24 deep"),
+];
+
+impl Reason {
+    /// Document 01's number of the reason.
+    pub fn number(self) -> u32 {
+        self as u32
+    }
+
+    pub fn from_number(number: u32) -> Option<Reason> {
+        SENTENCES.iter().map(|&(reason, _)| reason).find(|reason| reason.number() == number)
+    }
+}
+
+impl fmt::Display for Refusal {
+    fn fmt(&self, out: &mut fmt::Formatter) -> fmt::Result {
+        let sentence = SENTENCES.iter().find(|(reason, _)| *reason == self.reason).map_or("", |(_, sentence)| sentence);
+        write!(out, "refusal {} at {}: {sentence}", self.reason.number(), self.place)
+    }
+}

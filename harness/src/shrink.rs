@@ -1,0 +1,32 @@
+//! Makes a case that fails smaller, so that a person can read it.
+
+use crate::case::Case;
+
+/// The smallest case found that still fails, by leaving out bytes of rule and subject and lowering the budget.
+pub fn shrunk(case: &Case, mut fails: impl FnMut(&Case) -> bool) -> Case {
+    let mut best = case.clone();
+    loop {
+        let Some(smaller) = candidates(&best).into_iter().find(|candidate| fails(candidate)) else { return best };
+        best = smaller;
+    }
+}
+
+fn candidates(case: &Case) -> Vec<Case> {
+    let mut candidates = Vec::new();
+    for length in [8, 4, 2, 1] {
+        for from in 0..case.rule.len().saturating_sub(length - 1) {
+            let mut smaller = case.clone();
+            smaller.rule.drain(from..from + length);
+            candidates.push(smaller);
+        }
+        for from in 0..case.subject.len().saturating_sub(length - 1) {
+            let mut smaller = case.clone();
+            smaller.subject.drain(from..from + length);
+            candidates.push(smaller);
+        }
+    }
+    if case.flags & 3 != 0 {
+        candidates.push(Case { flags: case.flags & !3, ..case.clone() });
+    }
+    candidates
+}

@@ -1,0 +1,188 @@
+//! Terravisco for a Rust program: a `Matcher` owns the areas that the library works in, and answers in Rust's own types.
+//!
+//! Copy this file with `refusal.rs` and `raw.rs`, and link `libterravisco.a`.
+//!
+//! ```no_run
+//! use harness::terravisco::{Listing, Matcher};
+//!
+//! let mut matcher = Matcher::new(1_000, 10);
+//! if let Listing::Complete { readings, .. } = matcher.list_readings(br"^(?:(\d{1,3},\d{3})|(\d+,\d+)) L$", 0, b"1,500 L") {
+//!     for reading in readings {
+//!         println!("{:?}: {:?} or {:?}", reading.span(), reading.group(1), reading.group(2));
+//!     }
+//! }
+//! ```
+
+use std::ops::Range;
+
+use crate::raw::{self, Call};
+pub use crate::refusal::{Reason, Refusal};
+
+/// `.` takes a newline too.
+pub const FLAG_S: u32 = 1;
+/// `^` and `$` hold at each line's start and end.
+pub const FLAG_M: u32 = 2;
+
+const RULE_AREA: usize = 16_384;
+const WORK_PER_STEP: usize = 16;
+const ROW_LENGTH: usize = 66;
+const GROUPS: usize = 32;
+const UNSET: u32 = u32::MAX;
+
+/// Owns the areas for calls with one budget and room for so many readings. They are made once, and each call uses them again.
+pub struct Matcher {
+    budget: u32,
+    rule_area: Vec<u32>,
+    work_area: Vec<u32>,
+    rows: Vec<u32>,
+}
+
+/// What a match answers.
+#[derive(Debug)]
+pub enum Outcome<'m> {
+    /// The first reading by priority from the leftmost start that has one.
+    Matched { reading: Reading<'m>, steps: u64 },
+    NotMatched { steps: u64 },
+    /// The walk from this start needed more steps than the budget.
+    Exhausted { start: usize, steps: u64 },
+    Refused(Refusal),
+}
+
+/// What a listing answers. Each reading is there once, by rising start and falling priority.
+#[derive(Debug)]
+pub enum Listing<'m> {
+    /// Every reading of the line.
+    Complete { readings: Readings<'m>, steps: u64 },
+    /// There is one more reading than there is room.
+    Full { readings: Readings<'m>, steps: u64 },
+    /// The walk from this start needed more steps than the budget; the readings are those found before.
+    Exhausted { start: usize, readings: Readings<'m>, steps: u64 },
+    Refused(Refusal),
+}
+
+/// The readings that a listing wrote, in order.
+#[derive(Clone, Debug)]
+pub struct Readings<'m> {
+    rows: std::slice::ChunksExact<'m, u32>,
+}
+
+/// One way to read a line: where the rule begins and ends in it, and what each group took.
+#[derive(Clone, Copy)]
+pub struct Reading<'m> {
+    row: &'m [u32],
+}
+
+impl Matcher {
+    /// Areas for a budget of at most 100,000 steps at each start, and for so many readings, at least one.
+    pub fn new(budget: u32, readings: usize) -> Matcher {
+        Matcher {
+            budget,
+            rule_area: vec![0; RULE_AREA],
+            work_area: vec![0; WORK_PER_STEP * budget as usize],
+            rows: vec![0; ROW_LENGTH * readings.max(1)],
+        }
+    }
+
+    /// The first reading of the line. The flags are `FLAG_S` and `FLAG_M`, added up, or 0.
+    pub fn match_line(&mut self, rule: &[u8], flags: u32, line: &[u8]) -> Outcome<'_> {
+        let answer = self.call(Call::Match, rule, flags, line);
+        let steps = answer.steps;
+        match answer.kind {
+            0 => Outcome::Matched { reading: Reading { row: &self.rows[..ROW_LENGTH] }, steps },
+            1 => Outcome::NotMatched { steps },
+            2 => Outcome::Exhausted { start: answer.detail as usize, steps },
+            _ => Outcome::Refused(answer.refusal()),
+        }
+    }
+
+    /// Every reading of the line, as far as budget and room go.
+    pub fn list_readings(&mut self, rule: &[u8], flags: u32, line: &[u8]) -> Listing<'_> {
+        let answer = self.call(Call::List, rule, flags, line);
+        let steps = answer.steps;
+        let readings = Readings { rows: self.rows[..ROW_LENGTH * answer.rows].chunks_exact(ROW_LENGTH) };
+        match answer.kind {
+            0 => Listing::Complete { readings, steps },
+            1 => Listing::Full { readings, steps },
+            2 => Listing::Exhausted { start: answer.detail as usize, readings, steps },
+            _ => Listing::Refused(answer.refusal()),
+        }
+    }
+
+    fn call(&mut self, call: Call, rule: &[u8], flags: u32, subject: &[u8]) -> Answer {
+        let question = raw::Question { rule, flags, subject, budget: self.budget };
+        let areas = raw::Areas { rule: &mut self.rule_area, work: &mut self.work_area, result: &mut self.rows };
+        let mut numbers = [0; 6];
+        raw::call(call, question, areas, &mut numbers);
+        let [kind, detail, place, low, high, rows] = numbers;
+        Answer { kind, detail, place: place as usize, steps: u64::from(high) << 32 | u64::from(low), rows: rows as usize }
+    }
+}
+
+/// The six numbers of an answer by their meaning.
+struct Answer {
+    kind: u32,
+    detail: u32,
+    place: usize,
+    steps: u64,
+    rows: usize,
+}
+
+impl Answer {
+    fn refusal(&self) -> Refusal {
+        Refusal { reason: Reason::from_number(self.detail).expect("the library gives only the numbers of its table"), place: self.place }
+    }
+}
+
+impl<'m> Reading<'m> {
+    pub fn start(&self) -> usize {
+        self.row[0] as usize
+    }
+
+    pub fn end(&self) -> usize {
+        self.row[1] as usize
+    }
+
+    pub fn span(&self) -> Range<usize> {
+        self.start()..self.end()
+    }
+
+    /// What the group of this number took, counted from 1; none if it is not set, or if the rule has no such group.
+    pub fn group(&self, number: usize) -> Option<Range<usize>> {
+        if !(1..=GROUPS).contains(&number) {
+            return None;
+        }
+        let (from, to) = (self.row[2 * number], self.row[2 * number + 1]);
+        (from != UNSET).then_some(from as usize..to as usize)
+    }
+
+    /// What groups 1 to 32 took.
+    pub fn groups(self) -> impl Iterator<Item = Option<Range<usize>>> + 'm {
+        (1..=GROUPS).map(move |number| self.group(number))
+    }
+}
+
+impl std::fmt::Debug for Reading<'_> {
+    fn fmt(&self, out: &mut std::fmt::Formatter) -> std::fmt::Result {
+        write!(out, "{}-{}", self.start(), self.end())?;
+        for (number, span) in (1..).zip(self.groups()) {
+            if let Some(span) = span {
+                write!(out, " {number}:{}-{}", span.start, span.end)?;
+            }
+        }
+        Ok(())
+    }
+}
+
+impl<'m> Iterator for Readings<'m> {
+    type Item = Reading<'m>;
+
+    fn next(&mut self) -> Option<Reading<'m>> {
+        self.rows.next().map(|row| Reading { row })
+    }
+
+    fn size_hint(&self) -> (usize, Option<usize>) {
+        self.rows.size_hint()
+    }
+}
+
+impl ExactSizeIterator for Readings<'_> {}
