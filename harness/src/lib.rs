@@ -2,11 +2,15 @@
 
 pub mod arguments;
 pub mod case;
+pub mod differences;
 pub mod independent;
+pub mod pcre2;
+pub mod perl;
 pub mod random;
 pub mod raw;
 pub mod refusal;
 pub mod report;
+pub mod shapes;
 pub mod shrink;
 pub mod terravisco;
 pub mod text;

@@ -3,6 +3,7 @@
 pub mod calls;
 pub mod damage;
 pub mod rules;
+pub mod shared;
 pub mod subjects;
 
 /// SplitMix64: the same seed gives the same numbers on every machine.

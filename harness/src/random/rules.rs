@@ -35,6 +35,9 @@ pub fn plain_style(rng: &mut Rng) -> Style {
 pub fn rule(rng: &mut Rng, style: Style) -> Vec<u8> {
     let mut maker = Maker { rng, style, groups: 0, rule: Vec::new() };
     maker.alternation(style.depth);
+    if maker.rule.is_empty() && maker.rng.percent(90) {
+        maker.item(style.depth);
+    }
     maker.rule
 }
 
@@ -126,6 +129,9 @@ impl Maker<'_> {
 
     /// A reference to a group before or behind, or, seldom, to none.
     fn reference(&mut self) {
+        if self.groups == 0 && self.rng.percent(80) {
+            return self.literal();
+        }
         let group = self.rng.between(1, self.groups + 1);
         let back = self.groups + 1 - group.min(self.groups);
         let zero = if !self.style.plain && self.rng.percent(3) { "0" } else { "" };

@@ -1,0 +1,25 @@
+# Reads one question a line: flags, rule and subject in hex, and the number of groups, with tabs between them.
+# Answers on one line each: `failed` for a rule refused or a panic, `none`, or start, end and each group's span, `-` for a group that is not set.
+# The rule stands in a variable, so that nothing in it is interpolated.
+use strict;
+no warnings;
+$| = 0;
+while (my $line = <STDIN>) {
+    chomp $line;
+    my ($flags, $rule, $subject, $groups) = split /\t/, $line, -1;
+    ($rule, $subject) = (pack("H*", $rule), pack("H*", $subject));
+    my $modifiers = "a" . (($flags & 1) ? "s" : "") . (($flags & 2) ? "m" : "");
+    my $text = "(?^$modifiers:$rule)";
+    my $compiled = eval { qr/$text/ };
+    if (!defined $compiled) {
+        print "failed\n";
+        next;
+    }
+    # The spans are read where the match was made: they are gone once that block is left.
+    my $answer = eval {
+        $subject =~ $compiled
+            ? join(" ", "$-[0]-$+[0]", map { defined $-[$_] ? "$_:$-[$_]-$+[$_]" : () } 1 .. $groups)
+            : "none";
+    };
+    print defined $answer ? $answer : "failed", "\n";
+}

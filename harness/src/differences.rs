@@ -1,0 +1,94 @@
+//! Where Perl 5.36 and PCRE2 10.42 differ from document 01: docs/DECISIONS.md has the list, with these numbers. A difference that has the
+//! marks of one of them is set aside and counted; any other is a fault.
+
+use std::collections::BTreeMap;
+
+use crate::independent::tree::Rule;
+use crate::independent::{Row, UNSET};
+use crate::shapes::shape;
+
+/// A point of the list.
+#[derive(Clone, Copy, PartialEq, Eq, PartialOrd, Ord, Debug)]
+pub enum Class {
+    /// 1: Perl unsets a group whose repeat is entered again and makes no round.
+    EnteredAgain = 1,
+    /// 2: Perl keeps spans from a try that was given up.
+    GivenUp = 2,
+    /// 3: `\h` and `\v` of Perl and PCRE2 have the bytes A0 and 85.
+    WideSpace = 3,
+    /// 4: Perl panics on a class with no byte under a repeat.
+    EmptyClass = 4,
+    /// 5: `$` directly before a byte 00.
+    DollarBeforeZero = 5,
+    /// 8: PCRE2 unrolls a bounded repeat and does not stop after an empty round.
+    Unrolled = 8,
+}
+
+/// One comparison: what both matchers were given.
+pub struct Compared<'a> {
+    pub tree: &'a Rule,
+    pub rule: &'a [u8],
+    pub subject: &'a [u8],
+}
+
+impl Compared<'_> {
+    /// The class of a difference from Perl, if it has the marks of one. Rows are none where nothing matched.
+    pub fn perl_class(&self, ours: Option<&Row>, perls: Option<&Row>) -> Option<Class> {
+        if self.has_wide_space() {
+            return Some(Class::WideSpace);
+        }
+        if self.rule.windows(2).any(|pair| pair == b"$\0") {
+            return Some(Class::DollarBeforeZero);
+        }
+        let shape = shape(self.tree);
+        let moved = !shape.referred_groups.is_disjoint(&shape.repeated_groups) || shape.has_early_reference;
+        let differing = match (ours, perls) {
+            (Some(ours), Some(perls)) if ours[..2] == perls[..2] => differing_groups(ours, perls),
+            // A reference sees what Perl kept or unset, so that the match itself may be another.
+            _ => return moved.then_some(Class::GivenUp),
+        };
+        if differing.iter().all(|(group, unset)| *unset && shape.twice_repeated_groups.contains(group)) {
+            return Some(Class::EnteredAgain);
+        }
+        (moved || differing.iter().all(|(group, _)| shape.repeated_groups.contains(group))).then_some(Class::GivenUp)
+    }
+
+    /// The class of a rule that Perl refuses or fails on.
+    pub fn perl_failure_class(&self) -> Option<Class> {
+        shape(self.tree).has_repeated_empty_class.then_some(Class::EmptyClass)
+    }
+
+    /// The class of a difference from PCRE2.
+    pub fn pcre2_class(&self) -> Option<Class> {
+        if self.has_wide_space() {
+            return Some(Class::WideSpace);
+        }
+        shape(self.tree).has_bounded_repeat_of_empty.then_some(Class::Unrolled)
+    }
+
+    fn has_wide_space(&self) -> bool {
+        let in_rule = self.rule.windows(2).any(|pair| pair[0] == b'\\' && b"hHvV".contains(&pair[1]));
+        in_rule && self.subject.iter().any(|&byte| byte == 0xA0 || byte == 0x85)
+    }
+}
+
+/// The groups whose spans differ, and for each whether it is the other matcher that has none.
+fn differing_groups(ours: &Row, other: &Row) -> Vec<(usize, bool)> {
+    let differs = |&group: &usize| ours[2 * group..][..2] != other[2 * group..][..2];
+    (1..=32).filter(differs).map(|group| (group, other[2 * group] == UNSET)).collect()
+}
+
+/// How many differences were set aside by which point of the list.
+#[derive(Default)]
+pub struct SetAside(BTreeMap<Class, u64>);
+
+impl SetAside {
+    pub fn count(&mut self, class: Class) {
+        *self.0.entry(class).or_default() += 1;
+    }
+
+    pub fn told(&self) -> String {
+        let counts: Vec<String> = self.0.iter().map(|(class, count)| format!("{count} by point {}", *class as u32)).collect();
+        format!("set aside {}", if counts.is_empty() { "none".to_string() } else { counts.join(", ") })
+    }
+}

@@ -1,0 +1,65 @@
+//! Perl's own answers: one `perl` process for a batch of questions.
+
+use std::io::Write;
+use std::process::{Command, Stdio};
+
+use crate::independent::{Row, ROW_LENGTH, UNSET};
+use crate::text;
+
+/// What Perl is asked.
+pub struct Question<'a> {
+    pub rule: &'a [u8],
+    pub flags: u32,
+    pub subject: &'a [u8],
+    pub groups: usize,
+}
+
+pub enum Answer {
+    /// The rule was refused, or the match ended in a panic.
+    Failed,
+    NotMatched,
+    Matched(Row),
+}
+
+const SCRIPT: &str = include_str!("../perl/matches.pl");
+
+/// Perl's answers in the order of the questions, or what went wrong.
+pub fn answers(questions: &[Question]) -> Result<Vec<Answer>, String> {
+    let mut asked = String::new();
+    for question in questions {
+        asked += &format!("{}\t{}\t{}\t{}\n", question.flags, text::hex(question.rule), text::hex(question.subject), question.groups);
+    }
+    let output = piped(asked).map_err(|error| format!("perl does not run: {error}"))?;
+    let answers: Option<Vec<Answer>> = output.lines().map(answer).collect();
+    match answers {
+        Some(answers) if answers.len() == questions.len() => Ok(answers),
+        _ => Err(format!("perl gave {} lines for {} questions, or one that cannot be read", output.lines().count(), questions.len())),
+    }
+}
+
+fn piped(asked: String) -> std::io::Result<String> {
+    let mut perl = Command::new("perl").args(["-e", SCRIPT]).stdin(Stdio::piped()).stdout(Stdio::piped()).spawn()?;
+    let mut pipe = perl.stdin.take().expect("the pipe was asked for");
+    // Written beside the reading: neither pipe can fill up and block the other.
+    let writer = std::thread::spawn(move || pipe.write_all(asked.as_bytes()));
+    let output = perl.wait_with_output()?;
+    writer.join().expect("the writer does not panic")?;
+    Ok(String::from_utf8_lossy(&output.stdout).into_owned())
+}
+
+/// One line of the script: `failed`, `none`, or `start-end` and `group:start-end` for each group that is set.
+fn answer(line: &str) -> Option<Answer> {
+    match line {
+        "failed" => return Some(Answer::Failed),
+        "none" => return Some(Answer::NotMatched),
+        _ => {}
+    }
+    let mut row = [UNSET; ROW_LENGTH];
+    for part in line.split(' ') {
+        let (group, span) = part.split_once(':').unwrap_or(("0", part));
+        let group: usize = group.parse().ok()?;
+        let (from, to) = span.split_once('-')?;
+        (row[2 * group], row[2 * group + 1]) = (from.parse().ok()?, to.parse().ok()?);
+    }
+    Some(Answer::Matched(row))
+}
