@@ -1,0 +1,60 @@
+/* A worked example of the C interface: every reading of one line.
+ *
+ * `1,500 L` is one thousand five hundred litres where the comma stands between thousands, and one and a half litres where it is a decimal
+ * comma. The rule allows both, so the listing has two rows, and whoever gets two rows knows that the line has to be asked about.
+ *
+ *     gcc -I include harness/c/example.c target/staticlib/libterravisco.a -o example
+ */
+#include <stdint.h>
+#include <stdio.h>
+#include <string.h>
+
+#include "terravisco.h"
+
+enum { BUDGET = 1000, ROWS = 8 };
+
+/* The library has no heap: it works in these, and needs nothing of what they held before. */
+static uint32_t rule_area[TERRAVISCO_RULE_AREA];
+static uint32_t work_area[TERRAVISCO_WORK_PER_STEP * BUDGET];
+static uint32_t rows[TERRAVISCO_ROW * ROWS];
+
+static void print_row(const uint32_t *row, const char *line)
+{
+    printf("%u-%u", (unsigned)row[0], (unsigned)row[1]);
+    for (int group = 1; group <= 2; group++) {
+        uint32_t from = row[2 * group], to = row[2 * group + 1];
+        if (from == TERRAVISCO_UNSET)
+            printf(", group %d not set", group);
+        else
+            printf(", group %d `%.*s`", group, (int)(to - from), line + from);
+    }
+    printf("\n");
+}
+
+static void list(const char *rule, const char *line)
+{
+    static const char *const endings[] = {"complete", "full", "exhausted", "refused"};
+    uint32_t answer[6];
+
+    terravisco_list((const uint8_t *)rule, strlen(rule), 0, (const uint8_t *)line, strlen(line), BUDGET,
+                    rule_area, sizeof rule_area / sizeof *rule_area, work_area, sizeof work_area / sizeof *work_area,
+                    rows, sizeof rows / sizeof *rows, answer);
+
+    uint64_t steps = (uint64_t)answer[4] << 32 | answer[3];
+    printf("%s on `%s`: ", rule, line);
+    if (answer[0] == 3) {
+        printf("refused, number %u at %u\n", (unsigned)answer[1], (unsigned)answer[2]);
+        return;
+    }
+    printf("%s, %u readings, %llu steps\n", endings[answer[0]], (unsigned)answer[5], (unsigned long long)steps);
+    for (uint32_t row = 0; row < answer[5]; row++)
+        print_row(rows + TERRAVISCO_ROW * row, line);
+}
+
+int main(void)
+{
+    list("^(?:(\\d{1,3},\\d{3})|(\\d+,\\d+)) L$", "1,500 L");
+    list("(a?)*", "b");
+    list("a**", "1,500 L");
+    return 0;
+}

@@ -1,0 +1,57 @@
+//! Runs the examples of `data/`: Perl's documents, and document 01 with its open points. Both the library and the independent matcher have to
+//! give what was written down by hand.
+
+use std::path::Path;
+
+use harness::case::{Case, Lender};
+use harness::examples::{self, Example};
+use harness::raw::Call;
+use harness::report::Group;
+use harness::text;
+
+fn main() -> std::process::ExitCode {
+    let sources = run("examples of Perl's documents", "source-examples.txt");
+    let readings = run("checked readings, traps and open points", "checked-readings.txt");
+    if sources && readings { std::process::ExitCode::SUCCESS } else { std::process::ExitCode::FAILURE }
+}
+
+/// Runs one file's examples; says whether all of them passed.
+fn run(name: &'static str, file: &str) -> bool {
+    let mut group = Group::new(name);
+    let path = Path::new(env!("CARGO_MANIFEST_DIR")).join("data").join(file);
+    match std::fs::read_to_string(&path).map_err(|error| error.to_string()).and_then(|text| examples::read(&text)) {
+        Err(error) => group.fail(&format!("{}: {error}", path.display())),
+        Ok(examples) => {
+            let mut lender = Lender::default();
+            for example in &examples {
+                let faults = judge(&mut lender, example);
+                group.judge(&format!("line {}: {}\n{}", example.line, example.from, example.case.shown()), &faults);
+            }
+        }
+    }
+    let passed = !group.has_failed();
+    group.end("");
+    passed
+}
+
+fn judge(lender: &mut Lender, example: &Example) -> Vec<String> {
+    if let Some(other) = &example.same {
+        return (0..=255).flat_map(|byte| one_byte(lender, &example.case.rule, other, byte)).collect();
+    }
+    let run = lender.run(&example.case);
+    let mut faults = run.faults;
+    faults.extend(example.faults("the library", &run.answer));
+    faults.extend(example.faults("the independent matcher", &example.case.expected()));
+    faults
+}
+
+/// Both rules have to answer alike on a subject of this byte alone, and as the independent matcher does.
+fn one_byte(lender: &mut Lender, rule: &[u8], other: &[u8], byte: u8) -> Vec<String> {
+    let [one, two] = [rule, other].map(|rule| Case::new(Call::Match, rule, 0, &[byte], 1_000, 1));
+    let mut faults = lender.compare(&one, &one.expected());
+    let endings = [&one, &two].map(|case| lender.run(case).answer.ending);
+    if endings[0] != endings[1] {
+        faults.push(format!("on byte {byte:02x} {:?}, but {:?} for `{}`", endings[0], endings[1], text::escaped(other)));
+    }
+    faults
+}

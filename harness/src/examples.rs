@@ -1,0 +1,112 @@
+//! Examples written down by hand in `data/`: what is asked and what is expected. The head of `source-examples.txt` says how they look.
+
+use crate::case::{shown_row, Case};
+use crate::independent::{Answer, Ending, FLAG_M, FLAG_S};
+use crate::raw::Call;
+use crate::text;
+
+pub struct Example {
+    /// The document and its words, or the point decided.
+    pub from: String,
+    /// The line in the file at which the example begins.
+    pub line: usize,
+    pub case: Case,
+    /// A second rule that takes the same single bytes, instead of an expected answer.
+    pub same: Option<Vec<u8>>,
+    /// The readings in order, as `shown_row` writes them.
+    rows: Vec<String>,
+    ending: Option<Ending>,
+    steps: Option<u64>,
+}
+
+/// The examples of a file, or what cannot be read in it.
+pub fn read(file: &str) -> Result<Vec<Example>, String> {
+    let mut examples: Vec<Example> = Vec::new();
+    let mut open = false;
+    for (number, line) in (1..).zip(file.lines()) {
+        if line.is_empty() || line.starts_with('#') {
+            open = false;
+            continue;
+        }
+        if !open {
+            examples.push(Example::new(number));
+            open = true;
+        }
+        let (field, value) = line.split_once(' ').unwrap_or((line, ""));
+        let example = examples.last_mut().expect("one was pushed");
+        example.set(field, value).ok_or(format!("line {number} cannot be read: {line}"))?;
+    }
+    for example in &mut examples {
+        example.finish()?;
+    }
+    Ok(examples)
+}
+
+impl Example {
+    fn new(line: usize) -> Example {
+        let case = Case::new(Call::Match, b"", 0, b"", 10_000, 10);
+        Example { from: String::new(), line, case, same: None, rows: Vec::new(), ending: None, steps: None }
+    }
+
+    fn set(&mut self, field: &str, value: &str) -> Option<()> {
+        match field {
+            "from" => self.from = value.to_string(),
+            "rule" => self.case.rule = value.as_bytes().to_vec(),
+            "same" => self.same = Some(value.as_bytes().to_vec()),
+            "subject" => self.case.subject = text::unescaped(value)?,
+            "flags" => self.case.flags = value.chars().map(|flag| if flag == 's' { FLAG_S } else { FLAG_M }).sum(),
+            "call" if value == "list" => self.case.call = Call::List,
+            "budget" => self.case.budget = value.parse().ok()?,
+            "rows" => self.case.result_area = 66 * value.parse::<usize>().ok()?,
+            "steps" => self.steps = Some(value.parse().ok()?),
+            "expect" => self.expect(value)?,
+            _ => return None,
+        }
+        Some(())
+    }
+
+    fn expect(&mut self, value: &str) -> Option<()> {
+        let words: Vec<&str> = value.split(' ').collect();
+        self.ending = Some(match words[..] {
+            ["none"] => Ending::NotMatched,
+            ["complete"] => Ending::Complete,
+            ["full"] => Ending::Full,
+            ["exhausted", start] => Ending::Exhausted(start.parse().ok()?),
+            ["refused", number, "at", place] => {
+                Ending::Refused(crate::independent::Refusal { number: number.parse().ok()?, place: place.parse().ok()? })
+            }
+            _ => {
+                self.rows.push(value.to_string());
+                Ending::Matched
+            }
+        });
+        Some(())
+    }
+
+    /// The work area follows from the budget. An example expects something.
+    fn finish(&mut self) -> Result<(), String> {
+        self.case.work_area = if self.case.budget > 100_000 { 0 } else { 16 * self.case.budget as usize };
+        let listing = self.case.call == Call::List;
+        let fits = match self.ending {
+            None => self.same.is_some(),
+            Some(Ending::Matched) => !listing && self.rows.len() == 1,
+            Some(Ending::NotMatched) => !listing && self.rows.is_empty(),
+            Some(Ending::Complete | Ending::Full) => listing,
+            Some(Ending::Exhausted(_) | Ending::Refused(_)) => true,
+        };
+        if fits { Ok(()) } else { Err(format!("the example at line {} does not say what it expects", self.line)) }
+    }
+
+    /// What an answer has that is not expected.
+    pub fn faults(&self, who: &str, answer: &Answer) -> Vec<String> {
+        let mut faults = Vec::new();
+        let rows: Vec<String> = answer.rows.iter().map(shown_row).collect();
+        if Some(answer.ending) != self.ending || rows != self.rows {
+            faults.push(format!("{who} answers {}, expected {:?} {:?}", crate::case::shown(answer), self.ending, self.rows));
+        }
+        if self.steps.is_some_and(|steps| steps != answer.steps) {
+            faults.push(format!("{who} takes {} steps, expected {:?}", answer.steps, self.steps));
+        }
+        faults
+    }
+}
