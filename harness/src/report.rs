@@ -11,7 +11,7 @@ pub struct Group {
 }
 
 /// Faults beyond these are counted and not printed.
-const PRINTED: u64 = 20;
+const PRINTED: u64 = 10;
 
 impl Group {
     pub fn new(name: &'static str) -> Group {
@@ -23,9 +23,14 @@ impl Group {
     }
 
     pub fn fail(&mut self, what: &str) {
+        self.fail_with(|| what.to_string());
+    }
+
+    /// A fault whose words take time to find: they are asked for only if they are printed.
+    pub fn fail_with(&mut self, what: impl FnOnce() -> String) {
         self.failed += 1;
         if self.failed <= PRINTED {
-            println!("FAILED {}: {what}", self.name);
+            println!("FAILED {}: {}", self.name, what());
         }
     }
 

@@ -22,7 +22,7 @@ fn main() -> std::process::ExitCode {
             if faults.is_empty() {
                 group.pass();
             } else {
-                group.fail(&told(&mut lender, seed, number, &case, &faults));
+                group.fail_with(|| told(&mut lender, seed, number, &case, &faults));
             }
         }
     }

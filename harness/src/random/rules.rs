@@ -112,13 +112,17 @@ impl Maker<'_> {
     fn byte_escape(&mut self) {
         let byte = if self.rng.percent(70) { *self.rng.pick(self.style.alphabet) } else { self.rng.byte() };
         let zeros = if self.style.plain { 0 } else { self.rng.below(3) };
-        match self.rng.below(5) {
+        match self.rng.below(6) {
             0 => self.write(&format!("\\x{byte:02x}")),
             1 => self.write(&format!("\\x{{{:0>zeros$}{byte:X}}}", "")),
             2 => self.write(&format!("\\o{{{:0>zeros$}{byte:o}}}", "")),
             3 => {
                 let control = *self.rng.pick(b"@ajM[]^_?");
                 self.rule.extend([b'\\', b'c', control]);
+            }
+            4 => {
+                let width = if self.style.plain { 2 } else { self.rng.between(0, 2) };
+                self.write(&format!("\\0{:0>width$o}", byte % 64));
             }
             _ => {
                 let letter = *self.rng.pick(b"aefnrt");

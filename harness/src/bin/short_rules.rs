@@ -1,0 +1,79 @@
+//! All short rules against the independent matcher: every escape with every byte, every named set with every byte, and every rule of up to
+//! four bytes over those that mean something. Where faults hide in the order of refusals, a short rule shows them.
+
+use harness::case::{Case, Lender};
+use harness::raw::Call;
+use harness::report::Group;
+
+const MEANT: &[u8] = b"\\()[]{}|*?^$-:,01ab.gcxd";
+
+const NAMES: [&str; 16] = [
+    "alpha", "upper", "lower", "alnum", "xdigit", "blank", "cntrl", "ascii", "print", "graph", "punct", "digit", "word", "space", "h", "",
+];
+
+fn main() -> std::process::ExitCode {
+    let mut tester = Tester { group: Group::new("all short rules"), lender: Lender::default() };
+    tester.escapes();
+    tester.named_sets();
+    tester.rules(&mut Vec::new(), 4);
+    tester.group.end("")
+}
+
+struct Tester {
+    group: Group,
+    lender: Lender,
+}
+
+impl Tester {
+    fn judge(&mut self, case: &Case) {
+        let faults = self.lender.compare(case, &case.expected());
+        if faults.is_empty() {
+            self.group.pass();
+        } else {
+            self.group.fail_with(|| format!("{}\n{}", case.shown(), faults.join("\n")));
+        }
+    }
+
+    /// A backslash and any byte, alone and in a class, on every single byte if the rule is sound.
+    fn escapes(&mut self) {
+        for letter in 0..=255 {
+            self.on_every_byte(&[b'\\', letter]);
+            self.on_every_byte(&[b'[', b'\\', letter, b']']);
+            self.on_every_byte(&[b'\\', b'c', letter]);
+            self.on_every_byte(format!("\\x{letter:02x}").as_bytes());
+            self.on_every_byte(format!("\\o{{{letter:o}}}").as_bytes());
+            self.on_every_byte(format!("[\\{letter:o}]").as_bytes());
+        }
+    }
+
+    fn named_sets(&mut self) {
+        for name in NAMES {
+            for form in [format!("[[:{name}:]]"), format!("[[:^{name}:]]"), format!("[^[:{name}:]]"), format!("[a[:{name}:]-]")] {
+                self.on_every_byte(form.as_bytes());
+            }
+        }
+    }
+
+    /// The rule on each of the 256 subjects of one byte, under all flags; once if it is refused.
+    fn on_every_byte(&mut self, rule: &[u8]) {
+        for byte in 0..=255 {
+            let case = Case::new(Call::Match, rule, u32::from(byte) % 4, &[byte], 20, 1);
+            self.judge(&case);
+            if harness::independent::read(rule, 0).is_err() {
+                return;
+            }
+        }
+    }
+
+    /// Every rule that begins so and goes on with up to so many of the meant bytes.
+    fn rules(&mut self, rule: &mut Vec<u8>, more: usize) {
+        self.judge(&Case::new(Call::List, rule, (rule.len() % 4) as u32, b"a1", 60, 2));
+        if more > 0 {
+            for &byte in MEANT {
+                rule.push(byte);
+                self.rules(rule, more - 1);
+                rule.pop();
+            }
+        }
+    }
+}
