@@ -1,5 +1,6 @@
 //! One call with all that it is given, run by the library and by the independent matcher, and what differs.
 
+use crate::fence::Fenced;
 use crate::independent::{self, Answer, Ending, Inputs, Row, ROW_LENGTH, RULE_AREA, UNSET, WORK_PER_STEP};
 use crate::raw::{self, Areas, Call, Question};
 use crate::text;
@@ -89,13 +90,17 @@ pub fn shown_row(row: &Row) -> String {
     text
 }
 
-/// Lends areas to the library and looks at every number of them, and of some around them, after the call.
+/// Lends areas to the library and looks at every number of them, and of some around them, after the call. The rule and the subject end at a
+/// fence, so that a byte read behind them would end the program.
 pub struct Lender {
     /// What areas hold before a call: no number is 0, and neighbours differ.
     pattern: Vec<u32>,
     rule: Vec<u32>,
     work: Vec<u32>,
     result: Vec<u32>,
+    /// Where the rule and the subject stand for the library, each up to a fence.
+    rule_text: Fenced,
+    subject_text: Fenced,
 }
 
 /// Numbers before and behind each area that no call may touch.
@@ -109,7 +114,8 @@ pub struct Run {
 
 impl Default for Lender {
     fn default() -> Lender {
-        Lender { pattern: Vec::new(), rule: Vec::new(), work: Vec::new(), result: Vec::new() }
+        let (rule_text, subject_text) = (Fenced::new(4_096), Fenced::new(70_000));
+        Lender { pattern: Vec::new(), rule: Vec::new(), work: Vec::new(), result: Vec::new(), rule_text, subject_text }
     }
 }
 
@@ -127,7 +133,8 @@ impl Lender {
     pub fn run(&mut self, case: &Case) -> Run {
         self.fill(case);
         let mut answer = [0xA5A5_A5A5; 6];
-        let question = Question { rule: &case.rule, flags: case.flags, subject: &case.subject, budget: case.budget };
+        let (rule, subject) = (self.rule_text.hold(&case.rule), self.subject_text.hold(&case.subject));
+        let question = Question { rule, flags: case.flags, subject, budget: case.budget };
         let areas = Areas {
             rule: &mut self.rule[GUARD..][..case.rule_area],
             work: &mut self.work[GUARD..][..case.work_area],

@@ -4,6 +4,7 @@ pub mod arguments;
 pub mod case;
 pub mod differences;
 pub mod examples;
+pub mod fence;
 pub mod independent;
 pub mod pcre2;
 pub mod perl;

@@ -1,4 +1,5 @@
-//! The Rust interface: `Matcher` answers as the independent matcher does, on random calls and on the example that it was made for.
+//! The Rust interface: `Matcher` answers as the independent matcher does, on the example that it was made for and on random calls, made from
+//! several threads at once.
 
 use harness::case::{shown, Case};
 use harness::random::calls;
@@ -13,15 +14,28 @@ fn main() -> std::process::ExitCode {
     let mut group = Group::new("the Rust interface");
     let mut matcher = Matcher::new(BUDGET, ROWS);
     litres(&mut group, &mut matcher);
-    for number in 0..5_000 {
-        let random = calls::case(99, number);
+    // Four threads at once, each with a matcher of its own: the library has no state that calls share.
+    let threads: Vec<_> = (0..4).map(|seed| std::thread::spawn(move || random_calls(90 + seed))).collect();
+    for thread in threads {
+        for (case, faults) in thread.join().expect("a thread does not panic") {
+            group.judge(&case, &faults);
+        }
+    }
+    group.end("")
+}
+
+/// Random calls of this seed, shown, and what is wrong with each answer.
+fn random_calls(seed: u64) -> Vec<(String, Vec<String>)> {
+    let mut matcher = Matcher::new(BUDGET, ROWS);
+    let mut judged = Vec::new();
+    for number in 0..2_000 {
+        let random = calls::case(seed, number);
         let flags = random.flags & (FLAG_S | FLAG_M);
         let case = Case::new(random.call, &random.rule, flags, &random.subject, BUDGET, ROWS);
         let (ours, expected) = (told(&mut matcher, &case), shown(&case.expected()));
-        let faults = if ours == expected { Vec::new() } else { vec![format!("matcher: {ours}\nexpected: {expected}")] };
-        group.judge(&case.shown(), &faults);
+        judged.push((case.shown(), if ours == expected { Vec::new() } else { vec![format!("matcher: {ours}\nexpected: {expected}")] }));
     }
-    group.end("")
+    judged
 }
 
 /// The two readings of a line with a comma.

@@ -58,7 +58,7 @@ pub fn at_limit(rng: &mut Rng) -> Vec<u8> {
     let text = match rng.below(9) {
         0 => "()".repeat(groups),
         1 => format!("{}a{}", opening.repeat(depth), ")".repeat(rng.between(depth - 1, depth))),
-        2 => format!("{}{}", "()".repeat(groups), "(?:".repeat(depth)),
+        2 => format!("{}{}{}", "()".repeat(groups), "(?:".repeat(depth - 1), rng.pick(&["(", "(?:", "(?a", "[", "a"])),
         3 => format!("a{{{}}}", rng.between(250, 260)),
         4 => format!("a{{{},{}}}?", rng.between(0, 257), rng.between(0, 257)),
         5 => format!("()\\{digits}"),
