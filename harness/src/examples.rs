@@ -94,7 +94,11 @@ impl Example {
             Some(Ending::Complete | Ending::Full) => listing,
             Some(Ending::Exhausted(_) | Ending::Refused(_)) => true,
         };
-        if fits { Ok(()) } else { Err(format!("the example at line {} does not say what it expects", self.line)) }
+        if fits {
+            Ok(())
+        } else {
+            Err(format!("the example at line {} does not say what it expects", self.line))
+        }
     }
 
     /// What an answer has that is not expected.

@@ -6,6 +6,7 @@ pub mod differences;
 pub mod examples;
 pub mod fence;
 pub mod independent;
+pub mod lender;
 pub mod pcre2;
 pub mod perl;
 pub mod random;

@@ -43,7 +43,7 @@ mod missing {
 #[cfg(pcre2)]
 mod installed {
     use std::ffi::{c_int, c_void};
-    use std::ptr::{null, null_mut};
+    use std::ptr::null_mut;
 
     use super::Found;
     use crate::independent::{Row, FLAG_M, FLAG_S, ROW_LENGTH, UNSET};
@@ -58,6 +58,8 @@ mod installed {
     const NEWLINE_LF: u32 = 2;
     const NO_MATCH: c_int = -1;
     const UNSET_OFFSET: usize = usize::MAX;
+    /// An address for an empty subject.
+    static NOWHERE: [u8; 1] = [0];
     /// How much one match may try before PCRE2 gives up.
     const MATCH_LIMIT: u32 = 1_000_000;
 
@@ -160,8 +162,8 @@ mod installed {
         }
 
         fn run(&self, subject: &[u8], start: usize, options: u32, handler: Option<Handler>, data: *mut c_void) -> c_int {
-            // An empty slice's pointer leads nowhere, which PCRE2 does not mind beside a length of 0.
-            let text = if subject.is_empty() { b"\0".as_ptr() } else { subject.as_ptr() };
+            // An empty slice's pointer leads nowhere, and PCRE2 may walk round the address space from it: it gets a real address.
+            let text = if subject.is_empty() { NOWHERE.as_ptr() } else { subject.as_ptr() };
             // Safety: the pointer goes with the length, and the handler is called during the match alone, while its data lives.
             unsafe {
                 pcre2_set_callout_8(self.context, handler, data);
@@ -185,7 +187,7 @@ mod installed {
     extern "C" fn collect(callout: *const Callout, data: *mut c_void) -> c_int {
         // Safety: PCRE2 hands over its block, and `readings` the rows.
         let (block, rows) = unsafe { (&*callout, &mut *data.cast::<Vec<Row>>()) };
-        let offsets = if block.offset_vector == null() || block.capture_top < 2 {
+        let offsets = if block.offset_vector.is_null() || block.capture_top < 2 {
             &[][..]
         } else {
             // Safety: pairs below `capture_top` are there; the first one stands for the whole match and is not set yet.

@@ -18,7 +18,7 @@ pub enum Answer {
     /// The rule was refused, or the match ended in a panic.
     Failed,
     NotMatched,
-    Matched(Row),
+    Matched(Box<Row>),
 }
 
 const SCRIPT: &str = include_str!("../perl/matches.pl");
@@ -61,5 +61,5 @@ fn answer(line: &str) -> Option<Answer> {
         let (from, to) = span.split_once('-')?;
         (row[2 * group], row[2 * group + 1]) = (from.parse().ok()?, to.parse().ok()?);
     }
-    Some(Answer::Matched(row))
+    Some(Answer::Matched(Box::new(row)))
 }

@@ -51,6 +51,10 @@ impl Group {
     pub fn end(self, remark: &str) -> std::process::ExitCode {
         let remark = if remark.is_empty() { String::new() } else { format!("; {remark}") };
         println!("{}: {} passed, {} failed ({:.1} s{remark})", self.name, self.passed, self.failed, self.begun.elapsed().as_secs_f64());
-        if self.failed == 0 { std::process::ExitCode::SUCCESS } else { std::process::ExitCode::FAILURE }
+        if self.failed == 0 {
+            std::process::ExitCode::SUCCESS
+        } else {
+            std::process::ExitCode::FAILURE
+        }
     }
 }

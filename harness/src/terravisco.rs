@@ -41,10 +41,18 @@ pub struct Matcher {
 #[derive(Debug)]
 pub enum Outcome<'m> {
     /// The first reading by priority from the leftmost start that has one.
-    Matched { reading: Reading<'m>, steps: u64 },
-    NotMatched { steps: u64 },
+    Matched {
+        reading: Reading<'m>,
+        steps: u64,
+    },
+    NotMatched {
+        steps: u64,
+    },
     /// The walk from this start needed more steps than the budget.
-    Exhausted { start: usize, steps: u64 },
+    Exhausted {
+        start: usize,
+        steps: u64,
+    },
     Refused(Refusal),
 }
 
@@ -52,11 +60,21 @@ pub enum Outcome<'m> {
 #[derive(Debug)]
 pub enum Listing<'m> {
     /// Every reading of the line.
-    Complete { readings: Readings<'m>, steps: u64 },
+    Complete {
+        readings: Readings<'m>,
+        steps: u64,
+    },
     /// There is one more reading than there is room.
-    Full { readings: Readings<'m>, steps: u64 },
+    Full {
+        readings: Readings<'m>,
+        steps: u64,
+    },
     /// The walk from this start needed more steps than the budget; the readings are those found before.
-    Exhausted { start: usize, readings: Readings<'m>, steps: u64 },
+    Exhausted {
+        start: usize,
+        readings: Readings<'m>,
+        steps: u64,
+    },
     Refused(Refusal),
 }
 

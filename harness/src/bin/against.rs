@@ -2,8 +2,9 @@
 //! three areas. `--cases N --seeds A..B` runs other cases, as many as wanted.
 
 use harness::arguments::arguments;
-use harness::case::{Case, Lender};
+use harness::case::Case;
 use harness::independent::{Answer, Ending};
+use harness::lender::Lender;
 use harness::random::calls;
 use harness::report::Group;
 use harness::shrink::shrunk;

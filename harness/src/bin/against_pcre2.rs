@@ -2,9 +2,10 @@
 //! rule's end that fails each time. Where PCRE2 is not installed, the line says so.
 
 use harness::arguments::arguments;
-use harness::case::{shown, shown_row, Case, Lender};
+use harness::case::{shown, shown_row, Case};
 use harness::differences::{Compared, SetAside};
 use harness::independent::{Ending, Row};
+use harness::lender::Lender;
 use harness::pcre2::{self, Found, Pattern};
 use harness::random::shared::{self, Shared};
 use harness::raw::Call;
@@ -17,8 +18,13 @@ const ROWS: usize = 500;
 
 fn main() -> std::process::ExitCode {
     let arguments = arguments(20_000, 1..2);
-    let mut tester =
-        Tester { group: Group::new("matches and listings against PCRE2"), lender: Lender::default(), aside: SetAside::default(), rows: 0, left_out: 0 };
+    let mut tester = Tester {
+        group: Group::new("matches and listings against PCRE2"),
+        lender: Lender::default(),
+        aside: SetAside::default(),
+        rows: 0,
+        left_out: 0,
+    };
     if !pcre2::INSTALLED {
         return tester.group.end("skipped: PCRE2 is not installed");
     }

@@ -2,9 +2,10 @@
 //! marks of a known class; where PCRE2 is installed it has to side with the library in those that are about captures.
 
 use harness::arguments::arguments;
-use harness::case::{shown, shown_row, Case, Lender};
+use harness::case::{shown, shown_row, Case};
 use harness::differences::{Class, Compared, SetAside};
 use harness::independent::{Ending, Row};
+use harness::lender::Lender;
 use harness::pcre2::{self, Found, Pattern};
 use harness::perl::{self, Answer, Question};
 use harness::random::shared::{self, Shared};
@@ -19,7 +20,8 @@ const BATCH: usize = 5_000;
 
 fn main() -> std::process::ExitCode {
     let arguments = arguments(50_000, 1..2);
-    let mut tester = Tester { group: Group::new("matches against Perl"), lender: Lender::default(), aside: SetAside::default(), confirmed: 0, left_out: 0 };
+    let mut tester =
+        Tester { group: Group::new("matches against Perl"), lender: Lender::default(), aside: SetAside::default(), confirmed: 0, left_out: 0 };
     for seed in arguments.seeds.clone() {
         let numbers: Vec<u64> = (0..arguments.cases).collect();
         for batch in numbers.chunks(BATCH) {
@@ -66,7 +68,7 @@ impl Tester {
         let compared = Compared { tree: &case.tree, rule: &case.rule, subject: &case.subject };
         let class = match answer {
             Answer::NotMatched if ours.is_none() => return self.group.pass(),
-            Answer::Matched(row) if ours == Some(row) => return self.group.pass(),
+            Answer::Matched(row) if ours == Some(&**row) => return self.group.pass(),
             Answer::Failed => compared.perl_failure_class(),
             Answer::NotMatched => compared.perl_class(ours, None),
             Answer::Matched(row) => compared.perl_class(ours, Some(row)),

@@ -1,8 +1,9 @@
 //! Calls at the limits of document 01: each of refusals 1 to 7 at its last good and first bad value, all of them together in their order,
 //! and subjects of 65,535 bytes.
 
-use harness::case::{shown, Case, Lender};
+use harness::case::{shown, Case};
 use harness::independent::Ending;
+use harness::lender::Lender;
 use harness::raw::Call;
 use harness::report::Group;
 
@@ -23,7 +24,8 @@ fn main() -> std::process::ExitCode {
 
 fn judge(group: &mut Group, lender: &mut Lender, case: &Case) {
     let faults = lender.compare(case, &case.expected());
-    let shown = if case.subject.len() + case.rule.len() > 500 { format!("a case with {} bytes of subject", case.subject.len()) } else { case.shown() };
+    let shown =
+        if case.subject.len() + case.rule.len() > 500 { format!("a case with {} bytes of subject", case.subject.len()) } else { case.shown() };
     group.judge(&shown, &faults);
 }
 

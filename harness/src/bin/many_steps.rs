@@ -1,8 +1,9 @@
 //! A call that takes more steps than 32 bits can count, so that the answer's second number of steps is not 0. It takes some 20 seconds. What
 //! is expected is worked out by hand, since the independent matcher would take very long.
 
-use harness::case::{Case, Lender};
+use harness::case::Case;
 use harness::independent::Ending;
+use harness::lender::Lender;
 use harness::raw::Call;
 use harness::report::Group;
 

@@ -3,8 +3,9 @@
 
 use std::path::Path;
 
-use harness::case::{Case, Lender};
+use harness::case::Case;
 use harness::examples::{self, Example};
+use harness::lender::Lender;
 use harness::raw::Call;
 use harness::report::Group;
 use harness::text;
@@ -12,7 +13,11 @@ use harness::text;
 fn main() -> std::process::ExitCode {
     let sources = run("examples of Perl's documents", "source-examples.txt");
     let readings = run("checked readings, traps and open points", "checked-readings.txt");
-    if sources && readings { std::process::ExitCode::SUCCESS } else { std::process::ExitCode::FAILURE }
+    if sources && readings {
+        std::process::ExitCode::SUCCESS
+    } else {
+        std::process::ExitCode::FAILURE
+    }
 }
 
 /// Runs one file's examples; says whether all of them passed.

@@ -1,15 +1,15 @@
 //! All short rules against the independent matcher: every escape with every byte, every named set with every byte, and every rule of up to
 //! four bytes over those that mean something. Where faults hide in the order of refusals, a short rule shows them.
 
-use harness::case::{Case, Lender};
+use harness::case::Case;
+use harness::lender::Lender;
 use harness::raw::Call;
 use harness::report::Group;
 
 const MEANT: &[u8] = b"\\()[]{}|*?^$-:,01ab.gcxd";
 
-const NAMES: [&str; 16] = [
-    "alpha", "upper", "lower", "alnum", "xdigit", "blank", "cntrl", "ascii", "print", "graph", "punct", "digit", "word", "space", "h", "",
-];
+const NAMES: [&str; 16] =
+    ["alpha", "upper", "lower", "alnum", "xdigit", "blank", "cntrl", "ascii", "print", "graph", "punct", "digit", "word", "space", "h", ""];
 
 fn main() -> std::process::ExitCode {
     let mut tester = Tester { group: Group::new("all short rules"), lender: Lender::default() };

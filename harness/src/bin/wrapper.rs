@@ -42,14 +42,18 @@ fn random_calls(seed: u64) -> Vec<(String, Vec<String>)> {
 fn litres(group: &mut Group, matcher: &mut Matcher) {
     let (rule, line) = (br"^(?:(\d{1,3},\d{3})|(\d+,\d+)) L$", b"1,500 L");
     let readings: Vec<String> = match matcher.list_readings(rule, 0, line) {
-        Listing::Complete { readings, .. } => readings.map(|reading| format!("{:?} {:?} {:?}", reading.span(), reading.group(1), reading.group(2))).collect(),
+        Listing::Complete { readings, .. } => {
+            readings.map(|reading| format!("{:?} {:?} {:?}", reading.span(), reading.group(1), reading.group(2))).collect()
+        }
         other => vec![format!("{other:?}")],
     };
     let expected = ["0..7 Some(0..5) None", "0..7 None Some(0..5)"];
     let faults = if readings == expected { Vec::new() } else { vec![format!("{readings:?}")] };
     group.judge("the readings of `1,500 L`", &faults);
     let refused = match matcher.match_line(b"a**", 0, line) {
-        Outcome::Refused(refusal) => refusal == Refusal { reason: Reason::RepeatOnRepeat, place: 2 } && refusal.to_string() == "refusal 19 at 2: a repeat on a repeat",
+        Outcome::Refused(refusal) => {
+            refusal == Refusal { reason: Reason::RepeatOnRepeat, place: 2 } && refusal.to_string() == "refusal 19 at 2: a repeat on a repeat"
+        }
         _ => false,
     };
     group.judge("`a**` is refused", &if refused { Vec::new() } else { vec!["it is not".to_string()] });

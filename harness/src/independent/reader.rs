@@ -45,7 +45,11 @@ enum Form {
     /// A `{` that begins no well-formed repeat.
     Stray,
     /// A repeat by its form, its bounds as they are written, and its length without a lazy mark.
-    Bounds { least: u64, most: Option<u64>, length: usize },
+    Bounds {
+        least: u64,
+        most: Option<u64>,
+        length: usize,
+    },
 }
 
 /// Reads a rule, or gives its first refusal.

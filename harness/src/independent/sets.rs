@@ -1,11 +1,11 @@
 //! Sets of bytes: 256 marks, one for each byte value, and the named sets of document 01, "Named sets".
 
 #[derive(Clone, PartialEq, Eq)]
-pub struct ByteSet([bool; 256]);
+pub struct ByteSet(Box<[bool; 256]>);
 
 impl ByteSet {
     pub fn empty() -> ByteSet {
-        ByteSet([false; 256])
+        ByteSet(Box::new([false; 256]))
     }
 
     pub fn one(byte: u8) -> ByteSet {
@@ -35,7 +35,7 @@ impl ByteSet {
 
     /// The complement over all 256 bytes, 0A and 80 to FF too.
     pub fn complement(&self) -> ByteSet {
-        ByteSet(self.0.map(|mark| !mark))
+        ByteSet(Box::new(self.0.map(|mark| !mark)))
     }
 
     pub fn has(&self, byte: u8) -> bool {

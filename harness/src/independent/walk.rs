@@ -184,11 +184,7 @@ impl<'r> Walk<'r> {
     fn decide(&mut self, repeat: &'r Repeat, rounds: u64, last_from: Option<usize>, state: State<'r>) -> Result<Tried<'r>, NoStepLeft> {
         self.step()?;
         let again = push(Task::Decide { repeat, rounds: rounds + 1, last_from: Some(state.at) }, &state.todo);
-        let round = State {
-            at: state.at,
-            spans: state.spans.clone(),
-            todo: push(Task::Parts(std::slice::from_ref(&repeat.body)), &again),
-        };
+        let round = State { at: state.at, spans: state.spans.clone(), todo: push(Task::Parts(std::slice::from_ref(&repeat.body)), &again) };
         if rounds < repeat.least {
             return Ok(Tried::On(round));
         }

@@ -51,6 +51,16 @@ impl Rng {
     /// An index by weight.
     pub fn weighted(&mut self, weights: &[usize]) -> usize {
         let mut left = self.below(weights.iter().sum());
-        weights.iter().position(|&weight| if left < weight { true } else { left -= weight; false }).expect("the weights' sum is the bound")
+        weights
+            .iter()
+            .position(|&weight| {
+                if left < weight {
+                    true
+                } else {
+                    left -= weight;
+                    false
+                }
+            })
+            .expect("the weights' sum is the bound")
     }
 }
