@@ -1,4 +1,4 @@
-//! Runs the examples of `data/`: Perl's documents, and document 01 with its open points. Both the library and the independent matcher have to
+//! Runs the examples of `data/`: Perl's documents, document 01 with its open points, and the guide. Both the library and the independent matcher have to
 //! give what was written down by hand.
 
 use std::path::Path;
@@ -11,9 +11,12 @@ use harness::report::Group;
 use harness::text;
 
 fn main() -> std::process::ExitCode {
-    let sources = run("examples of Perl's documents", "source-examples.txt");
-    let readings = run("checked readings, traps and open points", "checked-readings.txt");
-    if sources && readings {
+    let files = [
+        ("examples of Perl's documents", "source-examples.txt"),
+        ("checked readings, traps and open points", "checked-readings.txt"),
+        ("examples of the guide", "guide-examples.txt"),
+    ];
+    if files.map(|(name, file)| run(name, file)).iter().all(|passed| *passed) {
         std::process::ExitCode::SUCCESS
     } else {
         std::process::ExitCode::FAILURE
