@@ -25,6 +25,7 @@ pub const FLAG_M: u32 = 2;
 
 const RULE_AREA: usize = 16_384;
 const WORK_PER_STEP: usize = 16;
+const MOST_BUDGET: u32 = 100_000;
 const ROW_LENGTH: usize = 66;
 const GROUPS: usize = 32;
 const UNSET: u32 = u32::MAX;
@@ -91,12 +92,13 @@ pub struct Reading<'m> {
 }
 
 impl Matcher {
-    /// Areas for a budget of at most 100,000 steps at each start, and for so many readings, at least one.
+    /// Areas for a budget of at most 100,000 steps at each start, and for so many readings, at least one. With a greater budget every call is
+    /// refused.
     pub fn new(budget: u32, readings: usize) -> Matcher {
         Matcher {
             budget,
             rule_area: vec![0; RULE_AREA],
-            work_area: vec![0; WORK_PER_STEP * budget as usize],
+            work_area: vec![0; WORK_PER_STEP * budget.min(MOST_BUDGET) as usize],
             rows: vec![0; ROW_LENGTH * readings.max(1)],
         }
     }

@@ -15,6 +15,8 @@ use harness::text;
 
 /// Rules that need more steps than this at a start are left out: Perl could take very long on them.
 const BUDGET: u32 = 5_000;
+/// Random classes that are tried on every byte.
+const CLASSES: u64 = 100;
 /// Questions for one `perl` process.
 const BATCH: usize = 5_000;
 
@@ -28,6 +30,7 @@ fn main() -> std::process::ExitCode {
             let cases = batch.iter().filter_map(|&number| shared::case(seed, number)).collect();
             tester.batch(cases);
         }
+        tester.batch((0..CLASSES).flat_map(|number| shared::class_cases(seed, number)).collect());
     }
     let pcre2 = if pcre2::INSTALLED { format!("{} of them confirmed by PCRE2", tester.confirmed) } else { "PCRE2 not installed".to_string() };
     let remark = format!("{}, {pcre2}; {} left out as too long", tester.aside.told(), tester.left_out);

@@ -14,6 +14,9 @@ fn main() -> std::process::ExitCode {
     let mut group = Group::new("the Rust interface");
     let mut matcher = Matcher::new(BUDGET, ROWS);
     litres(&mut group, &mut matcher);
+    let greedy =
+        matches!(Matcher::new(u32::MAX, 1).match_line(b"a", 0, b"a"), Outcome::Refused(Refusal { reason: Reason::BudgetTooGreat, place: 0 }));
+    group.judge("a budget over its limit", &if greedy { Vec::new() } else { vec!["it is not refused".to_string()] });
     // Four threads at once, each with a matcher of its own: the library has no state that calls share.
     let threads: Vec<_> = (0..4).map(|seed| std::thread::spawn(move || random_calls(90 + seed))).collect();
     for thread in threads {

@@ -41,6 +41,13 @@ pub fn rule(rng: &mut Rng, style: Style) -> Vec<u8> {
     maker.rule
 }
 
+/// A rule that is one class of this style.
+pub fn class(rng: &mut Rng, style: Style) -> Vec<u8> {
+    let mut maker = Maker { rng, style, groups: 0, rule: Vec::new() };
+    maker.class();
+    maker.rule
+}
+
 struct Maker<'r> {
     rng: &'r mut Rng,
     style: Style,
@@ -142,7 +149,7 @@ impl Maker<'_> {
         let text = match self.rng.below(5) {
             0 | 1 if group < 10 => format!("\\{group}"),
             2 => format!("\\g{{-{zero}{back}}}"),
-            3 if !self.style.plain => format!("\\g-{zero}{back}"),
+            3 => format!("\\g-{zero}{back}"),
             _ => format!("\\g{{{zero}{group}}}"),
         };
         self.write(&text);
@@ -203,7 +210,11 @@ impl Maker<'_> {
                 self.write(escape);
             }
             _ => {
-                let odd = if self.style.plain { "+" } else { *self.rng.pick(&["[", "[:", "[a", "-", "--", "^", ":]"]) };
+                let odd = if self.style.plain {
+                    *self.rng.pick(&["+", "[a", "^", "-", "--"])
+                } else {
+                    *self.rng.pick(&["[", "[:", "[a", "-", "--", "^", ":]"])
+                };
                 self.write(odd);
             }
         }
