@@ -19,8 +19,11 @@ pub fn case(seed: u64, number: u64) -> Case {
     let flags = if rng.percent(1) { *rng.pick(&[4, 5, 8, 0x8000_0000, u32::MAX]) } else { rng.below(4) as u32 };
     let tree = independent::read(&rule, flags).ok();
     let mut subject = subjects::subject(rng, tree.as_ref(), style.alphabet);
-    if rng.below(1_000) == 0 {
-        subject.resize(65_536 + rng.below(2), b'a');
+    // Seldom a subject over its limit, or a long one: the same bytes over and over.
+    match rng.below(2_000) {
+        0 | 1 => subject.resize(65_536 + rng.below(2), b'a'),
+        2 => subject = subject.iter().copied().cycle().take(rng.between(200, 3_000)).collect(),
+        _ => {}
     }
     let budget = budget(rng);
     let (rule_area, work_area, result_area) = areas(rng, budget);
