@@ -16,13 +16,22 @@ pub enum Class {
     GivenUp = 2,
     /// 3: `\h` and `\v` of Perl and PCRE2 have the bytes A0 and 85.
     WideSpace = 3,
-    /// 4: Perl panics on a class with no byte under a repeat.
+    /// 4: Perl panics on a class with no byte under a repeat, or leaves it out.
     EmptyClass = 4,
     /// 5: `$` directly before a byte 00.
     DollarBeforeZero = 5,
     /// 8: PCRE2 unrolls a bounded repeat and does not stop after an empty round.
     Unrolled = 8,
+    /// 11: Perl looks for a text at a wrong place and misses a match.
+    MissedText = 11,
+    /// 12: PCRE2 ties a rule to the subject's start by a branch that is never begun.
+    SkippedStart = 12,
+    /// 13: PCRE2 refuses a class that is written like a named set, `[:alpha:]`.
+    ColonClass = 13,
 }
+
+/// PCRE2's error "POSIX named classes are supported only within a class".
+const PCRE2_NAMED_SET_OUTSIDE: i32 = 112;
 
 /// One comparison: what both matchers were given.
 pub struct Compared<'a> {
@@ -41,6 +50,13 @@ impl Compared<'_> {
             return Some(Class::DollarBeforeZero);
         }
         let shape = shape(self.tree);
+        if shape.has_repeated_empty_class {
+            return Some(Class::EmptyClass);
+        }
+        let missed = ours.is_some_and(|ours| perls.is_none_or(|perls| perls[0] > ours[0]));
+        if missed && shape.has_unbounded_repeat && shape.has_exact_in_repeat {
+            return Some(Class::MissedText);
+        }
         let moved = !shape.referred_groups.is_disjoint(&shape.repeated_groups) || shape.has_early_reference;
         let differing = match (ours, perls) {
             (Some(ours), Some(perls)) if ours[..2] == perls[..2] => differing_groups(ours, perls),
@@ -60,10 +76,18 @@ impl Compared<'_> {
 
     /// The class of a difference from PCRE2.
     pub fn pcre2_class(&self) -> Option<Class> {
-        if self.has_wide_space() {
-            return Some(Class::WideSpace);
-        }
-        shape(self.tree).has_bounded_repeat_of_empty.then_some(Class::Unrolled)
+        let shape = shape(self.tree);
+        let classes = [
+            (self.has_wide_space(), Class::WideSpace),
+            (shape.has_bounded_repeat_of_empty, Class::Unrolled),
+            (shape.has_skipped_start, Class::SkippedStart),
+        ];
+        classes.into_iter().find(|(marked, _)| *marked).map(|(_, class)| class)
+    }
+
+    /// The class of a rule that PCRE2 refuses with this error.
+    pub fn pcre2_refusal_class(&self, error: i32) -> Option<Class> {
+        (error == PCRE2_NAMED_SET_OUTSIDE && self.rule.windows(2).any(|pair| pair == b"[:")).then_some(Class::ColonClass)
     }
 
     fn has_wide_space(&self) -> bool {

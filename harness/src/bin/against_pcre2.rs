@@ -46,9 +46,10 @@ struct Tester {
 impl Tester {
     fn judge(&mut self, case: &Shared) {
         let (Some(matched), Some(listed)) = (self.ours(Call::Match, case, 1), self.ours(Call::List, case, ROWS)) else { return };
+        let compared = Compared { tree: &case.tree, rule: &case.rule, subject: &case.subject };
         let pattern = match Pattern::new(&case.rule, case.flags) {
             Ok(pattern) => pattern,
-            Err(error) => return self.group.fail(&format!("PCRE2 refuses `{}` with its error {error}", text::escaped(&case.rule))),
+            Err(error) => return self.refused(case, &compared, error),
         };
         let mut readings = Vec::new();
         for start in 0..=case.subject.len() {
@@ -58,7 +59,6 @@ impl Tester {
             }
         }
         let same = listed == readings && pattern.first(&case.subject) == Found::Rows(matched);
-        let compared = Compared { tree: &case.tree, rule: &case.rule, subject: &case.subject };
         match compared.pcre2_class() {
             _ if same => {
                 self.rows += listed.len();
@@ -66,6 +66,13 @@ impl Tester {
             }
             Some(class) => self.aside.count(class),
             None => self.group.fail(&told(case, &listed, &readings)),
+        }
+    }
+
+    fn refused(&mut self, case: &Shared, compared: &Compared, error: i32) {
+        match compared.pcre2_refusal_class(error) {
+            Some(class) => self.aside.count(class),
+            None => self.group.fail(&format!("PCRE2 refuses `{}` with its error {error}", text::escaped(&case.rule))),
         }
     }
 

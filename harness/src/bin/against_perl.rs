@@ -1,9 +1,9 @@
 //! The library's matches against those of Perl on random sound rules: matched or not, start, end and captures. A difference has to have the
-//! marks of a known class; where PCRE2 is installed it has to side with the library in those that are about captures.
+//! marks of a known class; where PCRE2 is installed it has to side with the library, unless it has a difference of its own there.
 
 use harness::arguments::arguments;
 use harness::case::{shown, shown_row, Case};
-use harness::differences::{Class, Compared, SetAside};
+use harness::differences::{Compared, SetAside};
 use harness::independent::{Ending, Row};
 use harness::lender::Lender;
 use harness::pcre2::{self, Found, Pattern};
@@ -77,7 +77,7 @@ impl Tester {
             Answer::Matched(row) => compared.perl_class(ours, Some(row)),
         };
         match class {
-            Some(Class::EnteredAgain | Class::GivenUp) if !self.pcre2_sides_with(ours, case, &compared) => {
+            Some(_) if !self.pcre2_sides_with(ours, case, &compared) => {
                 self.group.fail(&format!("{}\nPCRE2 does not side with the library", told(case, ours, answer)));
             }
             Some(class) => self.aside.count(class),
@@ -90,8 +90,11 @@ impl Tester {
         if !pcre2::INSTALLED || compared.pcre2_class().is_some() {
             return true;
         }
-        let found = Pattern::new(&case.rule, case.flags).map(|pattern| pattern.first(&case.subject));
-        let sides = found.is_ok_and(|found| found == Found::Rows(ours.into_iter().copied().collect()));
+        let found = match Pattern::new(&case.rule, case.flags) {
+            Ok(pattern) => pattern.first(&case.subject),
+            Err(error) => return compared.pcre2_refusal_class(error).is_some(),
+        };
+        let sides = found == Found::Rows(ours.into_iter().copied().collect());
         self.confirmed += u64::from(sides);
         sides
     }
