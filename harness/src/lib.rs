@@ -1,6 +1,7 @@
 //! Tests of the library terravisco against the outside world: an independent matcher, Perl, PCRE2 and the examples of the documents.
 
 pub mod arguments;
+pub mod bench;
 pub mod case;
 pub mod differences;
 pub mod examples;

@@ -1,7 +1,10 @@
 //! PCRE2's own answers: matches, and all readings from a start by a callout at the rule's end. Without PCRE2 on the machine there is none.
 
 #[cfg(pcre2)]
-pub use installed::Pattern;
+pub mod sys;
+
+#[cfg(pcre2)]
+pub use installed::{row, Pattern};
 
 #[cfg(not(pcre2))]
 pub use missing::Pattern;
@@ -45,65 +48,14 @@ mod installed {
     use std::ffi::{c_int, c_void};
     use std::ptr::null_mut;
 
+    use super::sys::*;
     use super::Found;
     use crate::independent::{Row, FLAG_M, FLAG_S, ROW_LENGTH, UNSET};
 
-    const ANCHORED: u32 = 0x8000_0000;
-    const DOTALL: u32 = 0x0000_0020;
-    const MULTILINE: u32 = 0x0000_0400;
-    const NEVER_UTF: u32 = 0x0000_1000;
-    const NO_AUTO_POSSESS: u32 = 0x0000_4000;
-    const NO_DOTSTAR_ANCHOR: u32 = 0x0000_8000;
-    const NO_START_OPTIMIZE: u32 = 0x0001_0000;
-    const NEWLINE_LF: u32 = 2;
-    const NO_MATCH: c_int = -1;
-    const UNSET_OFFSET: usize = usize::MAX;
     /// An address for an empty subject.
     static NOWHERE: [u8; 1] = [0];
     /// How much one match may try before PCRE2 gives up.
     const MATCH_LIMIT: u32 = 1_000_000;
-
-    /// The beginning of `pcre2_callout_block`, version 0.
-    #[repr(C)]
-    struct Callout {
-        version: u32,
-        callout_number: u32,
-        capture_top: u32,
-        capture_last: u32,
-        offset_vector: *const usize,
-        mark: *const u8,
-        subject: *const u8,
-        subject_length: usize,
-        start_match: usize,
-        current_position: usize,
-    }
-
-    type Handler = extern "C" fn(*const Callout, *mut c_void) -> c_int;
-
-    extern "C" {
-        fn pcre2_compile_context_create_8(general: *mut c_void) -> *mut c_void;
-        fn pcre2_compile_context_free_8(context: *mut c_void);
-        fn pcre2_set_newline_8(context: *mut c_void, newline: u32) -> c_int;
-        fn pcre2_compile_8(pattern: *const u8, length: usize, options: u32, error: *mut c_int, at: *mut usize, context: *mut c_void) -> *mut c_void;
-        fn pcre2_code_free_8(code: *mut c_void);
-        fn pcre2_match_context_create_8(general: *mut c_void) -> *mut c_void;
-        fn pcre2_match_context_free_8(context: *mut c_void);
-        fn pcre2_set_match_limit_8(context: *mut c_void, limit: u32) -> c_int;
-        fn pcre2_set_callout_8(context: *mut c_void, handler: Option<Handler>, data: *mut c_void) -> c_int;
-        fn pcre2_match_data_create_from_pattern_8(code: *const c_void, general: *mut c_void) -> *mut c_void;
-        fn pcre2_match_data_free_8(data: *mut c_void);
-        fn pcre2_get_ovector_pointer_8(data: *mut c_void) -> *const usize;
-        fn pcre2_get_ovector_count_8(data: *mut c_void) -> u32;
-        fn pcre2_match_8(
-            code: *const c_void,
-            subject: *const u8,
-            length: usize,
-            start: usize,
-            options: u32,
-            data: *mut c_void,
-            context: *mut c_void,
-        ) -> c_int;
-    }
 
     /// A rule that PCRE2 has compiled, with a callout behind it. The callout does nothing in a plain match.
     pub struct Pattern {
@@ -187,12 +139,8 @@ mod installed {
     extern "C" fn collect(callout: *const Callout, data: *mut c_void) -> c_int {
         // Safety: PCRE2 hands over its block, and `readings` the rows.
         let (block, rows) = unsafe { (&*callout, &mut *data.cast::<Vec<Row>>()) };
-        let offsets = if block.offset_vector.is_null() || block.capture_top < 2 {
-            &[][..]
-        } else {
-            // Safety: pairs below `capture_top` are there; the first one stands for the whole match and is not set yet.
-            unsafe { std::slice::from_raw_parts(block.offset_vector.add(2), 2 * (block.capture_top as usize - 1)) }
-        };
+        // Safety: the block is PCRE2's, and the offsets are used up on the next line.
+        let offsets = unsafe { group_offsets(block) };
         let reading = row(block.start_match, block.current_position, offsets);
         if !rows.contains(&reading) {
             rows.push(reading);
@@ -200,7 +148,8 @@ mod installed {
         1
     }
 
-    fn row(start: usize, end: usize, groups: &[usize]) -> Row {
+    /// The row of a reading, from its groups' offsets in PCRE2's form.
+    pub fn row(start: usize, end: usize, groups: &[usize]) -> Row {
         let mut row = [UNSET; ROW_LENGTH];
         (row[0], row[1]) = (start as u32, end as u32);
         for (number, &offset) in row[2..].iter_mut().zip(groups) {

@@ -29,7 +29,7 @@ pub fn answers(questions: &[Question]) -> Result<Vec<Answer>, String> {
     for question in questions {
         asked += &format!("{}\t{}\t{}\t{}\n", question.flags, text::hex(question.rule), text::hex(question.subject), question.groups);
     }
-    let output = piped(asked).map_err(|error| format!("perl does not run: {error}"))?;
+    let output = run_script(SCRIPT, asked).map_err(|error| format!("perl does not run: {error}"))?;
     let answers: Option<Vec<Answer>> = output.lines().map(answer).collect();
     match answers {
         Some(answers) if answers.len() == questions.len() => Ok(answers),
@@ -37,8 +37,9 @@ pub fn answers(questions: &[Question]) -> Result<Vec<Answer>, String> {
     }
 }
 
-fn piped(asked: String) -> std::io::Result<String> {
-    let mut perl = Command::new("perl").args(["-e", SCRIPT]).stdin(Stdio::piped()).stdout(Stdio::piped()).spawn()?;
+/// What a script prints that is given these lines.
+pub fn run_script(script: &str, asked: String) -> std::io::Result<String> {
+    let mut perl = Command::new("perl").args(["-e", script]).stdin(Stdio::piped()).stdout(Stdio::piped()).spawn()?;
     let mut pipe = perl.stdin.take().expect("the pipe was asked for");
     // Written beside the reading: neither pipe can fill up and block the other.
     let writer = std::thread::spawn(move || pipe.write_all(asked.as_bytes()));

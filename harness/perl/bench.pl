@@ -1,0 +1,32 @@
+# Reads one case a line: rule and subject in hex, with a tab between them. Prints Perl's version, and then for each case the seconds that a
+# match takes: a turn is a loop of a fixed count, the shortest of many turns counts. The rule is compiled before.
+use strict;
+use warnings;
+use Time::HiRes qw(clock_gettime CLOCK_MONOTONIC);
+
+my ($turn, $turns) = (0.001, 25);
+
+sub seconds {
+    my ($compiled, $subject, $count) = @_;
+    my $found = 0;
+    my $begun = clock_gettime(CLOCK_MONOTONIC);
+    for (1 .. $count) {
+        $found++ if $subject =~ $compiled;
+    }
+    return clock_gettime(CLOCK_MONOTONIC) - $begun;
+}
+
+print "$^V\n";
+while (my $line = <STDIN>) {
+    chomp $line;
+    my ($rule, $subject) = map { pack("H*", $_) } split /\t/, $line, -1;
+    my $compiled = qr/(?^a:$rule)/;
+    my $count = 1;
+    $count *= 2 while seconds($compiled, $subject, $count) < $turn;
+    my $best;
+    for (1 .. $turns) {
+        my $took = seconds($compiled, $subject, $count);
+        $best = $took if !defined $best || $took < $best;
+    }
+    printf "%.12f\n", $best / $count;
+}

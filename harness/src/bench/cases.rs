@@ -1,0 +1,115 @@
+//! The cases of the benchmark, by what they show.
+
+use super::table::grouped;
+use super::Case;
+use crate::raw::Call;
+
+/// The gateway's budget.
+const GATEWAY: u32 = 1_000;
+const LONGEST_SUBJECT: usize = 65_535;
+/// A text in which none of the rules below finds anything, though some of their words begin like some of its.
+const TEXT: &[u8] = b"the tank is filled with milk and the pump runs until the level is near the end of its scale ";
+const WORDS: &str = "alpha|bravo|charlie|delta|echo|foxtrot|golf|hotel|india|juliett|kilo|lima|mike|november|oscar|papa|quebec|romeo|sierra|tango";
+
+pub fn all() -> Vec<Case> {
+    [gateway(), long_scans(), alternations(), classes(), references(), catastrophes(), listings()].into_iter().flatten().collect()
+}
+
+/// A case; its name tells the budget if that is not the gateway's.
+fn case(call: Call, name: &str, rule: &str, subject: &[u8], budget: u32, room: usize) -> Case {
+    let mut name = name.replace('|', "\\|");
+    if budget != GATEWAY {
+        name += &format!(", budget {}", grouped(u64::from(budget)));
+    }
+    Case { name, call, rule: rule.into(), subject: subject.to_vec(), budget, room, match_limit: None }
+}
+
+/// A match, named by its rule.
+fn matching(what: &str, rule: &str, subject: &[u8], budget: u32) -> Case {
+    case(Call::Match, &format!("{what}: `{rule}`, {} bytes", grouped(subject.len() as u64)), rule, subject, budget, 1)
+}
+
+/// The text as often as it takes, and at its very end this.
+fn text_and(length: usize, end: &str) -> Vec<u8> {
+    let before = TEXT.iter().copied().cycle().take(length - end.len());
+    before.chain(end.bytes()).collect()
+}
+
+fn gateway() -> Vec<Case> {
+    let one = |what, rule, line: &str| matching(what, rule, line.as_bytes(), GATEWAY);
+    vec![
+        case(Call::Match, "gateway: empty rule, empty line", "", b"", GATEWAY, 1),
+        one("gateway", r"^(?:(\d{1,3},\d{3})|(\d+,\d+)) L$", "1234567,5 L"),
+        one("gateway", r"^(\d{4})-(\d\d)-(\d\d) (\w+)=(\d+)$", "2024-05-17 tank07=1500"),
+        one("gateway", r"^([^;]*);([^;]*);([^;]*);([^;]*)$", "17.05.2024;tank 07;1500 L;4,2 C"),
+        one("gateway", r"temp=(-?\d+\.\d) level=(\d+)%", "hall 3 tank 07 pump on valve open since 06:15 by hand temp=4.2 level=87% ok"),
+        one(
+            "gateway, not matched",
+            r"(?:ERROR|ALARM|FAULT) [A-Z]\d{3}",
+            "hall 3 tank 07 pump on valve open since 06:15 by hand ALARM none temp=4.2 level=87% ERR 0 FAULTS 0",
+        ),
+    ]
+}
+
+fn long_scans() -> Vec<Case> {
+    vec![
+        matching("long scan, missing", "needle", &text_and(LONGEST_SUBJECT, "."), GATEWAY),
+        matching("long scan, at the end", r"\d+,\d+", &text_and(LONGEST_SUBJECT, "12,5"), GATEWAY),
+        matching("long scan, at the end", "[#-&]", &text_and(LONGEST_SUBJECT, "#"), GATEWAY),
+    ]
+}
+
+fn alternations() -> Vec<Case> {
+    let one = |name, length| case(Call::Match, name, &format!("(?:{WORDS})"), &text_and(length, "tango"), GATEWAY, 1);
+    vec![
+        one("alternation of twenty words, the last one at the end of 80 bytes", 80),
+        one("alternation of twenty words, the last one at the end of 65,535 bytes", LONGEST_SUBJECT),
+    ]
+}
+
+fn classes() -> Vec<Case> {
+    let setting = b"plant.hall3.tank_07.pump = speed 1450 rpm, mode auto;";
+    vec![
+        matching("classes", r"^[A-Za-z_][A-Za-z0-9_]*(?:\.[A-Za-z_][A-Za-z0-9_]*)*\s*[=:]\s*[^;#]+;", setting, GATEWAY),
+        matching("classes", "[[:alpha:]]+[[:digit:]]+[[:punct:]]", &text_and(4_000, "tank07;"), GATEWAY),
+        matching("classes", "[a-f]*[d-k]*x", &[&b"abcdef".repeat(30)[..], b".x"].concat(), 10_000),
+    ]
+}
+
+fn references() -> Vec<Case> {
+    let equal = [vec![b'a'; 200], vec![b'b'], vec![b'a'; 200]].concat();
+    vec![
+        matching("reference", r"\b(\w+) \1\b", &text_and(1_000, "pump pump"), GATEWAY),
+        matching("reference", r#"(["']).*?\1"#, br#"set name of tank 07 to "it's the milk of hall 3" and go on"#, GATEWAY),
+        matching("reference", r"^(a*)b\1$", &equal, GATEWAY),
+    ]
+}
+
+/// PCRE2's limit counts the choices that it keeps for later, not steps. Those below let it do as much as a budget of 100,000 steps lets the
+/// library: on lines that both walk to the end, 3 choices go with 11 steps of the first rule, and with 8 of the second.
+fn catastrophes() -> Vec<Case> {
+    let walked = [&[b'a'; 12][..], b"cb"].concat();
+    let cut = |rule, match_limit| Case { match_limit: Some(match_limit), ..matching("catastrophe, cut off", rule, &[b'a'; 30], 100_000) };
+    vec![
+        matching("catastrophe, walked through", "(a*)*b", &walked, 100_000),
+        matching("catastrophe, walked through", "(a|a)*b", &walked, 100_000),
+        cut("(a*)*b", 27_273),
+        cut("(a|a)*b", 37_500),
+    ]
+}
+
+fn listings() -> Vec<Case> {
+    let mut cases = Vec::new();
+    for (rows, budget) in [(10, GATEWAY), (100, GATEWAY), (1_000, 10_000), (20_000, 100_000)] {
+        let name = format!("listing: `^(.*)`, {} rows from one start", grouped(rows as u64));
+        cases.push(case(Call::List, &name, "^(.*)", &vec![b'a'; rows - 1], budget, rows));
+    }
+    for length in [4, 14, 45, 200] {
+        let rows = length * (length + 1) / 2;
+        let name = format!("listing: `(a+)`, {} rows from {length} starts", grouped(rows as u64));
+        cases.push(case(Call::List, &name, "(a+)", &vec![b'a'; length], GATEWAY, rows));
+    }
+    let twice = "listing: `^(?:.*|.*)`, 1,000 rows from one start, each met twice";
+    cases.push(case(Call::List, twice, "^(?:.*|.*)", &[b'a'; 999], 10_000, 1_000));
+    cases
+}

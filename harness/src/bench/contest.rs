@@ -1,0 +1,90 @@
+//! One case, measured: the library and PCRE2 in turns, after their answers have been compared.
+
+use super::library::Library;
+use super::pcre2::{Rival, Way};
+use super::turns::shortest;
+use super::{Case, Reply};
+use crate::raw::Call;
+
+/// What is known of the library's rival in a case.
+#[derive(Clone, Copy)]
+pub enum Rate {
+    /// Seconds a call.
+    Seconds(f64),
+    /// It answers something else, so that times say nothing.
+    Differs(&'static str),
+    Skipped,
+    /// There is no such way to do the same.
+    None,
+}
+
+pub struct Measured {
+    pub reply: Reply,
+    pub seconds: f64,
+    pub steps: u64,
+    /// The same rule and budget on the empty line: compiling, clearing, and hardly any walk.
+    pub bare_seconds: f64,
+    pub bare_steps: u64,
+    /// PCRE2, by each of `WAYS`, and later Perl.
+    pub rivals: Vec<Rate>,
+}
+
+impl Measured {
+    /// Keeps the shorter time of two measurements, one by one.
+    pub fn shorten(&mut self, other: &Measured) {
+        self.seconds = self.seconds.min(other.seconds);
+        self.bare_seconds = self.bare_seconds.min(other.bare_seconds);
+        for (rate, &another) in self.rivals.iter_mut().zip(&other.rivals) {
+            rate.shorten(another);
+        }
+    }
+}
+
+impl Rate {
+    pub fn shorten(&mut self, other: Rate) {
+        if let (Rate::Seconds(seconds), Rate::Seconds(others)) = (self, other) {
+            *seconds = seconds.min(others);
+        }
+    }
+}
+
+pub const WAYS: [Way; 3] = [Way::EachCall, Way::Once, Way::NoShortcuts];
+
+pub fn measure(case: &Case) -> Measured {
+    let (mut library, mut bare) = (Library::new(case, &case.subject), Library::new(case, b""));
+    let ((reply, steps), (_, bare_steps)) = (library.reply(), bare.reply());
+    let mut calls: Vec<Box<dyn FnMut()>> = vec![Box::new(|| library.call()), Box::new(|| bare.call())];
+    let mut rivals = Vec::new();
+    for way in WAYS {
+        rivals.push(match rival(case, way, &reply) {
+            Ok(call) => {
+                calls.push(call);
+                Rate::Seconds(0.0)
+            }
+            Err(rate) => rate,
+        });
+    }
+    let times = shortest(&mut calls);
+    let mut rival_times = times[2..].iter();
+    for rate in &mut rivals {
+        if let Rate::Seconds(seconds) = rate {
+            *seconds = *rival_times.next().expect("each rival that was called has a time");
+        }
+    }
+    drop(calls);
+    Measured { reply, seconds: times[0], steps, bare_seconds: times[1], bare_steps, rivals }
+}
+
+/// One call of PCRE2, if it gives the same answer.
+fn rival<'c>(case: &'c Case, way: Way, reply: &Reply) -> Result<Box<dyn FnMut() + 'c>, Rate> {
+    // A listing goes without shortcuts in any case.
+    if case.call == Call::List && way == Way::NoShortcuts {
+        return Err(Rate::None);
+    }
+    let mut rival = Rival::new(case, way).ok_or(Rate::Skipped)?;
+    let theirs = rival.reply();
+    if theirs != *reply {
+        return Err(Rate::Differs(theirs.word()));
+    }
+    Ok(Box::new(move || rival.call()))
+}
