@@ -1,19 +1,19 @@
 # Reads one case a line: rule and subject in hex, with a tab between them. Prints Perl's version, and then for each case the seconds that a
-# match takes: a turn is a loop of a fixed count, the shortest of many turns counts. The rule is compiled before.
+# match takes by the processor's time: a turn is a loop of a fixed count, the shortest of many turns counts. The rule is compiled before.
 use strict;
 use warnings;
-use Time::HiRes qw(clock_gettime CLOCK_MONOTONIC);
+use Time::HiRes qw(clock_gettime CLOCK_PROCESS_CPUTIME_ID);
 
 my ($turn, $turns) = (0.001, 25);
 
 sub seconds {
     my ($compiled, $subject, $count) = @_;
     my $found = 0;
-    my $begun = clock_gettime(CLOCK_MONOTONIC);
+    my $begun = clock_gettime(CLOCK_PROCESS_CPUTIME_ID);
     for (1 .. $count) {
         $found++ if $subject =~ $compiled;
     }
-    return clock_gettime(CLOCK_MONOTONIC) - $begun;
+    return clock_gettime(CLOCK_PROCESS_CPUTIME_ID) - $begun;
 }
 
 print "$^V\n";

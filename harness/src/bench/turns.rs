@@ -1,9 +1,10 @@
-//! Taking times: the contenders are run in turns, and the shortest turn of each counts, so that other work on the machine hardly shows.
+//! Taking times: the contenders are run in turns, and the shortest turn of each counts. What is taken is the processor's time for this thread,
+//! so that a turn is no longer because other work has come in between.
 
 use std::time::{Duration, Instant};
 
 /// A turn is at least so long, unless one call is longer.
-const TURN: Duration = Duration::from_millis(1);
+const TURN: f64 = 0.001;
 /// So many turns each in a pass over all cases, or fewer where they would take too long.
 const TURNS: usize = 25;
 const FEWEST_TURNS: usize = 2;
@@ -19,7 +20,7 @@ pub fn shortest(calls: &mut [Box<dyn FnMut() + '_>]) -> Vec<f64> {
             break;
         }
         for ((call, &count), best) in calls.iter_mut().zip(&counts).zip(&mut best) {
-            *best = best.min(turn_of(call, count).as_secs_f64() / f64::from(count));
+            *best = best.min(turn_of(call, count) / f64::from(count));
         }
     }
     best
@@ -34,10 +35,32 @@ fn calls_in_a_turn(call: &mut dyn FnMut()) -> u32 {
     count
 }
 
-fn turn_of(call: &mut dyn FnMut(), count: u32) -> Duration {
-    let begun = Instant::now();
+fn turn_of(call: &mut dyn FnMut(), count: u32) -> f64 {
+    let begun = thread_seconds();
     for _ in 0..count {
         call();
     }
-    begun.elapsed()
+    thread_seconds() - begun
+}
+
+/// C's `struct timespec`.
+#[repr(C)]
+struct TimeSpec {
+    seconds: i64,
+    nanoseconds: i64,
+}
+
+const CLOCK_THREAD_CPUTIME_ID: i32 = 3;
+
+extern "C" {
+    fn clock_gettime(clock: i32, time: *mut TimeSpec) -> i32;
+}
+
+/// The processor's time that this thread has had.
+fn thread_seconds() -> f64 {
+    let mut time = TimeSpec { seconds: 0, nanoseconds: 0 };
+    // Safety: the time is there to be written.
+    let status = unsafe { clock_gettime(CLOCK_THREAD_CPUTIME_ID, &mut time) };
+    assert!(status == 0, "the machine has no clock for a thread");
+    time.seconds as f64 + time.nanoseconds as f64 * 1e-9
 }
