@@ -109,6 +109,8 @@ fn listings() -> Vec<Case> {
         let name = format!("listing: `(a+)`, {} rows from {length} starts", grouped(rows as u64));
         cases.push(case(Call::List, &name, "(a+)", &vec![b'a'; length], GATEWAY, rows));
     }
+    let same_span = "listing: `^(a*)(a*)(a*)$`, 990 rows from one start, all of one span";
+    cases.push(case(Call::List, same_span, "^(a*)(a*)(a*)$", &[b'a'; 43], 100_000, 990));
     let twice = "listing: `^(?:.*|.*)`, 1,000 rows from one start, each met twice";
     cases.push(case(Call::List, twice, "^(?:.*|.*)", &[b'a'; 999], 10_000, 1_000));
     cases
