@@ -1,0 +1,21 @@
+-- One store.
+use borrow.Author.Needs.{needs}
+use denote.Ref.{now}
+use Rattle.text.specs.Laws.Writing.{stored}
+use Rattle.text.proofs.append_byte.Statement.{statement}
+use Rattle.text.proofs.append_byte.Tie as tie
+
+slice-write-out : tie.Need-slice-write-out
+slice-write-out c = search needs
+
+add-result : tie.Need-add-result
+add-result c = search needs
+
+same-length : tie.Need-same-length
+same-length c = search needs
+
+returns : tie.Need-returns
+returns c = stored (now (c .args .out)) (c .args .at) (c .args .byte) (c .pre)
+
+pub append-byte-spec : {M : Type 1} → statement M
+append-byte-spec = tie.close (tie.spec slice-write-out add-result same-length returns)

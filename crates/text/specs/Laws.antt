@@ -1,0 +1,4 @@
+-- Facts about text that proofs cite.
+pub mod Lines
+pub mod Numbers
+pub mod Writing

@@ -1,0 +1,24 @@
+-- Where a line ends, one byte at a time.
+use mathlib.Core.Path.{_≡_}
+use mathlib.Core.List.{List}
+use Prim.Native.Nat.{ℕ, suc, _≤_, _<_}
+use borrow.Author.Tests.{eq-eqb, ne-eqb}
+use lib.ListN.{length, getD, drop, drop-of-length-le}
+use lib.Seq.{drop-cons}
+use Rattle.text.specs.Lines.{newline, lineLength}
+
+module _ (s : List ℕ) (i : ℕ) where
+  -- at an 0A the line has ended
+  pub ended : i < length s → getD s i 0 ≡ newline → lineLength (drop i s) ≡ 0
+  unfolding lineLength
+  ended h e = rw (drop-cons s i 0 h, eq-eqb (getD s i 0) newline e)
+
+  -- another byte belongs to it
+  pub goesOn : i < length s → (getD s i 0 ≡ newline → ⊥) → lineLength (drop i s) ≡ suc (lineLength (drop (suc i) s))
+  unfolding lineLength
+  goesOn h e = rw (drop-cons s i 0 h, ne-eqb (getD s i 0) newline e)
+
+  -- at the end of the text too
+  pub out : length s ≤ i → lineLength (drop i s) ≡ 0
+  unfolding lineLength
+  out h = rw (drop-of-length-le s h)

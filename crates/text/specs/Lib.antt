@@ -1,0 +1,5 @@
+-- Text as lists of bytes.
+pub mod Lines
+pub mod Numbers
+pub mod Writing
+pub mod Laws
