@@ -7,7 +7,7 @@ ghost use Rattle.text.specs.Lines.{lineLength};
 ghost use Rattle.text.specs.Numbers.{decimal};
 ghost use Rattle.text.specs.Writing.{Wrote};
 
-const NEWLINE: u8 = 10;
+pub const NEWLINE: u8 = 10;
 
 // The position of the first 0A at or behind a position; the end of the input where there is none.
 pub fn line_end(input: &[u8], from: usize) -> usize
@@ -46,7 +46,7 @@ pub fn append_byte(out: &mut [u8], at: usize, byte: u8) -> usize
 }
 
 // Writes a number in decimal digits: those of its tenth, then its last.
-pub fn append_number(out: &mut [u8], at: usize, n: u32) -> usize
+pub fn append_number(out: &mut [u8], at: usize, n: u64) -> usize
     requires { ⌜ at + length (decimal n) ≤ length (now out) ⌝ }
     ensures { λ r. ⌜ Wrote (now (out .entry)) at (decimal n) (now (out .exit)) r ⌝ }
 {

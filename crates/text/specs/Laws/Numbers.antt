@@ -68,3 +68,7 @@ fewDigits (suc k) n h =
 -- a number of 32 bits has at most ten
 pub tenDigits : (n : ℕ) → n < 2 ^ 32 → length (decimal n) ≤ 10
 tenDigits n h = fewDigits 9 n (omega arith)
+
+-- one of 64 bits at most twenty
+pub twentyDigits : (n : ℕ) → n < 2 ^ 64 → length (decimal n) ≤ 20
+twentyDigits n h = fewDigits 19 n (omega arith)

@@ -2,10 +2,10 @@
 use mathlib.Core.Path.{_≡_, refl, sym, ap, _∙_}
 use mathlib.Core.List.{List, [], _∷_, _++_, append-assoc}
 use Prim.Native.Nat.{ℕ, _+_, _/_, _%_, _≤_, _<_}
-use native.Mathlib.Nat.{add-assoc}
+use native.Mathlib.Nat.{add-assoc, add-zero}
 use native.Mathlib.Numerals.{add-one}
 use native.Mathlib.Omega.{arith}
-use lib.ListN.{length, take, drop, set, length-append}
+use lib.ListN.{length, take, drop, set, length-append, take-append-drop}
 use lib.Seq.{paste, take-length, take-paste, drop-paste, length-paste, drop-drop, set-split}
 use Rattle.text.specs.Numbers.{digit, decimal}
 use Rattle.text.specs.Writing.{written, Wrote}
@@ -37,24 +37,24 @@ module _ (out : List ℕ) (at : ℕ) (text : List ℕ) (fits : at + length text 
 drop-both : (a b : List ℕ) (m n : ℕ) → drop m a ≡ drop m b → drop (m + n) a ≡ drop (m + n) b
 drop-both a b m n e = sym (drop-drop n m a) ∙ ap (λ (l : List ℕ). drop n l) e ∙ drop-drop n m b
 
-module _ (out : List ℕ) (at : ℕ) (a b : List ℕ) (fits : at + length a ≤ length out) where
-  pub written-both : written (written out at a) (at + length a) b ≡ written out at (a ++ b)
-  unfolding written
-  written-both =
-      ap (λ (l : List ℕ). l ++ (b ++ drop (at + length a + length b) (written out at a))) (take-written out at a fits)
-      ∙ ap (λ (l : List ℕ). (take at out ++ a) ++ (b ++ l)) (drop-both (written out at a) out (at + length a) (length b) (drop-written out at a fits))
-      ∙ rw (length-append, add-assoc) (simp append-assoc)
+written-both : (out : List ℕ) (at : ℕ) (a b : List ℕ) → at + length a ≤ length out → written (written out at a) (at + length a) b ≡ written out at (a ++ b)
+unfolding written
+written-both out at a b fits =
+    ap (λ (l : List ℕ). l ++ (b ++ drop (at + length a + length b) (written out at a))) (take-written out at a fits)
+    ∙ ap (λ (l : List ℕ). (take at out ++ a) ++ (b ++ l)) (drop-both (written out at a) out (at + length a) (length b) (drop-written out at a fits))
+    ∙ rw (length-append, add-assoc) (simp append-assoc)
 
-  -- the same of what functions say that they wrote
-  pub wroteBoth : {mid new : List ℕ} {m e : ℕ} → Wrote out at a mid m → Wrote mid m b new e → Wrote out at (a ++ b) new e
-  wroteBoth {mid} {new} {m} {e} first next = record {
-    ends = rw length-append (omega arith);
-    holds = next .holds ∙ rw (first .holds, first .ends) written-both;
-  }
+-- the same of what two functions say that they wrote, the second where the first ended
+pub wroteBoth : {out a b mid new : List ℕ} {at m e : ℕ} → m ≤ length out → Wrote out at a mid m → Wrote mid m b new e → Wrote out at (a ++ b) new e
+wroteBoth {out} {a} {b} {at = at} fits first next = record {
+  ends = rw length-append (omega arith);
+  holds = next .holds ∙ rw (first .holds, first .ends) (written-both out at a b (omega arith));
+}
 
--- a written slice is as long as before
-pub wroteLength : {old text new : List ℕ} {at end : ℕ} → at + length text ≤ length old → Wrote old at text new end → length new ≡ length old
-wroteLength {old} {text} {new} {at} fits w = ap length (w .holds) ∙ length-written old at text fits
+-- nothing was written
+pub wroteNothing : (out : List ℕ) (at : ℕ) → Wrote out at [] out at
+unfolding written
+wroteNothing out at = record { ends = sym (add-zero at); holds = sym (rw (add-zero at) (take-append-drop at out)) }
 
 -- Numbers, as they are written: a digit, or the digits of the tenth and then the last digit.
 module _ (out : List ℕ) (at n : ℕ) {new : List ℕ} {e : ℕ} where
@@ -62,4 +62,4 @@ module _ (out : List ℕ) (at n : ℕ) {new : List ℕ} {e : ℕ} where
   wroteSmall h w = rw (small n h) w
 
   pub wroteLarge : {mid : List ℕ} {m : ℕ} → 10 ≤ n → at + length (decimal n) ≤ length out → Wrote out at (decimal (n / 10)) mid m → Wrote mid m (digit (n % 10) ∷ []) new e → Wrote out at (decimal n) new e
-  wroteLarge h fits v w = rw (large n h) (wroteBoth out at (decimal (n / 10)) (digit (n % 10) ∷ []) (omega (arith, length-large n h)) v w)
+  wroteLarge h fits v w = rw (large n h) (wroteBoth (omega (arith, length-large n h)) v w)

@@ -1,0 +1,87 @@
+-- A line within the limit is matched, and what the match tells is said as the answer.
+use native.Mathlib.Omega.{arith}
+use denote.Ref.{now}
+use mathlib.Core.Path.{_≡_}
+use Prim.Native.Nat.{_≤_, _<_}
+use lib.ListN.{length, take, length-take}
+use Rattle.syntax.specs.Limits.{groupLimit, spansLength, rowLength}
+use Rattle.matcher.specs.Outcomes.{outcomeOf}
+use Rattle.gateway_line.specs.Limits.{lineLimit, gatewayBudget, gatewayFlags}
+use Rattle.gateway_line.specs.Answers.{answerLine}
+use Rattle.gateway_line.specs.Promises.{toldLine}
+use Rattle.gateway_line.specs.Laws.Rules.{fewGroups}
+use Rattle.gateway_line.specs.Laws.Calls.{longAnswer, leftLong, leftCalled, toldSays}
+use borrow.Author.Needs.{needs}
+use Rattle.gateway_line.proofs.answering.answer.Statement.{statement}
+use Rattle.gateway_line.proofs.answering.answer.Tie as tie
+use Rattle.gateway_line.proofs.answering.answer.Reads as reads
+use Rattle.gateway_line.proofs.answering.answer.Lts as lts
+use Rattle.gateway_line.proofs.answering.tell.Reads as tell-reads
+use Rattle.gateway_line.proofs.lines.write_too_long.Reads as write-too-long-reads
+use Rattle.matcher.proofs.match_line.Reads as match-line-reads
+
+write-too-long-requires : tie.Need-write-too-long-requires
+write-too-long-requires c κs = search needs
+
+same-length : tie.Need-same-length
+same-length c = search needs
+
+returns : tie.Need-returns
+unfolding lineLimit
+returns c =
+    let a = c .before .before .before .before .before .before .before .before .before .before .before .args in
+    let h : lineLimit < length (now (a .line)) = omega arith in
+    (λ tree reads. rw (longAnswer (tree, a .groups) (now (a .line)) h) (c .before .before .write-too-long .ensures), leftLong _ _ _ _ _ h)
+
+match-line-requires : tie.Need-match-line-requires
+match-line-requires c κs = search needs
+
+slice-reshare-prefix-tell : tie.Need-slice-reshare-prefix-tell
+unfolding rowLength spansLength groupLimit
+slice-reshare-prefix-tell c = omega arith
+
+slice-aggregate-tell : tie.Need-slice-aggregate-tell
+unfolding rowLength spansLength groupLimit
+slice-aggregate-tell c = simp length-take (omega arith)
+
+tell-requires : tie.Need-tell-requires
+unfolding rowLength spansLength groupLimit
+tell-requires c κs = (simp length-take (omega arith), fewGroups (now (c .before .before .before .before .before .before .before .before .before .before .before .before .before .before .before .before .before .before .before .args .rule)) (c .before .before .before .before .before .before .before .before .before .before .before .before .before .before .before .before .before .before .before .pre .0 .sound-rule .1), omega arith)
+
+same-length-2 : tie.Need-same-length-2
+same-length-2 c = search needs
+
+same-length-3 : tie.Need-same-length-3
+same-length-3 c = search needs
+
+same-length-4 : tie.Need-same-length-4
+same-length-4 c = search needs
+
+same-length-5 : tie.Need-same-length-5
+same-length-5 c = search needs
+
+returns-2 : tie.Need-returns-2
+unfolding rowLength spansLength groupLimit gatewayBudget gatewayFlags lineLimit
+returns-2 c =
+    let a = c .before .before .before .before .before .before .before .before .before .before .before .before .before .before .before .before .before .before .before .before .before .before .args in
+    let h : length (now (a .line)) ≤ lineLimit = omega arith in (
+      λ tree reads. rw (toldSays (now (a .rule)) (now (a .line)) (now (a .rule-area)) (now (a .work-area)) (now (a .results)) (c .before .before .before .before .before .before .before .before .before .before .before .before .before .before .before .before .before .before .before .before .before .before .pre .0) h tree reads (c .before .before .before .before .before .before .before .before .before .before .before .match-line .ensures)) at (c .before .before .tell .ensures),
+      leftCalled (now (a .rule)) (now (a .line)) (now (a .rule-area)) (now (a .work-area)) (now (a .results)) h (c .before .before .before .before .before .before .before .before .before .before .before .match-line .ensures),
+    )
+
+pub answer-spec : {M : Type 1} → statement M
+answer-spec =
+    tie.close
+    (tie.spec
+    write-too-long-requires
+    same-length
+    returns
+    match-line-requires
+    slice-reshare-prefix-tell
+    slice-aggregate-tell
+    tell-requires
+    same-length-2
+    same-length-3
+    same-length-4
+    same-length-5
+    returns-2)

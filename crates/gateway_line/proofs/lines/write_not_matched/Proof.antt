@@ -1,0 +1,29 @@
+-- One text of two bytes.
+use native.Mathlib.Omega.{arith}
+use denote.Ref.{now}
+use Rattle.text.specs.Laws.Numbers.{tenDigits, twentyDigits}
+use Rattle.gateway_line.specs.Limits.{spanRoom, answerRoom}
+use Rattle.gateway_line.specs.Laws.Lines.{notMatchedWrote}
+use borrow.Author.Needs.{needs}
+use Rattle.gateway_line.proofs.lines.write_not_matched.Statement.{statement}
+use Rattle.gateway_line.proofs.lines.write_not_matched.Tie as tie
+use Rattle.gateway_line.proofs.lines.write_not_matched.Reads as reads
+use Rattle.gateway_line.proofs.lines.write_not_matched.Lts as lts
+use Rattle.text.proofs.append.Reads as append-reads
+
+slice-aggregate-append : tie.Need-slice-aggregate-append
+slice-aggregate-append c = search needs
+
+append-requires : tie.Need-append-requires
+unfolding answerRoom
+append-requires c κs = omega arith
+
+same-length : tie.Need-same-length
+same-length c = search needs
+
+returns : tie.Need-returns
+returns c = notMatchedWrote (c .before .before .append .ensures)
+
+pub write-not-matched-spec : {M : Type 1} → statement M
+write-not-matched-spec =
+    tie.close (tie.spec slice-aggregate-append append-requires same-length returns)

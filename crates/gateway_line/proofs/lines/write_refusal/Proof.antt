@@ -1,0 +1,24 @@
+-- The number of the reason stands for it.
+use borrow.Author.Needs.{needs}
+use Rattle.gateway_line.proofs.lines.write_refusal.Statement.{statement}
+use Rattle.gateway_line.proofs.lines.write_refusal.Tie as tie
+use Rattle.gateway_line.proofs.lines.write_refusal.Reads as reads
+use Rattle.gateway_line.proofs.lines.write_refusal.Lts as lts
+use Rattle.gateway_line.proofs.lines.write_refused.Reads as write-refused-reads
+use Rattle.syntax.proofs.number.Reads as number-reads
+
+number-requires : tie.Need-number-requires
+number-requires c κs = search needs
+
+write-refused-requires : tie.Need-write-refused-requires
+write-refused-requires c κs = search needs
+
+same-length : tie.Need-same-length
+same-length c = search needs
+
+returns : tie.Need-returns
+returns c = rw (c .before .before .before .before .number .ensures) at (c .before .before .write-refused .ensures)
+
+pub write-refusal-spec : {M : Type 1} → statement M
+write-refusal-spec =
+    tie.close (tie.spec number-requires write-refused-requires same-length returns)

@@ -1,0 +1,29 @@
+-- One text of two bytes.
+use native.Mathlib.Omega.{arith}
+use denote.Ref.{now}
+use Rattle.text.specs.Laws.Numbers.{tenDigits, twentyDigits}
+use Rattle.gateway_line.specs.Limits.{spanRoom, answerRoom}
+use Rattle.gateway_line.specs.Laws.Lines.{unreadableWrote}
+use borrow.Author.Needs.{needs}
+use Rattle.gateway_line.proofs.lines.write_unreadable.Statement.{statement}
+use Rattle.gateway_line.proofs.lines.write_unreadable.Tie as tie
+use Rattle.gateway_line.proofs.lines.write_unreadable.Reads as reads
+use Rattle.gateway_line.proofs.lines.write_unreadable.Lts as lts
+use Rattle.text.proofs.append.Reads as append-reads
+
+slice-aggregate-append : tie.Need-slice-aggregate-append
+slice-aggregate-append c = search needs
+
+append-requires : tie.Need-append-requires
+unfolding answerRoom
+append-requires c κs = omega arith
+
+same-length : tie.Need-same-length
+same-length c = search needs
+
+returns : tie.Need-returns
+returns c = unreadableWrote (c .before .before .append .ensures)
+
+pub write-unreadable-spec : {M : Type 1} → statement M
+write-unreadable-spec =
+    tie.close (tie.spec slice-aggregate-append append-requires same-length returns)

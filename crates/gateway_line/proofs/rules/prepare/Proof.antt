@@ -1,0 +1,52 @@
+-- A rule that is not too long is as compiling tells.
+use native.Mathlib.Omega.{arith}
+use denote.Ref.{now}
+use Rattle.syntax.specs.Limits.{ruleLimit}
+use Rattle.gateway_line.specs.Laws.Rules.{longRule, compiledRefused, compiledSound}
+use borrow.Author.Needs.{needs}
+use Rattle.gateway_line.proofs.rules.prepare.Statement.{statement}
+use Rattle.gateway_line.proofs.rules.prepare.Tie as tie
+use Rattle.gateway_line.proofs.rules.prepare.Reads as reads
+use Rattle.gateway_line.proofs.rules.prepare.Lts as lts
+use Rattle.reader.proofs.compile.Reads as compile-reads
+
+returns : tie.Need-returns
+unfolding ruleLimit
+returns c = longRule (now (c .before .before .before .args .rule)) (omega arith)
+
+compile-requires : tie.Need-compile-requires
+unfolding ruleLimit
+compile-requires c κs = (omega arith, omega arith)
+
+enum-known-compiled : tie.Need-enum-known-compiled
+enum-known-compiled c = search needs
+
+enum-known-compiled-2 : tie.Need-enum-known-compiled-2
+enum-known-compiled-2 c = search needs
+
+same-length : tie.Need-same-length
+same-length c = search needs
+
+returns-2 : tie.Need-returns-2
+unfolding ruleLimit
+returns-2 c = compiledRefused (now (c .before .before .before .before .before .before .before .before .before .before .args .rule)) (omega arith) (c .before .before .before .before .before .compile .ensures) _ (c .before .compiled .given .1)
+
+same-length-2 : tie.Need-same-length-2
+same-length-2 c = search needs
+
+returns-3 : tie.Need-returns-3
+unfolding ruleLimit
+returns-3 c = compiledSound (now (c .before .before .before .before .before .before .before .before .before .before .args .rule)) (omega arith) (c .before .before .before .before .before .compile .ensures) _ _ (c .before .compiled2 .given .1)
+
+pub prepare-spec : {M : Type 1} → statement M
+prepare-spec =
+    tie.close
+    (tie.spec
+    returns
+    compile-requires
+    enum-known-compiled
+    enum-known-compiled-2
+    same-length
+    returns-2
+    same-length-2
+    returns-3)

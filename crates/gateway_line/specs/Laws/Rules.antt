@@ -1,0 +1,60 @@
+-- The gateway's rule: refused for its length, or as it reads.
+use mathlib.Core.Path.{_≡_, refl, _∙_}
+use mathlib.Core.List.{List}
+use mathlib.Core.Bool.{Bool, true, false}
+use Prim.Native.Nat.{ℕ, _≤_, _<_}
+use native.Mathlib.Omega.{arith}
+use borrow.Author.Tests.{lt-ltb, le-ltb, ltb-false}
+use lib.ListN.{length}
+use lib.Dec.{ltb}
+use Rattle.syntax.specs.declared.Reason.the-variants.{RuleTooLong}
+use Rattle.syntax.specs.Limits.{ruleLimit, groupLimit}
+use Rattle.syntax.specs.Read.{if_then_else_, Read, sound, refused}
+use Rattle.syntax.specs.Tree.{Rule}
+use Rattle.syntax.specs.Reading.{reading}
+use Rattle.syntax.specs.WellFormed.{WellFormed}
+use Rattle.syntax.specs.Laws.Formation.{well-formed}
+use Rattle.syntax.specs.declared.Refusal.{Refusal}
+use Rattle.reader.specs.declared.compiling.Compilation.{Compilation}
+use Rattle.reader.specs.declared.compiling.Compilation.the-variants.{Sound, Refused}
+use Rattle.reader.specs.Compiles.{Stands, Compiles}
+use Rattle.gateway_line.specs.Limits.{gatewayFlags}
+use Rattle.gateway_line.specs.Answers.{gatewayRule}
+use Rattle.gateway_line.specs.Promises.{Reads}
+
+module _ (s : List ℕ) where
+  pub longRule : ruleLimit < length s → gatewayRule s ≡ refused 0 RuleTooLong
+  unfolding gatewayRule
+  longRule h = rw (lt-ltb ruleLimit (length s) h)
+
+  pub shortRule : length s ≤ ruleLimit → gatewayRule s ≡ reading s gatewayFlags
+  unfolding gatewayRule
+  shortRule h = rw (le-ltb ruleLimit (length s) h)
+
+  module _ {tree : Rule} {groups : ℕ} (r : Reads s tree groups) where
+    -- a sound rule is not too long
+    pub soundFits : length s ≤ ruleLimit
+    unfolding gatewayRule
+    soundFits = go (ltb ruleLimit (length s)) refl (r .1)
+      where
+        go : (t : Bool) → ltb ruleLimit (length s) ≡ t → (if t then refused 0 RuleTooLong else reading s gatewayFlags) ≡ sound (tree, groups) (r .0) → length s ≤ ruleLimit
+        go true e f = let z : _≡_ {A = ℕ} 0 1 = cc in absurd (omega arith)
+        go false e f = ltb-false ruleLimit (length s) e
+
+    pub soundReads : reading s gatewayFlags ≡ sound (tree, groups) (r .0)
+    soundReads = rw (shortRule soundFits) at (r .1)
+
+    pub fewGroups : groups ≤ groupLimit
+    fewGroups = let w : WellFormed groups tree = rw soundReads at (well-formed s gatewayFlags) in w .few
+
+  -- what compiling tells of a rule that is not too long
+  module _ (short : length s ≤ ruleLimit) {old new : List ℕ} {x : Compilation} (done : Compiles s 0 old new x) where
+    pub compiledRefused : (f : Refusal) → x ≡ Refused f → gatewayRule s ≡ refused (f .place) (f .reason)
+    unfolding gatewayFlags
+    compiledRefused f e = shortRule short ∙ rw e at (done .says)
+
+    pub compiledSound : (pc groups : ℕ) → x ≡ Sound pc groups → (tree : Rule) × Reads s tree groups
+    unfolding gatewayFlags
+    compiledSound pc groups e =
+        let z : Stands s 0 new pc groups = rw e at (done .says) in
+        (z .tree, (z .stop, shortRule short ∙ z .reads))

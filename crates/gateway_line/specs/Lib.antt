@@ -1,0 +1,6 @@
+-- What the gateway program writes.
+pub mod Limits
+pub mod Answers
+pub mod Gateway
+pub mod Promises
+pub mod Laws

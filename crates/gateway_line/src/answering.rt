@@ -1,0 +1,58 @@
+// The answer to one line.
+use crate::gathering::LINE_LIMIT;
+use crate::lines::write_exhausted;
+use crate::lines::write_matched;
+use crate::lines::write_not_matched;
+use crate::lines::write_refusal;
+use crate::lines::write_too_long;
+use crate::rules::FLAGS;
+use matcher::Outcome;
+use matcher::match_line;
+ghost use Prim.Native.Nat.{_+_, _≤_};
+ghost use lib.ListN.{length};
+ghost use Rattle.syntax.specs.Limits.{rowLength, groupLimit};
+ghost use Rattle.matcher.specs.Inputs.{callOf};
+ghost use Rattle.matcher.specs.Outcomes.{outcomeOf};
+ghost use Rattle.gateway_line.specs.Limits.{gatewayBudget, gatewayFlags, answerRoom};
+ghost use Rattle.gateway_line.specs.Promises.{WroteLine, Lent, toldLine, Answered, Left};
+
+const BUDGET: u32 = 1000;
+
+// how many numbers a row has
+const ROW_LENGTH: usize = 66;
+
+// Writes what a match tells. The row counts only if it is one that matched.
+fn tell(outcome: Outcome, row: &[u32], groups: u32, out: &mut [u8], at: usize) -> usize
+    requires { ⌜ (rowLength ≤ length (now row)) × (groups ≤ groupLimit) × (at + answerRoom ≤ length (now out)) ⌝ }
+    ensures { λ r. ⌜ WroteLine (now (out .entry)) at (toldLine groups (outcomeOf outcome) (now (row .entry))) (now (out .exit)) r ⌝ }
+{
+    match outcome {
+        Outcome::Matched(_steps) => write_matched(row, groups, out, at),
+        Outcome::NotMatched(_steps) => write_not_matched(out, at),
+        Outcome::Exhausted(start, _steps) => write_exhausted(start, out, at),
+        Outcome::Refused(f) => write_refusal(f, out, at),
+    }
+}
+
+// Writes the answer to a line, by a rule that is sound and has so many groups.
+pub fn answer(
+    rule: &[u8],
+    groups: u32,
+    line: &[u8],
+    rule_area: &mut [u32],
+    work_area: &mut [u32],
+    results: &mut [u32],
+    out: &mut [u8],
+    at: usize,
+) -> usize
+    requires { ⌜ Lent (now rule) groups (now «rule_area») (now «work_area») (now results) ⌝ }
+    requires { ⌜ at + answerRoom ≤ length (now out) ⌝ }
+    ensures { λ r. ⌜ Answered (now (rule .entry)) groups (now (line .entry)) (now (out .entry)) at (now (out .exit)) r ⌝ }
+    ensures { λ _. ⌜ Left (callOf (now (rule .entry)) gatewayFlags (now (line .entry)) gatewayBudget (now («rule_area» .entry)) (now («work_area» .entry)) (now (results .entry))) (now («rule_area» .exit)) (now («work_area» .exit)) (now (results .exit)) ⌝ }
+{
+    if LINE_LIMIT < line.len() {
+        return write_too_long(out, at);
+    }
+    let outcome = match_line(rule, FLAGS, line, BUDGET, rule_area, work_area, results);
+    tell(outcome, &results[..ROW_LENGTH], groups, out, at)
+}

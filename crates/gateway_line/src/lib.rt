@@ -1,0 +1,12 @@
+// The answers of the gateway program as bytes.
+mod answering;
+mod gathering;
+mod lines;
+mod rules;
+
+pub use answering::answer;
+pub use gathering::gather;
+pub use lines::write_refusal;
+pub use lines::write_unreadable;
+pub use rules::Readiness;
+pub use rules::prepare;

@@ -1,0 +1,37 @@
+// The rule, before a line is read.
+use reader::Compilation;
+use reader::compile;
+use syntax::Reason;
+use syntax::Refusal;
+ghost use Prim.Native.Nat.{_≤_};
+ghost use lib.ListN.{length};
+ghost use Rattle.syntax.specs.Limits.{ruleAreaNeed};
+ghost use Rattle.gateway_line.specs.Promises.{Prepares};
+
+const RULE_LIMIT: usize = 1000;
+
+pub const FLAGS: u32 = 0;
+
+// A rule that lines can be answered by, with its number of groups; or why it is refused.
+pub enum Readiness {
+    Ready(u32),
+    Refused(Refusal),
+}
+
+// Reads a rule. What stands in the area afterwards is of no use to anyone.
+pub fn prepare(rule: &[u8], rule_area: &mut [u32]) -> Readiness
+    requires { ⌜ ruleAreaNeed ≤ length (now «rule_area») ⌝ }
+    ensures { λ r. ⌜ Prepares (now (rule .entry)) r ⌝ }
+{
+    if RULE_LIMIT < rule.len() {
+        return Readiness::Refused(Refusal {
+            place: 0,
+            reason: Reason::RuleTooLong,
+        });
+    }
+    let compiled = compile(rule, FLAGS, rule_area);
+    match compiled {
+        Compilation::Refused(f) => Readiness::Refused(f),
+        Compilation::Sound(_pc, groups) => Readiness::Ready(groups),
+    }
+}
