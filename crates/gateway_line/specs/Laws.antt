@@ -3,3 +3,4 @@ pub mod Lines
 pub mod Rules
 pub mod Gathering
 pub mod Calls
+pub mod Streams

@@ -10,11 +10,11 @@ use Rattle.syntax.specs.Read.{if_then_else_, sound, refused}
 use Rattle.syntax.specs.Tree.{Rule}
 use Rattle.semantics.specs.States.{Row}
 use Rattle.semantics.specs.Calls.{Call, workAreaNeed, MatchOutcome, Matched, NotMatched, Exhausted, Refused, matchCall}
-use Rattle.matcher.specs.Inputs.{callOf}
 use Rattle.text.specs.Writing.{Wrote}
+use Rattle.gateway_line.specs.declared.streaming.Progress.{Progress}
 use Rattle.gateway_line.specs.declared.rules.Readiness.{Readiness}
 use Rattle.gateway_line.specs.declared.rules.Readiness.the-variants.{Ready, Refused as Denied}
-use Rattle.gateway_line.specs.Limits.{lineLimit, heldLimit, gatewayBudget, gatewayFlags, answerRoom}
+use Rattle.gateway_line.specs.Limits.{lineLimit, heldLimit, gatewayBudget, answerRoom}
 use Rattle.gateway_line.specs.Answers.{matchedLine, notMatchedLine, exhaustedLine, refusalLine, gatewayRule, answerLine}
 use Rattle.gateway_line.specs.Gateway.{answers}
 
@@ -68,3 +68,25 @@ pub record Left (c : Call) (ruleArea workArea results : List ℕ) : Type 0 where
   pub rule-area-is : ruleArea ≡ unlessLong c (c .ruleArea) (matchCall c .ruleArea)
   pub work-area-is : workArea ≡ unlessLong c (c .workArea) (matchCall c .workArea)
   pub results-are : results ≡ unlessLong c (c .resultArea) (matchCall c .resultArea)
+
+-- An input in pieces --------------------------------------------------------
+
+-- one progress follows another: within the piece, behind where it was unless the piece is at its end, and with room kept
+pub record Onward (piece : List ℕ) (p q : Progress) : Type 0 where
+  pub within : q .at ≤ length piece
+  pub moves : p .at < length piece → p .at < q .at
+  pub fits : q .have ≤ heldLimit
+  pub near : q .put ≤ p .put + answerRoom
+
+-- What was written, and then what is still to be written, is what was to be written, whatever comes behind the piece.
+pub record Spoken (r : Rule × ℕ) (piece line out : List ℕ) (p : Progress) (line′ out′ : List ℕ) (q : Progress) : Type 0 where
+  pub text : List ℕ
+  pub wrote : Wrote out (p .put) text out′ (q .put)
+  pub goes-on : (rest : List ℕ) → answers r (take (p .have) line) (drop (p .at) piece ++ rest) ≡ text ++ answers r (take (q .have) line′) (drop (q .at) piece ++ rest)
+
+abbrev pub Advanced : (rule : List ℕ) (groups : ℕ) (piece line out : List ℕ) (p : Progress) (line′ out′ : List ℕ) (q : Progress) → Type 0
+Advanced rule groups piece line out p line′ out′ q = (tree : Rule) → Reads rule tree groups → Spoken (tree, groups) piece line out p line′ out′ q
+
+-- at the end of the input
+abbrev pub Finished : (rule : List ℕ) (groups : ℕ) (held out : List ℕ) (put : ℕ) (out′ : List ℕ) (end : ℕ) → Type 0
+Finished rule groups held out put out′ end = (tree : Rule) → Reads rule tree groups → WroteLine out put (answers (tree, groups) held []) out′ end

@@ -3,6 +3,7 @@ mod answering;
 mod gathering;
 mod lines;
 mod rules;
+mod streaming;
 
 pub use answering::answer;
 pub use gathering::gather;
@@ -10,3 +11,6 @@ pub use lines::write_refusal;
 pub use lines::write_unreadable;
 pub use rules::Readiness;
 pub use rules::prepare;
+pub use streaming::Progress;
+pub use streaming::advance;
+pub use streaming::finish;

@@ -6,18 +6,17 @@ use Prim.Native.Nat.{ℕ, _≤_, _<_}
 use native.Mathlib.Omega.{arith}
 use borrow.Author.Tests.{lt-ltb, le-ltb}
 use lib.ListN.{length, take}
-use Rattle.syntax.specs.Limits.{ruleLimit, subjectLimit, budgetLimit, ruleAreaNeed, flagBits, rowLength}
+use Rattle.syntax.specs.Limits.{subjectLimit, budgetLimit, flagBits, rowLength}
 use Rattle.syntax.specs.Tree.{Rule}
-use Rattle.semantics.specs.States.{State, row}
 use Rattle.semantics.specs.Answers.{Outcome, matched, notMatched, exhausted, answer}
-use Rattle.semantics.specs.Calls.{Call, workAreaNeed, unacceptable, MatchOutcome, Matched, NotMatched, Exhausted, Refused, matchCall}
+use Rattle.semantics.specs.Calls.{Call, MatchOutcome, matchCall}
 use Rattle.semantics.specs.Demands.{Accepted}
 use Rattle.semantics.specs.Laws.Refusals.{none-exactly}
 use Rattle.semantics.specs.Laws.MatchCalls.{match-row, returns-matched, returns-not-matched, returns-exhausted}
 use Rattle.matcher.specs.Inputs.{callOf, Returned}
 use Rattle.matcher.specs.Laws.Refusals.{acceptable}
 use Rattle.gateway_line.specs.Limits.{lineLimit, gatewayBudget, gatewayFlags}
-use Rattle.gateway_line.specs.Answers.{matchedLine, notMatchedLine, exhaustedLine, tooLongLine, outcomeLine, answerLine}
+use Rattle.gateway_line.specs.Answers.{matchedLine, tooLongLine, outcomeLine, answerLine}
 use Rattle.gateway_line.specs.Promises.{Reads, Lent, toldLine, Left, unlessLong}
 use Rattle.gateway_line.specs.Laws.Rules.{soundFits, soundReads}
 

@@ -1,9 +1,9 @@
 -- A line that is put together from pieces, cut at the limit.
 use mathlib.Core.Path.{_≡_, refl, sym, ap, _∙_}
 use mathlib.Core.List.{List, _++_}
-use Prim.Native.Nat.{ℕ, _+_, _-_, _≤_, _<_}
+use Prim.Native.Nat.{ℕ, _+_, _-_, _≤_}
 use native.Mathlib.Omega.{arith}
-use lib.ListN.{length, take, drop, length-take, length-append}
+use lib.ListN.{length, take, length-take}
 use lib.Seq.{take-all, take-append-add, length-take-le}
 use Rattle.text.specs.Writing.{Wrote}
 use Rattle.text.specs.Laws.Writing.{length-written, take-written, drop-written}

@@ -1,7 +1,7 @@
 -- The lines of the gateway, put together from the parts that are written one behind another; and how long they are at most.
-use mathlib.Core.Path.{_≡_, refl}
-use mathlib.Core.List.{List, [], _∷_, _++_}
-use Prim.Native.Nat.{ℕ, suc, _+_, _*_, _^_, _≤_, _<_}
+use mathlib.Core.Path.{_≡_}
+use mathlib.Core.List.{List, [], _∷_}
+use Prim.Native.Nat.{ℕ, _+_, _*_, _^_, _≤_, _<_}
 use native.Mathlib.Numerals.{add-one}
 use native.Mathlib.Omega.{arith}
 use borrow.Author.Tests.{ne-eqb}
@@ -12,7 +12,7 @@ use Rattle.text.specs.Lines.{newline}
 use Rattle.text.specs.Numbers.{decimal}
 use Rattle.text.specs.Writing.{Wrote}
 use Rattle.text.specs.Laws.Numbers.{tenDigits, twentyDigits}
-use Rattle.text.specs.Laws.Writing.{wroteBoth, wroteNothing}
+use Rattle.text.specs.Laws.Writing.{wroteBoth}
 use Rattle.gateway_line.specs.Limits.{spanRoom, answerRoom}
 use Rattle.gateway_line.specs.Answers.{line, span, spans, matchedLine, notMatchedLine, exhaustedLine, tooLongLine, refusalLine, unreadableLine}
 use Rattle.gateway_line.specs.Promises.{WroteLine}

@@ -9,7 +9,7 @@ use lib.ListN.{length}
 use lib.Dec.{ltb}
 use Rattle.syntax.specs.declared.Reason.the-variants.{RuleTooLong}
 use Rattle.syntax.specs.Limits.{ruleLimit, groupLimit}
-use Rattle.syntax.specs.Read.{if_then_else_, Read, sound, refused}
+use Rattle.syntax.specs.Read.{if_then_else_, sound, refused}
 use Rattle.syntax.specs.Tree.{Rule}
 use Rattle.syntax.specs.Reading.{reading}
 use Rattle.syntax.specs.WellFormed.{WellFormed}

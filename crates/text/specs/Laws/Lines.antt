@@ -1,6 +1,9 @@
 -- Where a line ends, one byte at a time.
 use mathlib.Core.Path.{_≡_}
-use mathlib.Core.List.{List}
+use mathlib.Core.List.{List, [], _∷_}
+use mathlib.Core.Bool.{Bool, true, false, cond}
+use native.Mathlib.Omega.{arith}
+use lib.Dec.{eqb}
 use Prim.Native.Nat.{ℕ, suc, _≤_, _<_}
 use borrow.Author.Tests.{eq-eqb, ne-eqb}
 use lib.ListN.{length, getD, drop, drop-of-length-le}
@@ -22,3 +25,13 @@ module _ (s : List ℕ) (i : ℕ) where
   pub out : length s ≤ i → lineLength (drop i s) ≡ 0
   unfolding lineLength
   out h = rw (drop-of-length-le s h)
+
+-- a line ends within the text
+pub lineWithin : (s : List ℕ) → lineLength s ≤ length s
+unfolding lineLength
+lineWithin [] = omega arith
+lineWithin (b ∷ s) = go (lineWithin s) (eqb b newline)
+  where
+    go : lineLength s ≤ length s → (t : Bool) → cond t 0 (suc (lineLength s)) ≤ suc (length s)
+    go h true = omega arith
+    go h false = omega arith

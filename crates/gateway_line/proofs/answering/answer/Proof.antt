@@ -1,24 +1,15 @@
 -- A line within the limit is matched, and what the match tells is said as the answer.
 use native.Mathlib.Omega.{arith}
 use denote.Ref.{now}
-use mathlib.Core.Path.{_≡_}
 use Prim.Native.Nat.{_≤_, _<_}
-use lib.ListN.{length, take, length-take}
+use lib.ListN.{length, length-take}
 use Rattle.syntax.specs.Limits.{groupLimit, spansLength, rowLength}
-use Rattle.matcher.specs.Outcomes.{outcomeOf}
 use Rattle.gateway_line.specs.Limits.{lineLimit, gatewayBudget, gatewayFlags}
-use Rattle.gateway_line.specs.Answers.{answerLine}
-use Rattle.gateway_line.specs.Promises.{toldLine}
 use Rattle.gateway_line.specs.Laws.Rules.{fewGroups}
 use Rattle.gateway_line.specs.Laws.Calls.{longAnswer, leftLong, leftCalled, toldSays}
 use borrow.Author.Needs.{needs}
 use Rattle.gateway_line.proofs.answering.answer.Statement.{statement}
 use Rattle.gateway_line.proofs.answering.answer.Tie as tie
-use Rattle.gateway_line.proofs.answering.answer.Reads as reads
-use Rattle.gateway_line.proofs.answering.answer.Lts as lts
-use Rattle.gateway_line.proofs.answering.tell.Reads as tell-reads
-use Rattle.gateway_line.proofs.lines.write_too_long.Reads as write-too-long-reads
-use Rattle.matcher.proofs.match_line.Reads as match-line-reads
 
 write-too-long-requires : tie.Need-write-too-long-requires
 write-too-long-requires c κs = search needs

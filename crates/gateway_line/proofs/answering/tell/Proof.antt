@@ -4,12 +4,6 @@ use Rattle.gateway_line.specs.Promises.{toldLine}
 use borrow.Author.Needs.{needs}
 use Rattle.gateway_line.proofs.answering.tell.Statement.{statement}
 use Rattle.gateway_line.proofs.answering.tell.Tie as tie
-use Rattle.gateway_line.proofs.answering.tell.Reads as reads
-use Rattle.gateway_line.proofs.answering.tell.Lts as lts
-use Rattle.gateway_line.proofs.lines.write_exhausted.Reads as write-exhausted-reads
-use Rattle.gateway_line.proofs.lines.write_matched.Reads as write-matched-reads
-use Rattle.gateway_line.proofs.lines.write_not_matched.Reads as write-not-matched-reads
-use Rattle.gateway_line.proofs.lines.write_refusal.Reads as write-refusal-reads
 
 enum-known-outcome : tie.Need-enum-known-outcome
 enum-known-outcome c = search needs

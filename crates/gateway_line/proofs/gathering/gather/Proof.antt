@@ -2,14 +2,11 @@
 use native.Mathlib.Omega.{arith}
 use denote.Ref.{now}
 use lib.ListN.{length-take}
-use Rattle.gateway_line.specs.Limits.{lineLimit, heldLimit}
+use Rattle.gateway_line.specs.Limits.{heldLimit}
 use Rattle.gateway_line.specs.Laws.Gathering.{gathered, gatheredWhole}
 use borrow.Author.Needs.{needs}
 use Rattle.gateway_line.proofs.gathering.gather.Statement.{statement}
 use Rattle.gateway_line.proofs.gathering.gather.Tie as tie
-use Rattle.gateway_line.proofs.gathering.gather.Reads as reads
-use Rattle.gateway_line.proofs.gathering.gather.Lts as lts
-use Rattle.text.proofs.append.Reads as append-reads
 
 sub-room : tie.Need-sub-room
 unfolding heldLimit

@@ -1,18 +1,12 @@
 -- The parts of the line, one behind another.
 use native.Mathlib.Omega.{arith}
-use denote.Ref.{now}
-use Rattle.text.specs.Laws.Numbers.{tenDigits, twentyDigits}
-use Rattle.gateway_line.specs.Limits.{spanRoom, answerRoom}
+use Rattle.text.specs.Laws.Numbers.{tenDigits}
+use Rattle.gateway_line.specs.Limits.{answerRoom}
 use Rattle.gateway_line.specs.Laws.Lines.{exhaustedWrote}
 use Rattle.text.specs.Lines.{newline}
 use borrow.Author.Needs.{needs}
 use Rattle.gateway_line.proofs.lines.write_exhausted.Statement.{statement}
 use Rattle.gateway_line.proofs.lines.write_exhausted.Tie as tie
-use Rattle.gateway_line.proofs.lines.write_exhausted.Reads as reads
-use Rattle.gateway_line.proofs.lines.write_exhausted.Lts as lts
-use Rattle.text.proofs.append.Reads as append-reads
-use Rattle.text.proofs.append_byte.Reads as append-byte-reads
-use Rattle.text.proofs.append_number.Reads as append-number-reads
 
 slice-aggregate-append : tie.Need-slice-aggregate-append
 slice-aggregate-append c = search needs

@@ -1,21 +1,15 @@
 -- The parts of the line, one behind another.
 use native.Mathlib.Omega.{arith}
 use denote.Ref.{now}
-use Rattle.text.specs.Laws.Numbers.{tenDigits, twentyDigits}
+use Rattle.text.specs.Laws.Numbers.{tenDigits}
 use Rattle.gateway_line.specs.Limits.{spanRoom, answerRoom}
 use Rattle.gateway_line.specs.Laws.Lines.{matchedWrote}
 use lib.ListN.{getD}
 use Rattle.text.specs.Lines.{newline}
-use Rattle.syntax.specs.Limits.{rowLength, groupLimit, spansLength}
+use Rattle.syntax.specs.Limits.{rowLength, groupLimit}
 use borrow.Author.Needs.{needs}
 use Rattle.gateway_line.proofs.lines.write_matched.Statement.{statement}
 use Rattle.gateway_line.proofs.lines.write_matched.Tie as tie
-use Rattle.gateway_line.proofs.lines.write_matched.Reads as reads
-use Rattle.gateway_line.proofs.lines.write_matched.Lts as lts
-use Rattle.gateway_line.proofs.lines.write_spans.Reads as write-spans-reads
-use Rattle.text.proofs.append.Reads as append-reads
-use Rattle.text.proofs.append_byte.Reads as append-byte-reads
-use Rattle.text.proofs.append_number.Reads as append-number-reads
 
 slice-aggregate-append : tie.Need-slice-aggregate-append
 slice-aggregate-append c = search needs

@@ -2,10 +2,6 @@
 use borrow.Author.Needs.{needs}
 use Rattle.gateway_line.proofs.lines.write_refusal.Statement.{statement}
 use Rattle.gateway_line.proofs.lines.write_refusal.Tie as tie
-use Rattle.gateway_line.proofs.lines.write_refusal.Reads as reads
-use Rattle.gateway_line.proofs.lines.write_refusal.Lts as lts
-use Rattle.gateway_line.proofs.lines.write_refused.Reads as write-refused-reads
-use Rattle.syntax.proofs.number.Reads as number-reads
 
 number-requires : tie.Need-number-requires
 number-requires c κs = search needs

@@ -1,18 +1,12 @@
 -- A span that is not set is one text; any other is its parts, one behind another.
 use native.Mathlib.Omega.{arith}
-use denote.Ref.{now}
-use Rattle.text.specs.Laws.Numbers.{tenDigits, twentyDigits}
-use Rattle.gateway_line.specs.Limits.{spanRoom, answerRoom}
+use Rattle.text.specs.Laws.Numbers.{tenDigits}
+use Rattle.gateway_line.specs.Limits.{spanRoom}
 use Rattle.gateway_line.specs.Laws.Lines.{spanUnset, spanSet}
 use Rattle.syntax.specs.Limits.{unset}
 use borrow.Author.Needs.{needs}
 use Rattle.gateway_line.proofs.lines.write_span.Statement.{statement}
 use Rattle.gateway_line.proofs.lines.write_span.Tie as tie
-use Rattle.gateway_line.proofs.lines.write_span.Reads as reads
-use Rattle.gateway_line.proofs.lines.write_span.Lts as lts
-use Rattle.text.proofs.append.Reads as append-reads
-use Rattle.text.proofs.append_byte.Reads as append-byte-reads
-use Rattle.text.proofs.append_number.Reads as append-number-reads
 
 slice-aggregate-append : tie.Need-slice-aggregate-append
 slice-aggregate-append c = search needs

@@ -1,12 +1,10 @@
 -- The loop's invariant: the spans of the first i groups stand behind the position, in their room.
 use native.Mathlib.Omega.{arith}
 use denote.Ref.{now}
-use Rattle.text.specs.Laws.Numbers.{tenDigits, twentyDigits}
-use Rattle.gateway_line.specs.Limits.{spanRoom, answerRoom}
+use Rattle.gateway_line.specs.Limits.{spanRoom}
 use Rattle.gateway_line.specs.Laws.Lines.{spansMore}
 use mathlib.Core.Path.{_≡_, refl}
 use Prim.Native.Nat.{_≤_, _+_, _*_, _-_}
-use native.Mathlib.Numerals.{add-one}
 use lib.ListN.{length}
 use Rattle.syntax.specs.Limits.{rowLength, groupLimit, spansLength}
 use Rattle.text.specs.Writing.{Wrote}
@@ -14,9 +12,6 @@ use Rattle.text.specs.Laws.Writing.{wroteNothing}
 use Rattle.gateway_line.specs.Answers.{spans}
 use Rattle.gateway_line.proofs.lines.write_spans.Statement.{statement}
 use Rattle.gateway_line.proofs.lines.write_spans.Tie as tie
-use Rattle.gateway_line.proofs.lines.write_spans.Reads as reads
-use Rattle.gateway_line.proofs.lines.write_spans.Lts as lts
-use Rattle.gateway_line.proofs.lines.write_span.Reads as write-span-reads
 
 abbrev Inv-loop : tie.InvT-loop
 Inv-loop row groups out₀ at last i₀ end₀ out i end = (i ≤ last) × Wrote out₀ at (spans row i) out end × (end ≤ at + spanRoom * i) × (length out ≡ length out₀)

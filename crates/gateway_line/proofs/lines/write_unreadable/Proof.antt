@@ -1,15 +1,10 @@
 -- One text of two bytes.
 use native.Mathlib.Omega.{arith}
-use denote.Ref.{now}
-use Rattle.text.specs.Laws.Numbers.{tenDigits, twentyDigits}
-use Rattle.gateway_line.specs.Limits.{spanRoom, answerRoom}
+use Rattle.gateway_line.specs.Limits.{answerRoom}
 use Rattle.gateway_line.specs.Laws.Lines.{unreadableWrote}
 use borrow.Author.Needs.{needs}
 use Rattle.gateway_line.proofs.lines.write_unreadable.Statement.{statement}
 use Rattle.gateway_line.proofs.lines.write_unreadable.Tie as tie
-use Rattle.gateway_line.proofs.lines.write_unreadable.Reads as reads
-use Rattle.gateway_line.proofs.lines.write_unreadable.Lts as lts
-use Rattle.text.proofs.append.Reads as append-reads
 
 slice-aggregate-append : tie.Need-slice-aggregate-append
 slice-aggregate-append c = search needs

@@ -6,9 +6,6 @@ use Rattle.gateway_line.specs.Laws.Rules.{longRule, compiledRefused, com
 use borrow.Author.Needs.{needs}
 use Rattle.gateway_line.proofs.rules.prepare.Statement.{statement}
 use Rattle.gateway_line.proofs.rules.prepare.Tie as tie
-use Rattle.gateway_line.proofs.rules.prepare.Reads as reads
-use Rattle.gateway_line.proofs.rules.prepare.Lts as lts
-use Rattle.reader.proofs.compile.Reads as compile-reads
 
 returns : tie.Need-returns
 unfolding ruleLimit

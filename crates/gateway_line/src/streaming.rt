@@ -1,0 +1,82 @@
+// An input that comes in pieces: the lines that end in a piece are answered, and the beginning of one that does not is held.
+use crate::answering::answer;
+use crate::gathering::gather;
+use text::line_end;
+ghost use Prim.Native.Nat.{_+_, _≤_};
+ghost use lib.ListN.{length, take};
+ghost use Rattle.gateway_line.specs.Limits.{heldLimit, answerRoom};
+ghost use Rattle.gateway_line.specs.Promises.{Lent, Onward, Advanced, Finished};
+
+// How far the program is: the position in the piece, how many bytes of the line are held, and the position in the output.
+pub struct Progress {
+    pub at: usize,
+    pub have: usize,
+    pub put: usize,
+}
+
+// Goes on to the end of a line, which is answered, or to the end of the piece.
+pub fn advance(
+    rule: &[u8],
+    groups: u32,
+    piece: &[u8],
+    line: &mut [u8],
+    rule_area: &mut [u32],
+    work_area: &mut [u32],
+    results: &mut [u32],
+    out: &mut [u8],
+    p: Progress,
+) -> Progress
+    requires { ⌜ Lent (now rule) groups (now «rule_area») (now «work_area») (now results) ⌝ }
+    requires { ⌜ (p .at ≤ length (now piece)) × (p .have ≤ heldLimit) × (heldLimit ≤ length (now line)) × (p .put + answerRoom ≤ length (now out)) ⌝ }
+    ensures { λ q. ⌜ Onward (now (piece .entry)) p q ⌝ }
+    ensures { λ q. ⌜ Advanced (now (rule .entry)) groups (now (piece .entry)) (now (line .entry)) (now (out .entry)) p (now (line .exit)) (now (out .exit)) q ⌝ }
+{
+    let at = p.at;
+    let have = p.have;
+    let put = p.put;
+    let end = line_end(piece, at);
+    let held = gather(line, have, &piece[at..end]);
+    if end == piece.len() {
+        return Progress {
+            at: end,
+            have: held,
+            put,
+        };
+    }
+    let behind = answer(
+        rule,
+        groups,
+        &line[..held],
+        rule_area,
+        work_area,
+        results,
+        out,
+        put,
+    );
+    Progress {
+        at: end + 1,
+        have: 0,
+        put: behind,
+    }
+}
+
+// Answers the last piece of the input, if it is not empty.
+pub fn finish(
+    rule: &[u8],
+    groups: u32,
+    held: &[u8],
+    rule_area: &mut [u32],
+    work_area: &mut [u32],
+    results: &mut [u32],
+    out: &mut [u8],
+    put: usize,
+) -> usize
+    requires { ⌜ Lent (now rule) groups (now «rule_area») (now «work_area») (now results) ⌝ }
+    requires { ⌜ put + answerRoom ≤ length (now out) ⌝ }
+    ensures { λ r. ⌜ Finished (now (rule .entry)) groups (now (held .entry)) (now (out .entry)) put (now (out .exit)) r ⌝ }
+{
+    if held.len() == 0 {
+        return put;
+    }
+    answer(rule, groups, held, rule_area, work_area, results, out, put)
+}
