@@ -30,6 +30,11 @@ module _ (r : Rule × ℕ) (s : List ℕ) where
   unfolding answerLine
   shortAnswer h = rw (le-ltb lineLimit (length s) h)
 
+-- areas of the same lengths serve as well
+pub lentStill : {rule ruleArea workArea results ruleArea′ workArea′ results′ : List ℕ} {groups : ℕ} → Lent rule groups ruleArea workArea results
+    → length ruleArea′ ≡ length ruleArea → length workArea′ ≡ length workArea → length results′ ≡ length results → Lent rule groups ruleArea′ workArea′ results′
+lentStill l e f g = record { sound-rule = l .sound-rule; rule-area-fits = rw e (l .rule-area-fits); work-area-fits = rw f (l .work-area-fits); results-fit = rw g (l .results-fit) }
+
 module _ (rule line ruleArea workArea results : List ℕ) where
   -- the call for a line
   abbrev pub lineCall : Call

@@ -1,0 +1,56 @@
+-- The line fits the output.
+use native.Mathlib.Omega.{arith}
+use lib.ListN.{length-take}
+use Rattle.gateway_line.specs.Limits.{answerRoom}
+use borrow.Author.Needs.{needs}
+use Rattle.gateway.proofs.lines.end_input.Statement.{statement}
+use Rattle.gateway.proofs.lines.end_input.Tie as tie
+
+finish-requires : tie.Need-finish-requires
+finish-requires c κs = search needs
+
+slice-reshare-prefix-write-all : tie.Need-slice-reshare-prefix-write-all
+unfolding answerRoom
+slice-reshare-prefix-write-all c =
+    let s = c .before .before .before .before .before .before .before .before .before .before .before .before .before .before .before .before .before .before .before .pre .0 .sound-rule in
+    let n = c .before .before .before .before .before .before .before .before .finish .ensures (s .0) (s .1) .near in
+    omega arith
+
+slice-aggregate-write-all : tie.Need-slice-aggregate-write-all
+unfolding answerRoom
+slice-aggregate-write-all c =
+    let s = c .before .before .before .before .before .before .before .before .before .before .before .before .before .before .before .before .before .before .before .before .pre .0 .sound-rule in
+    let n = c .before .before .before .before .before .before .before .before .before .finish .ensures (s .0) (s .1) .near in
+    simp length-take (omega arith)
+
+write-all-requires : tie.Need-write-all-requires
+write-all-requires c κs = search needs
+
+same-length : tie.Need-same-length
+same-length c = search needs
+
+same-length-2 : tie.Need-same-length-2
+same-length-2 c = search needs
+
+same-length-3 : tie.Need-same-length-3
+same-length-3 c = search needs
+
+same-length-4 : tie.Need-same-length-4
+same-length-4 c = search needs
+
+returns : tie.Need-returns
+returns c = search needs
+
+pub end-input-spec : {M : Type 1} → statement M
+end-input-spec =
+    tie.close
+    (tie.spec
+    finish-requires
+    slice-reshare-prefix-write-all
+    slice-aggregate-write-all
+    write-all-requires
+    same-length
+    same-length-2
+    same-length-3
+    same-length-4
+    returns)

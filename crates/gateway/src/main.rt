@@ -1,0 +1,97 @@
+// The gateway program: it reads the rule in `rule.txt`, then standard input line by line, and answers each line with one of its own.
+mod input;
+mod lines;
+mod rule_file;
+
+use gateway_line::Readiness;
+use gateway_line::prepare;
+use gateway_line::write_refusal;
+use gateway_line::write_unreadable;
+use lines::answer_input;
+use rule_file::Loading;
+use rule_file::load;
+ghost use Prim.Native.Nat.{_≤_};
+ghost use lib.ListN.{length};
+ghost use Rattle.syntax.specs.Limits.{ruleAreaNeed};
+ghost use Rattle.syntax.specs.Tree.{Rule};
+ghost use Rattle.gateway_line.specs.Limits.{answerRoom};
+ghost use Rattle.gateway_line.specs.Promises.{Reads};
+
+// One byte more than a rule may have: with so many, it is known to be too long.
+const RULE_ROOM: usize = 1001;
+
+// What is lent to every call: 01, "Rows, room and what is left behind".
+const RULE_AREA: usize = 16384;
+
+const WORK_AREA: usize = 16 * 1000;
+
+const RESULT_AREA: usize = 66;
+
+// One byte more than a line may have.
+const LINE_ROOM: usize = 257;
+
+// Says that the rule file cannot be read.
+fn say_unreadable(out: &mut [u8])
+    requires { ⌜ answerRoom ≤ length (now out) ⌝ }
+{
+    let n = write_unreadable(out, 0);
+    io::write_all(libc::STDOUT_FILENO, &out[..n]);
+}
+
+// Says why the rule is refused.
+fn say_refusal(f: syntax::Refusal, out: &mut [u8])
+    requires { ⌜ answerRoom ≤ length (now out) ⌝ }
+{
+    let n = write_refusal(f, out, 0);
+    io::write_all(libc::STDOUT_FILENO, &out[..n]);
+}
+
+// Answers standard input by a sound rule.
+fn serve(rule: &[u8], groups: u32, rule_area: &mut [u32], out: &mut [u8])
+    requires { ⌜ ((tree : Rule) × Reads (now rule) tree groups) ⌝ }
+    requires { ⌜ (ruleAreaNeed ≤ length (now «rule_area»)) × (answerRoom ≤ length (now out)) ⌝ }
+{
+    let mut work_area = [0u32; WORK_AREA];
+    let mut results = [0u32; RESULT_AREA];
+    let mut line = [0u8; LINE_ROOM];
+    let mut piece = io::large_buffer();
+    answer_input(
+        rule,
+        groups,
+        &mut piece,
+        &mut line,
+        rule_area,
+        &mut work_area,
+        &mut results,
+        out,
+    );
+}
+
+// Answers standard input by a rule, or says why it is refused.
+fn serve_or_refuse(rule: &[u8], out: &mut [u8])
+    requires { ⌜ answerRoom ≤ length (now out) ⌝ }
+{
+    let mut rule_area = [0u32; RULE_AREA];
+    let readiness = prepare(rule, &mut rule_area);
+    match readiness {
+        Readiness::Ready(groups) => serve(rule, groups, &mut rule_area, out),
+        Readiness::Refused(f) => say_refusal(f, out),
+    }
+}
+
+fn main() {
+    let mut out = io::large_buffer();
+    let fd = os::open_read(b"rule.txt");
+    if fd < 0 {
+        say_unreadable(&mut out);
+        return;
+    }
+    let mut rule = [0u8; RULE_ROOM];
+    let loading = load(fd, &mut rule);
+    libc::close(fd);
+    match loading {
+        Loading::Whole(n) => serve_or_refuse(&rule[..n], &mut out),
+        Loading::More(_n) => say_unreadable(&mut out),
+        Loading::Unreadable => say_unreadable(&mut out),
+    }
+}
