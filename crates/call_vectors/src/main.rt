@@ -266,7 +266,7 @@ fn line(
 fn lines(input: &[u8], area: &mut [u32], work: &mut [u32], results: &mut [u32]) {
     let mut at = 0;
     while at < input.len() {
-        let end = vectors::line_end(input, at);
+        let end = text::line_end(input, at);
         line(input, at, end, area, work, results);
         at = end + 1;
     }

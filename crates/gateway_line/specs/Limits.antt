@@ -1,5 +1,6 @@
 -- The quantities of 01, "The gateway program", and the room that an answer takes.
-use Prim.Native.Nat.{ℕ, suc}
+use Prim.Native.Nat.{ℕ, suc, _+_, _*_}
+use Rattle.syntax.specs.Limits.{groupLimit}
 
 -- "A line over 256 bytes"
 unfoldable pub lineLimit : ℕ
@@ -22,6 +23,7 @@ gatewayFlags = 0
 unfoldable pub spanRoom : ℕ
 spanRoom = 22
 
--- the bytes of an answer at most: `M`, two numbers, 32 spans, and the 0A
+-- the bytes of an answer at most: `M`, two numbers, a span for each group, and the 0A
 unfoldable pub answerRoom : ℕ
-answerRoom = 728
+unfolding spanRoom groupLimit
+answerRoom = 24 + spanRoom * groupLimit

@@ -7,6 +7,7 @@ use crate::lines::write_refusal;
 use crate::lines::write_too_long;
 use crate::rules::FLAGS;
 use matcher::Outcome;
+use matcher::ROW_LENGTH;
 use matcher::match_line;
 ghost use Prim.Native.Nat.{_+_, _≤_};
 ghost use lib.ListN.{length};
@@ -16,10 +17,7 @@ ghost use Rattle.matcher.specs.Outcomes.{outcomeOf};
 ghost use Rattle.gateway_line.specs.Limits.{gatewayBudget, gatewayFlags, answerRoom};
 ghost use Rattle.gateway_line.specs.Promises.{WroteLine, Lent, toldLine, Answered, Left};
 
-const BUDGET: u32 = 1000;
-
-// how many numbers a row has
-const ROW_LENGTH: usize = 66;
+pub const BUDGET: u32 = 1000;
 
 // Writes what a match tells. The row counts only if it is one that matched.
 fn tell(outcome: Outcome, row: &[u32], groups: u32, out: &mut [u8], at: usize) -> usize

@@ -1,4 +1,5 @@
 // The lines that the gateway writes, each at a position of a lent slice; what is answered is the position behind it.
+use matcher::UNSET;
 use syntax::Refusal;
 use text::NEWLINE;
 use text::append;
@@ -13,9 +14,6 @@ ghost use Rattle.syntax.specs.Refusals.{numberOf};
 ghost use Rattle.gateway_line.specs.Limits.{spanRoom, answerRoom};
 ghost use Rattle.gateway_line.specs.Answers.{span, spans, matchedLine, notMatchedLine, exhaustedLine, tooLongLine, refusalLine, unreadableLine};
 ghost use Rattle.gateway_line.specs.Promises.{WroteLine};
-
-// what stands in a row for a group that is not set
-const UNSET: u32 = 4294967295;
 
 // A group's span.
 pub fn write_span(from: u32, to: u32, out: &mut [u8], at: usize) -> usize

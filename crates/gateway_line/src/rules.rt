@@ -1,4 +1,5 @@
 // The rule, before a line is read.
+use matcher::RULE_LIMIT;
 use reader::Compilation;
 use reader::compile;
 use syntax::Reason;
@@ -7,8 +8,6 @@ ghost use Prim.Native.Nat.{_≤_};
 ghost use lib.ListN.{length};
 ghost use Rattle.syntax.specs.Limits.{ruleAreaNeed};
 ghost use Rattle.gateway_line.specs.Promises.{Prepares};
-
-const RULE_LIMIT: usize = 1000;
 
 pub const FLAGS: u32 = 0;
 

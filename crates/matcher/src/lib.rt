@@ -9,3 +9,8 @@ pub use listing::Listing;
 pub use listing::list_readings;
 pub use matching::Outcome;
 pub use matching::match_line;
+pub use refusals::RULE_AREA_NEED;
+pub use refusals::RULE_LIMIT;
+pub use refusals::WORK_PER_STEP;
+pub use rows::ROW_LENGTH;
+pub use rows::UNSET;

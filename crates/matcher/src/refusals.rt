@@ -5,7 +5,7 @@ ghost use mathlib.Core.Path.{_≡_};
 ghost use Rattle.semantics.specs.Calls.{Call, unacceptable};
 ghost use Rattle.matcher.specs.Fitness.{fitnessOf, Sized};
 
-const RULE_LIMIT: usize = 1000;
+pub const RULE_LIMIT: usize = 1000;
 
 const SUBJECT_LIMIT: usize = 65535;
 // the least number that no flags have

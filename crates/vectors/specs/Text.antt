@@ -1,4 +1,4 @@
--- The text that test vectors are written in: hex digits and decimal numbers, words and lines. A position counts from 0.
+-- The text that test vectors are written in: hex digits, decimal numbers and words. A position counts from 0.
 use mathlib.Core.Path.{_≡_}
 use mathlib.Core.List.{List, [], _∷_, _++_}
 use Prim.Native.Nat.{ℕ, _+_, _-_, _*_, min}
@@ -49,10 +49,6 @@ upTo x (b ∷ bs) = if eqb b x then [] else b ∷ upTo x bs
 -- the position behind the bytes that stand from a position up to the first x
 unfoldable pub endBy : ℕ → List ℕ → ℕ → ℕ
 endBy x s from = from + length (upTo x (drop from s))
-
--- a line ends before 0A
-abbrev pub lineEnd : List ℕ → ℕ → ℕ
-lineEnd s from = endBy 10 s from
 
 -- a word ends before a blank, or where its line does
 abbrev pub wordEnd : List ℕ → ℕ → ℕ → ℕ

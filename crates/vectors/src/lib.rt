@@ -1,9 +1,9 @@
-// Lines of test vectors: digits, hex bytes and the ends of words and lines.
+// Lines of test vectors: digits, hex bytes and words.
 ghost use mathlib.Core.Path.{_≡_};
 ghost use Prim.Native.Nat.{_≤_};
 ghost use lib.ListN.{length};
 ghost use lib.Seq.{slice};
-ghost use Rattle.vectors.specs.Text.{digitValue, numberIn, Decoded, lineEnd, wordEnd, nextWord};
+ghost use Rattle.vectors.specs.Text.{digitValue, numberIn, Decoded, wordEnd, nextWord};
 
 // What a hex digit stands for; 0 for any other byte.
 pub fn digit(b: u8) -> u8
@@ -14,20 +14,6 @@ pub fn digit(b: u8) -> u8
         97..=102 => b - 87,
         _ => 0,
     }
-}
-
-// The end of the line that begins at a position.
-pub fn line_end(input: &[u8], from: usize) -> usize
-    ensures { λ r. ⌜ r ≡ lineEnd (now (input .entry)) from ⌝ }
-{
-    let mut i = from;
-    while i < input.len() {
-        if input[i] == 10 {
-            return i;
-        }
-        i += 1;
-    }
-    i
 }
 
 // The bytes whose hex digits stand from a position to another, as many as there is room for; it says how many.

@@ -180,7 +180,7 @@ fn lines(input: &[u8], area: &mut [u32], work: &mut [u32])
 {
     let mut at = 0;
     while at < input.len() {
-        let end = vectors::line_end(input, at);
+        let end = text::line_end(input, at);
         line(input, at, end, area, work);
         at = end + 1;
     }

@@ -1,6 +1,6 @@
 -- Each line is told of in turn; the area keeps its length, and the position moves on.
 use native.Mathlib.Omega.{arith}
-use Rattle.vectors.specs.Laws.Ends.{line-least, line-within}
+use Rattle.text.specs.Laws.Lines.{line-least, line-within}
 use borrow.Author.Needs.{needs}
 use mathlib.Core.Path.{_≡_}
 use lib.ListN.{length}

@@ -4,9 +4,9 @@ use mathlib.Core.List.{List, [], _∷_}
 use mathlib.Core.Bool.{Bool, true, false, cond}
 use native.Mathlib.Omega.{arith}
 use lib.Dec.{eqb}
-use Prim.Native.Nat.{ℕ, suc, _≤_, _<_}
+use Prim.Native.Nat.{ℕ, suc, _+_, _-_, _≤_, _<_}
 use borrow.Author.Tests.{eq-eqb, ne-eqb}
-use lib.ListN.{length, getD, drop, drop-of-length-le}
+use lib.ListN.{length, getD, drop, drop-of-length-le, length-drop}
 use lib.Seq.{drop-cons}
 use Rattle.text.specs.Lines.{newline, lineLength}
 
@@ -35,3 +35,11 @@ lineWithin (b ∷ s) = go (lineWithin s) (eqb b newline)
     go : lineLength s ≤ length s → (t : Bool) → cond t 0 (suc (lineLength s)) ≤ suc (length s)
     go h true = omega arith
     go h false = omega arith
+
+-- The position behind a line that begins at another.
+module _ (s : List ℕ) (from r : ℕ) (e : r ≡ from + lineLength (drop from s)) where
+  pub line-least : from ≤ r
+  line-least = omega arith
+
+  pub line-within : from ≤ length s → r ≤ length s
+  line-within h = let k : lineLength (drop from s) ≤ length s - from = simp length-drop at (lineWithin (drop from s)) in omega arith

@@ -1,4 +1,4 @@
--- Laws of the ends of lines and words. Assumes nothing.
+-- Laws of the ends of words. Assumes nothing.
 use mathlib.Core.Path.{_≡_, refl, sym, _∙_}
 use mathlib.Core.List.{List, [], _∷_}
 use mathlib.Core.Bool.{Bool, true, false}
@@ -9,7 +9,7 @@ use lib.ListN.{length, getD, take, drop, length-drop, drop-of-length-le}
 use lib.Dec.{eqb}
 use lib.Seq.{drop-cons, getD-take, length-take-le}
 use borrow.Author.Tests.{eq-eqb, ne-eqb}
-use Rattle.vectors.specs.Text.{upTo, endBy, lineEnd, wordEnd, nextWord}
+use Rattle.vectors.specs.Text.{upTo, endBy, wordEnd, nextWord}
 
 -- The first of a byte ---------------------------------------------------------
 
@@ -46,14 +46,7 @@ module _ (x : ℕ) where
     unfolding endBy upTo
     end-past h = rw (drop-of-length-le s h) (omega arith)
 
--- Lines and words -------------------------------------------------------------
-
-module _ (s : List ℕ) (from r : ℕ) (e : r ≡ lineEnd s from) where
-  pub line-least : from ≤ r
-  line-least = rw e (end-least 10 s from)
-
-  pub line-within : from ≤ length s → r ≤ length s
-  line-within h = rw e (end-within 10 s from h)
+-- Words -------------------------------------------------------------
 
 module _ (s : List ℕ) (to : ℕ) (k : to ≤ length s) where
   cut : length (take to s) ≡ to

@@ -1,6 +1,6 @@
 -- Each line is walked in turn; the areas keep their lengths, and the position moves on.
 use native.Mathlib.Omega.{arith}
-use Rattle.vectors.specs.Laws.Ends.{line-least, line-within}
+use Rattle.text.specs.Laws.Lines.{line-least, line-within}
 use borrow.Author.Needs.{needs}
 use mathlib.Core.Path.{_≡_}
 use lib.ListN.{length}
