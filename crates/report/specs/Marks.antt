@@ -1,0 +1,23 @@
+-- The marks under a window of a line.
+use mathlib.Core.List.{List, [], _∷_}
+use mathlib.Core.Bool.{Bool, _&&_}
+use Prim.Native.Nat.{ℕ, zero, suc, _+_}
+use lib.Dec.{leb, ltb, eqb}
+use Rattle.report.specs.Text.{pick, width}
+
+-- what stands under a column: `^` if the span has the byte there, else a blank
+unfoldable pub markUnder : (from to column : ℕ) → ℕ
+markUnder from to column = pick (leb from column && ltb column to) 0x5E 0x20
+
+-- what stands under so many columns, from one on
+unfoldable pub marks : (from to column : ℕ) → ℕ → List ℕ
+marks from to column zero = []
+marks from to column (suc n) = markUnder from to column ∷ marks from to (suc column) n
+
+-- Whether a span has something to show in the window that begins at a column: a byte there; or, if it is empty, its place, which may be the
+-- window's end.
+unfoldable pub inWindow : (from to column : ℕ) → Bool
+inWindow from to column =
+    pick (eqb from to)
+    (leb column from && leb from (column + width))
+    (ltb column to && ltb from (column + width))
