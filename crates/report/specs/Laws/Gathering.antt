@@ -13,6 +13,10 @@ pub count-is : (buffer : List ℕ) (have : ℕ) (piece : List ℕ) → have ≤ 
 unfolding gatheredCount
 count-is buffer have piece h = omega arith
 
+pub count-within : (buffer : List ℕ) (have : ℕ) (piece : List ℕ) {n : ℕ} → n ≡ gatheredCount buffer have piece → n ≤ length buffer
+unfolding gatheredCount
+count-within buffer have piece e = omega arith
+
 module _ (buffer : List ℕ) (have : ℕ) (piece : List ℕ) where
   -- the piece has room
   whole : length piece ≤ length buffer - have → paste buffer have piece (length piece) ≡ gathered buffer have piece

@@ -14,15 +14,15 @@ use Rattle.report.proofs.marks.mark.Statement.{statement}
 use Rattle.report.proofs.marks.mark.Tie as tie
 
 abbrev Inv-loop : tie.InvT-loop
-Inv-loop from to column out₀ i₀ out i = (i ≤ length out₀) × (length out ≡ length out₀) × (out ≡ paste out₀ 0 (marks from to column (length out₀)) i)
+Inv-loop with from to column out₀ i₀ out i = (i ≤ length out₀) × (length out ≡ length out₀) × (out ≡ paste out₀ 0 (marks with from to column (length out₀)) i)
 
 abbrev μ-loop : tie.MeasureT-loop
-μ-loop from to column out₀ i₀ out i = length out₀ - i
+μ-loop with from to column out₀ i₀ out i = length out₀ - i
 
 loop-holds : tie.Need-loop-holds Inv-loop μ-loop
 loop-holds c =
     let a = c .before .args in
-    (omega arith, refl, paste-zero (now (a .out)) 0 (marks (a .from) (a .to) (a .column) (length (now (a .out)))))
+    (omega arith, refl, paste-zero (now (a .out)) 0 (marks (a .with) (a .from) (a .to) (a .column) (length (now (a .out)))))
 
 add-sign : tie.Need-add-sign Inv-loop μ-loop
 add-sign c = omega arith
@@ -44,10 +44,10 @@ loop-again c =
     let l = c .before .before .loop in
     let a = c .before .before .before .before .args in
     let out₀ : List ℕ = now (a .out) in
-    let ms : List ℕ = marks (a .from) (a .to) (a .column) (length out₀) in
+    let ms : List ℕ = marks (a .with) (a .from) (a .to) (a .column) (length out₀) in
     let h : l .i < length out₀ = omega arith in
-    let m : l .i < length ms = omega (arith, marks-length (a .from) (a .to) (a .column) (length out₀)) in
-    let e = c .sign .ensures ∙ sym (marks-at (a .from) (a .to) (a .column) (length out₀) (l .i) h) in (
+    let m : l .i < length ms = omega (arith, marks-length (a .with) (a .from) (a .to) (a .column) (length out₀)) in
+    let e = c .sign .ensures ∙ sym (marks-at (a .with) (a .from) (a .to) (a .column) (length out₀) (l .i) h) in (
       omega arith,
       simp length-set (l .inv .1),
       rw (e, l .inv .2, add-one (l .i)) (front-more out₀ ms (l .i) 0 h m),
@@ -60,7 +60,7 @@ returns : tie.Need-returns Inv-loop μ-loop
 returns c =
     let a = c .before .before .before .args in
     let h : length (now (a .out)) ≤ c .before .loop .i = omega arith in
-    c .before .loop .inv .2 ∙ marks-whole (a .from) (a .to) (a .column) (now (a .out)) _ h
+    c .before .loop .inv .2 ∙ marks-whole (a .with) (a .from) (a .to) (a .column) (now (a .out)) _ h
 
 pub mark-spec : {M : Type 1} → statement M
 mark-spec =

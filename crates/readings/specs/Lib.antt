@@ -1,0 +1,2 @@
+-- What the program's own functions tell each other.
+pub mod Parts

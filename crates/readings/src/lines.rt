@@ -1,0 +1,214 @@
+// The lines of a file, one after another.
+use crate::counts::KINDS;
+use crate::counts::LINES;
+use crate::output::say;
+use crate::output::say_number;
+use crate::telling::tell;
+use crate::telling::tell_too_long;
+use matcher::Listing;
+use text::line_end;
+ghost use Prim.Native.Nat.{_≤_};
+ghost use lib.ListN.{length};
+ghost use mathlib.Core.Path.{_≡_};
+ghost use Rattle.readings.specs.Parts.{kept as Parts·kept};
+
+// What is lent to the calls: 16 numbers for each step of the largest budget, and 1,000 rows.
+pub const RULE_AREA: usize = 16384;
+
+pub const WORK_AREA: usize = 1600000;
+
+pub const RESULT_AREA: usize = 66000;
+
+// A line that fills this is too long: the longest that can be listed has one byte less.
+pub const LINE: usize = 65536;
+
+// The budget that is tried first.
+const FIRST_BUDGET: u32 = 1000;
+
+// How many lines pass between two messages.
+const PROGRESS: u64 = 10000;
+
+// What stays the same for all lines.
+pub struct Setting {
+    pub flags: u32,
+    pub budget: u32,
+}
+
+// What became of a read.
+enum Piece {
+    // so many bytes of a line that goes on
+    Kept(usize),
+    End,
+    Failed,
+}
+
+fn least(a: u32, b: u32) -> u32 {
+    if a < b { a } else { b }
+}
+
+// The readings of a line. A call clears 16 numbers for each step of its budget, so that a large budget costs a millisecond on a line that
+// needs few steps. The answer of a listing that is not exhausted is the same at every larger budget: so a small one is tried first.
+pub fn list(
+    rule: &[u8],
+    setting: Setting,
+    line: &[u8],
+    area: &mut [u32; RULE_AREA],
+    work: &mut [u32; WORK_AREA],
+    results: &mut [u32; RESULT_AREA],
+) -> Listing {
+    let flags = setting.flags;
+    let budget = setting.budget;
+    let first = least(budget, FIRST_BUDGET);
+    let r = matcher::list_readings(rule, flags, line, first, area, work, results);
+    if first == budget {
+        return r;
+    }
+    match r {
+        Listing::Exhausted(_, _, _) => matcher::list_readings(
+            rule,
+            flags,
+            line,
+            budget,
+            area,
+            work,
+            results,
+        ),
+        _ => r,
+    }
+}
+
+// Tells of a line, or of one that is too long and of which the beginning is there.
+fn end_line(
+    rule: &[u8],
+    setting: Setting,
+    line: &[u8],
+    area: &mut [u32; RULE_AREA],
+    work: &mut [u32; WORK_AREA],
+    results: &mut [u32; RESULT_AREA],
+    counts: &mut [u64; KINDS],
+)
+    requires { ⌜ length (now line) ≤ 65536 ⌝ }
+{
+    if line.len() == LINE {
+        tell_too_long(counts);
+    } else {
+        let r = list(rule, setting, line, area, work, results);
+        tell(r, line, results, counts);
+    }
+    let n = counts[LINES];
+    if n % PROGRESS == 0 {
+        say(b"readings: ");
+        say_number(n);
+        say(b" lines\n");
+    }
+}
+
+// Tells of the lines that a piece of the file ends. What is left of it is kept in the buffer, behind what is kept there of the same line; it
+// says how many bytes that are.
+fn take_piece(
+    rule: &[u8],
+    setting: Setting,
+    piece: &[u8],
+    buffer: &mut [u8],
+    have: usize,
+    area: &mut [u32; RULE_AREA],
+    work: &mut [u32; WORK_AREA],
+    results: &mut [u32; RESULT_AREA],
+    counts: &mut [u64; KINDS],
+) -> usize
+    requires { ⌜ (have ≤ length (now buffer)) × (length (now buffer) ≡ 65536) ⌝ }
+    ensures { λ r. ⌜ r ≤ 65536 ⌝ }
+{
+    let mut at: usize = 0;
+    let mut kept = have;
+    while at < piece.len() {
+        let end = line_end(piece, at);
+        kept = report::gather(&piece[at..end], buffer, kept);
+        if end == piece.len() {
+            return kept;
+        }
+        end_line(rule, setting, &buffer[..kept], area, work, results, counts);
+        kept = 0;
+        at = end + 1;
+    }
+    kept
+}
+
+// Reads a piece of the file and tells of its lines.
+fn read_piece(
+    fd: i32,
+    rule: &[u8],
+    setting: Setting,
+    line: &mut [u8],
+    have: usize,
+    area: &mut [u32; RULE_AREA],
+    work: &mut [u32; WORK_AREA],
+    results: &mut [u32; RESULT_AREA],
+    counts: &mut [u64; KINDS],
+) -> Piece
+    requires { ⌜ (have ≤ length (now line)) × (length (now line) ≡ 65536) ⌝ }
+    ensures { λ r. ⌜ Parts·kept r ≤ 65536 ⌝ }
+{
+    let mut buffer = io::large_buffer();
+    let got = libc::read(fd, &mut buffer);
+    if got < 0 {
+        return Piece::Failed;
+    }
+    let n = io::count(got, &buffer);
+    if n == 0 {
+        return Piece::End;
+    }
+    Piece::Kept(take_piece(
+        rule,
+        setting,
+        &buffer[..n],
+        line,
+        have,
+        area,
+        work,
+        results,
+        counts,
+    ))
+}
+
+// Tells of all lines of a file, and says whether it could be read to its end. A last piece without 0A counts if it is not empty.
+pub fn read_lines(
+    fd: i32,
+    rule: &[u8],
+    setting: Setting,
+    area: &mut [u32; RULE_AREA],
+    work: &mut [u32; WORK_AREA],
+    results: &mut [u32; RESULT_AREA],
+    counts: &mut [u64; KINDS],
+) -> bool {
+    let mut line = [0u8; LINE];
+    let mut kept: usize = 0;
+    // nothing says that a file ends: the reads are counted
+    let mut left: u64 = 18446744073709551615;
+    while 0 < left {
+        match read_piece(
+            fd,
+            rule,
+            setting,
+            &mut line,
+            kept,
+            area,
+            work,
+            results,
+            counts,
+        ) {
+            Piece::Failed => return false,
+            Piece::End => {
+                if 0 < kept {
+                    end_line(rule, setting, &line[..kept], area, work, results, counts);
+                }
+                return true;
+            }
+            Piece::Kept(n) => {
+                kept = n;
+            }
+        }
+        left -= 1;
+    }
+    false
+}
