@@ -10,6 +10,7 @@ import random
 import subprocess
 import sys
 import tempfile
+import time
 from pathlib import Path
 
 import reference
@@ -85,3 +86,245 @@ def report(rule, text, flags=0, budget=100000):
     if dotted:
         out.append("A dot may stand for a byte that cannot be shown; lines shown with such a dot: %d" % dotted)
     return "\n".join(out) + "\n"
+
+
+# Running ------------------------------------------------------------------------
+
+
+class Cases:
+    def __init__(self):
+        self.passed = self.failed = 0
+        self.folder = tempfile.TemporaryDirectory()
+        os.chdir(self.folder.name)
+
+    def same(self, name, got, expected):
+        if got == expected:
+            self.passed += 1
+            return
+        self.failed += 1
+        at = next((i for i, (a, b) in enumerate(zip(got, expected)) if a != b), min(len(got), len(expected)))
+        print("FAILED %s: at %d expected %r, found %r" % (name, at, expected[at:at + 200], got[at:at + 200]))
+
+    def run(self, name, arguments, out, err):
+        """Runs the program and compares both of what it writes; a text that is None is not looked at."""
+        ran = subprocess.run([str(PROGRAM), *arguments], capture_output=True, timeout=300, stdin=subprocess.DEVNULL)
+        for kind, got, expected in (("stdout", ran.stdout, out), ("stderr", ran.stderr, err)):
+            if expected is not None:
+                self.same("%s, %s" % (name, kind), got.decode("latin1"), expected)
+        self.same("%s, status" % name, str(ran.returncode), "0")
+
+    def on(self, name, rule, text, out=None, err="", flags=0, budget=100000, words=None):
+        """The report on a rule and lines; without a text of its own it is held to `report`."""
+        Path("rule").write_bytes(rule + b"\n")
+        Path("lines").write_bytes(text)
+        words = ["%d" % flags, "%d" % budget] if words is None else words
+        self.run(name, ["rule", "lines", *words], report(rule, text, flags, budget) if out is None else out, err)
+
+
+def summary(lines, once=0, ambiguous="0", unmatched=0, exhausted="0", long=0):
+    return "\nlines: %d\nmatched once: %d\nambiguous: %s\nnot matched: %d\nexhausted: %s\ntoo long: %d\n" % (lines, once, ambiguous, unmatched, exhausted, long)
+
+
+USAGE = """\
+usage: readings RULE-FILE LINES-FILE [FLAGS [BUDGET]]
+
+Says of every line how many readings the rule has of it. A line with two or more is shown with
+each of them, - standing under what the reading took and ^ under what a group of it took.
+
+RULE-FILE   the rule is what stands before its first line end
+LINES-FILE  lines of up to 65535 bytes, ended by 0A (a 0D before it is a byte of the line)
+FLAGS       0 to 3, or letters: s (a dot in the rule takes every byte), m (^ and $ at each 0A);
+            - for none, as without it
+BUDGET      the steps that each start in a line may take, 0 to 100000; without it 100000
+
+Readings are counted from every start in the line: (\\d+) has three on 12. For readings of whole
+lines the rule begins with ^ and ends with $.
+A byte outside 20 to 7E (hex) is shown as a dot. A line over 64 bytes is shown in windows of 64
+columns, the first of each named. Up to 1000 readings of a line are shown.
+"""
+
+TWO = """\
+line 1: 2 readings
+              1,500 L
+   reading 1  -------  0-7
+     group 1  ^^^^^    0-5
+   reading 2  -------  0-7
+     group 2  ^^^^^    0-5
+"""
+
+
+def arguments(t):
+    Path("rule").write_bytes(LITRES + b"\n")
+    Path("lines").write_bytes(b"1,500 L\n")
+    both = ["rule", "lines"]
+    two = TWO + summary(1, ambiguous="1")
+    for words in ([], ["rule"], both + ["0", "5", "x"], both + ["4"], both + ["00004"], both + [""], both + ["i"], both + ["sx"], both + ["--"], both + ["-1"],
+                  both + ["0", "100001"], both + ["0", "4294967296"], both + ["0", "99999999999999999999"], both + ["0", ""], both + ["0", "1k"], both + ["0", "-"]):
+        t.run("arguments %r" % words, words, "", USAGE)
+    for words in ([], ["-"], ["0"], ["3"], ["s"], ["m"], ["sm"], ["ms"], ["03"], ["-", "100000"], ["-", "1000"], ["-", "0100"]):
+        t.run("arguments %r" % words, both + words, two, "")
+    t.run("no rule file", ["none", "lines"], "", "readings: none: No such file or directory\n")
+    t.run("no lines file", ["rule", "none"], "", "readings: none: No such file or directory\n")
+    t.run("an empty name", ["rule", ""], "", "readings: : No such file or directory\n")
+    t.run("a name over 4096 bytes", ["x" * 4097, "lines"], "", "readings: the name of a file: File name too long\n")
+    t.run("a folder for the rule", [".", "lines"], "", "readings: the rule could not be read: Is a directory\n")
+    t.run("a folder for the lines", ["rule", "."], "\nThe lines could not be read to their end. Up to there:" + summary(0),
+          "readings: the lines could not be read to their end: Is a directory\n")
+
+
+def refusals(t):
+    def refused(name, rule, err):
+        t.on("refused rule " + name, rule, b"a\n", out="", err="readings: the rule is refused, " + err)
+
+    refused("a**", b"a**", "19 at 2: a repeat of a repeat\n  a**\n    ^\n")
+    refused("(", b"(", "20 at 0: this bracket is not closed by )\n  (\n  ^\n")
+    refused("[z-a]", b"[z-a]", "15 at 1: a range that runs backwards, or with a set of bytes at one of its ends\n  [z-a]\n   ^   \n")
+    refused("no group", b"(a)\\2", "13 at 3: a reference to a group that the rule has not\n  (a)\\2\n     ^ \n")
+    refused("odd bytes", b"\t\xff)", "21 at 2: a ) that closes nothing\n  ..)\n    ^\n")
+    refused("1001 bytes", b"a" * 1001, "1 at 0: the rule has more than 1000 bytes\n")
+    refused("5000 bytes", b"a" * 5000, "1 at 0: the rule has more than 1000 bytes\n")
+    refused("in the second window", b"a" * 70 + b"\\", "10 at 70: a backslash with nothing behind it\n  %s\n  aaaaaa\\\n        ^\n" % ("a" * 64))
+    rules = {11: b"\\q", 12: b"\\x", 14: b"[a", 16: b"[[:no:]]", 17: b"*", 18: b"a{256}", 22: b"(?a)", 23: b"()" * 33, 24: b"(" * 25}
+    for number, rule in rules.items():
+        ran = subprocess.run([str(PROGRAM), "rule", "lines"], capture_output=True) if Path("rule").write_bytes(rule) else None
+        t.same("refused rule %d" % number, ran.stderr.decode().split(" at ")[0], "readings: the rule is refused, %d" % number)
+    Path("rule").write_bytes(b"")
+    Path("lines").write_bytes(b"\n")
+    t.run("an empty rule file", ["rule", "lines"], "line 1: 1 reading\n" + summary(1, once=1), "")
+    t.on("a rule of 1000 bytes", b"a" * 1000, b"a" * 1000, out="line 1: 1 reading\n" + summary(1, once=1))
+    Path("rule").write_bytes(LITRES)
+    Path("lines").write_bytes(b"1,500 L\n")
+    t.run("a rule without 0A", ["rule", "lines"], TWO + summary(1, ambiguous="1"), "")
+    Path("rule").write_bytes(LITRES + b"\r\n")
+    t.run("a rule with 0D", ["rule", "lines"], "line 1: not matched\n              1,500 L\n" + summary(1, unmatched=1), "")
+
+
+def files(t):
+    t.on("no lines", LITRES, b"", out=summary(0))
+    t.on("an empty line", LITRES, b"\n", out="line 1: not matched\n              \n" + summary(1, unmatched=1))
+    t.on("no 0A at the end", LITRES, b"1,5 L\n2,5 L", out="line 1: 1 reading\nline 2: 1 reading\n" + summary(2, once=2))
+    t.on("only 0A", b"^$", b"\n\n\n", out="line 1: 1 reading\nline 2: 1 reading\nline 3: 1 reading\n" + summary(3, once=3))
+    t.on("a line of 65536 bytes", b"^a", b"b" * 65536 + b"\n1\na\n",
+         out="line 1: too long, over 65535 bytes\nline 2: not matched\n              1\nline 3: 1 reading\n" + summary(3, once=1, unmatched=1, long=1))
+    t.on("a line of 200000 bytes, the last", b"^a", b"a\n" + b"a" * 200000, out="line 1: 1 reading\nline 2: too long, over 65535 bytes\n" + summary(2, once=1, long=1))
+    t.on("a line of 65535 bytes", b"^a", b"a" * 65535 + b"\n", out="line 1: 1 reading\n" + summary(1, once=1))
+    t.on("65535 bytes, not matched", b"^b", b"\x80" * 65535 + b"\na\nb")
+    t.on("odd bytes", rb"^(.)(.*)$", b"\x00\x1b\x7f\x80\xff~ \n\x0d\n",
+         out="line 1: 1 reading\nline 2: 1 reading\n" + summary(2, once=2))
+    t.on("odd bytes, two readings", rb"^(?:(.)|(.+?))(.+)$", b"\x1b[2J\xff")
+    t.on("odd bytes shown", rb"^b", b"\x1b[2J\xff\n \x09~\n",
+         out="line 1: not matched\n              .[2J.\nline 2: not matched\n               .~\n" + summary(2, unmatched=2)
+         + "A dot may stand for a byte that cannot be shown; lines shown with such a dot: 2\n")
+    Path("rule").write_bytes(b"^a$")
+    Path("lines").write_bytes(b"a\n" * 25000)
+    t.run("25000 lines", ["rule", "lines"], "".join("line %d: 1 reading\n" % n for n in range(1, 25001)) + summary(25000, once=25000),
+          "readings: 10000 lines\nreadings: 20000 lines\n")
+
+
+def pieces(t):
+    """Lines that lie across the pieces of 65,536 bytes in which a file is read, and input in pieces of any size through a pipe."""
+    chance = random.Random(5)
+    lines = [b"1,500 L" if chance.random() < 0.1 else b"x" * chance.randint(0, 3000) for _ in range(200)] + [b"y" * 65535, b"z" * 65536, b"1,5 L"]
+    t.on("lines across pieces", LITRES, b"\n".join(lines))
+    for at in (65534, 65535, 65536):
+        t.on("a line that ends at %d" % at, LITRES, b"w" * at + b"\n1,500 L")
+    Path("rule").write_bytes(LITRES + b"\n")
+    text = b"1,5 L\n\n1,500 L\n\xff\n7,250 L"
+    for size in (1, 2, 3, 7):
+        ran = subprocess.Popen([str(PROGRAM), "rule", "/dev/stdin"], stdin=subprocess.PIPE, stdout=subprocess.PIPE)
+        for at in range(0, len(text), size):
+            ran.stdin.write(text[at:at + size])
+            ran.stdin.flush()
+            time.sleep(0.002)
+        t.same("pieces of %d bytes" % size, ran.communicate()[0].decode("latin1"), report(LITRES, text))
+
+
+def listings(t):
+    t.on("every start", rb"(\d+)", b"12", out="""\
+line 1: 3 readings
+              12
+   reading 1  --  0-2
+     group 1  ^^  0-2
+   reading 2  -   0-1
+     group 1  ^   0-1
+   reading 3   -  1-2
+     group 1   ^  1-2
+""" + summary(1, ambiguous="1"))
+    t.on("empty spans", rb"(a?)*", b"b", out="""\
+line 1: 4 readings
+              b
+   reading 1     0-0 empty
+     group 1     0-0 empty
+   reading 2     0-0 empty
+   reading 3     1-1 empty
+     group 1     1-1 empty
+   reading 4     1-1 empty
+""" + summary(1, ambiguous="1"))
+    t.on("groups in groups", rb"^((a)(b?))(b?)$", b"ab", out="""\
+line 1: 2 readings
+              ab
+   reading 1  --  0-2
+     group 1  ^^  0-2
+     group 2  ^   0-1
+     group 3   ^  1-2
+     group 4      2-2 empty
+   reading 2  --  0-2
+     group 1  ^   0-1
+     group 2  ^   0-1
+     group 3      1-1 empty
+     group 4   ^  1-2
+""" + summary(1, ambiguous="1"))
+    t.on("exhausted at once", rb"a*", b"aa", budget=6, out="line 1: exhausted at start 0, 0 readings until then\n              aa\n" + summary(1, exhausted="1"))
+    t.on("exhausted with one reading", rb"a*", b"aa", budget=7, out="""\
+line 1: exhausted at start 0, 1 reading until then
+              aa
+   reading 1  --  0-2
+""" + summary(1, exhausted="1"))
+    t.on("exhausted with two readings", rb"a*", b"aa", budget=8, out="""\
+line 1: exhausted at start 0, 2 readings until then
+              aa
+   reading 1  --  0-2
+   reading 2  -   0-1
+""" + summary(1, exhausted="1 (ambiguous already: 1)"))
+    t.on("budget 0", rb"", b"\n", budget=0, out="line 1: exhausted at start 0, 0 readings until then\n              \n" + summary(1, exhausted="1"))
+    t.on("flags", rb"^a$.^b$", b"a\n", flags=3)
+    t.on("the letter s", rb"^.$", b"\x0d", flags=1, words=["s"])
+    for length in (63, 64, 65, 127, 128, 129, 192):
+        t.on("windows of a line of %d bytes" % length, rb"^(a*)(b*)(a*)(.*)$", b"a" * (length - 1) + b"b", budget=100000)
+        t.on("an empty group at %d" % length, rb"^(?:(.*)|.*)()$", b"a" * length)
+        t.on("a span up to %d" % length, rb"^(?:(a{%d})|(a{%d}a))" % (min(length, 255) - 1, min(length, 255) - 1), b"a" * length)
+    t.on("settled by the larger budget", rb"^(a*)(a*)(b?)$", b"a" * 30 + b"\n" + b"a" * 44)
+    t.on("more than 1000 readings", rb"^(a*)(a*)(a*)$", b"a" * 44 + b"\na\n")
+    t.on("1000 readings", rb"(a*?)(a*)$", b"a" * 43 + b"\n" + b"a" * 44)
+    t.on("32 groups", b"^" + b"(a?)" * 32 + b"$", b"a")
+    t.on("exhausted at a later start", rb"b(a*)*c", b"ba" * 3 + b"b" + b"a" * 30, budget=3000)
+
+
+def random_rules(t, seed):
+    chance = random.Random(seed)
+    atoms = [b"a", b"b", b".", b"\\d", b"(a)", b"(a|b)", b"(?:a|ab)", b"(b?)", b"^", b"$", b"([ab]+)", b"(\\w)"]
+    for n in range(150):
+        rule = b"".join(chance.choice(atoms) + chance.choice([b"", b"", b"", b"*", b"?", b"+?", b"{1,2}"]) for _ in range(chance.randint(1, 4)))
+        lines = [bytes(chance.choice(b"aab1 \t\xe9") for _ in range(chance.choice([0, 1, 2, 3, 5, 8, 70]))) for _ in range(chance.randint(1, 6))]
+        flags, budget = chance.randrange(4), chance.choice([0, 5, 30, 300, 1000, 1001, 5000])
+        try:
+            reference.read(rule, flags)
+        except reference.Refuse:
+            continue
+        t.on("random %d, rule %r" % (n, rule), rule, b"\n".join(lines), flags=flags, budget=budget)
+
+
+def main():
+    t = Cases()
+    seed = int(sys.argv[1]) if len(sys.argv) > 1 else 1
+    rule, text = (DATA / "rule.txt").read_bytes().split(b"\n")[0], (DATA / "lines.txt").read_bytes()
+    t.same("the crate's own file", (DATA.parent / "stdout").read_text(), report(rule, text, 0, 1100))
+    for part in (arguments, refusals, files, pieces, listings):
+        part(t)
+    random_rules(t, seed)
+    print("%d passed, %d failed" % (t.passed, t.failed))
+    sys.exit(t.failed > 0)
+
+
+if __name__ == "__main__":
+    main()
