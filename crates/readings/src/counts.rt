@@ -1,5 +1,5 @@
-// What is counted. Each line is counted in LINES and in one of ONCE, AMBIGUOUS, UNMATCHED, EXHAUSTED and TOO_LONG. MANY are those of the ambiguous
-// lines that have more readings than are shown, and UNSETTLED those of the exhausted ones that had two or more readings until then.
+// What is counted. Each line is counted in LINES and in one of ONCE, AMBIGUOUS, UNMATCHED, EXHAUSTED and TOO_LONG. MANY are those of the
+// ambiguous lines that have more readings than are shown, UNSETTLED those of the exhausted ones that had two or more readings until then.
 use crate::output::put;
 use crate::output::put_number;
 ghost use Prim.Native.Nat.{_<_};

@@ -4,8 +4,9 @@
 //    reading 1  -------  0-7
 //      group 1  ^^^^^    0-5
 //
-// A reading and each of its set groups have lines of their own, so that groups in groups cannot be taken for one another. A line of more than one window is shown
-// window by window, each with its first column named and with every reading under it: two readings differ in a window, not in a line.
+// A reading and each of its set groups have lines of their own, so that groups in groups cannot be taken for one another. A line of more
+// than one window is shown window by window, each with its first column named and with all readings under it, where one sees in what they
+// differ.
 use crate::output::put;
 use crate::output::put_number;
 ghost use Prim.Native.Nat.{_+_, _≤_};
@@ -15,7 +16,7 @@ const UNSET: u32 = 4294967295;
 
 const ROW: usize = 66;
 
-// Blanks so that so many columns are filled up to a number of them, at most 12.
+// Blanks up to a width, behind which so many columns are filled; at most 12.
 fn put_padding(columns: usize, width: usize) {
     let blanks = [b' '; 12];
     if columns < width {
@@ -105,6 +106,7 @@ fn put_readings(results: &[u32], rows: usize, column: u32, shown: usize)
     let mut i: usize = 0;
     let mut base: usize = 0;
     while i < rows {
+        // a listing has written as many rows as it says, so that this does not happen
         if results.len() - base < ROW {
             return;
         }
@@ -123,7 +125,7 @@ fn put_window(line: &[u8], at: usize, results: &[u32], rows: usize)
     } else {
         put_label(b"column ", 5, at as u64);
     }
-    let mut text = [0u8; 64];
+    let mut text = [0u8; report::WIDTH];
     let n = report::show(&line[at..], &mut text);
     put(&text[..n]);
     put(b"\n");

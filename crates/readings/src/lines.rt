@@ -47,8 +47,8 @@ fn least(a: u32, b: u32) -> u32 {
 }
 
 // The readings of a line. A call clears 16 numbers for each step of its budget, so that a large budget costs a millisecond on a line that
-// needs few steps. The answer of a listing that is not exhausted is the same at every larger budget (semantics, Laws/Budgets): so a small one is
-// tried first.
+// needs few steps. The answer of a listing that is not exhausted is the same at every larger budget (specs/Laws/Budgets of `semantics`): so a
+// small one is tried first.
 pub fn list(
     rule: &[u8],
     setting: Setting,

@@ -33,7 +33,7 @@ const BUDGET: usize = 4;
 
 const LARGEST_BUDGET: u32 = 100000;
 
-// The argument at a place as flags; without it there are none.
+// The flags; none where the argument is missing.
 fn flags() -> Value {
     if os::arg_count() <= FLAGS {
         return Value::Is(0);
@@ -43,6 +43,7 @@ fn flags() -> Value {
     arguments::flags(&text[..n])
 }
 
+// The budget; the largest where the argument is missing.
 fn budget() -> Value {
     if os::arg_count() <= BUDGET {
         return Value::Is(LARGEST_BUDGET);

@@ -79,7 +79,7 @@ fn say_reason(reason: Reason) {
 fn say_window(rule: &[u8], at: usize, place: usize)
     requires { ⌜ (at ≤ length (now rule)) × (length (now rule) ≤ 1001) × (place < length (now rule)) ⌝ }
 {
-    let mut text = [0u8; 64];
+    let mut text = [0u8; report::WIDTH];
     let n = report::show(&rule[at..], &mut text);
     say(b"  ");
     say(&text[..n]);
