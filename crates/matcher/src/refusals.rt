@@ -7,11 +7,11 @@ ghost use Rattle.matcher.specs.Fitness.{fitnessOf, Sized};
 
 pub const RULE_LIMIT: usize = 1000;
 
-const SUBJECT_LIMIT: usize = 65535;
+pub const SUBJECT_LIMIT: usize = 65535;
 // the least number that no flags have
 const FLAGS_LIMIT: u32 = 4;
 
-const BUDGET_LIMIT: u32 = 100000;
+pub const BUDGET_LIMIT: u32 = 100000;
 
 pub const RULE_AREA_NEED: usize = 16384;
 

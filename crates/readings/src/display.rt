@@ -9,12 +9,10 @@
 // differ.
 use crate::output::put;
 use crate::output::put_number;
+use matcher::ROW_LENGTH;
+use matcher::UNSET;
 ghost use Prim.Native.Nat.{_+_, _≤_};
 ghost use lib.ListN.{length};
-
-const UNSET: u32 = 4294967295;
-
-const ROW: usize = 66;
 
 // Blanks up to a width, behind which so many columns are filled; at most 12.
 fn put_padding(columns: usize, width: usize) {
@@ -107,12 +105,12 @@ fn put_readings(results: &[u32], rows: usize, column: u32, shown: usize)
     let mut base: usize = 0;
     while i < rows {
         // a listing has written as many rows as it says, so that this does not happen
-        if results.len() - base < ROW {
+        if results.len() - base < ROW_LENGTH {
             return;
         }
         i += 1;
         put_reading(results, base, i as u64, column, shown);
-        base += ROW;
+        base += ROW_LENGTH;
     }
 }
 

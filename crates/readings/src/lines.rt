@@ -13,14 +13,14 @@ ghost use mathlib.Core.Path.{_≡_};
 ghost use Rattle.readings.specs.Parts.{kept as Parts·kept};
 
 // What is lent to the calls: 16 numbers for each step of the largest budget, and 1,000 rows.
-pub const RULE_AREA: usize = 16384;
+pub const RULE_AREA: usize = matcher::RULE_AREA_NEED;
 
-pub const WORK_AREA: usize = 1600000;
+pub const WORK_AREA: usize = matcher::WORK_PER_STEP * matcher::BUDGET_LIMIT as usize;
 
-pub const RESULT_AREA: usize = 66000;
+pub const RESULT_AREA: usize = 1000 * matcher::ROW_LENGTH;
 
 // A line that fills this is too long: the longest that can be listed has one byte less.
-pub const LINE: usize = 65536;
+pub const LINE: usize = matcher::SUBJECT_LIMIT + 1;
 
 // The budget that is tried first.
 const FIRST_BUDGET: u32 = 1000;

@@ -14,6 +14,7 @@ use lines::RESULT_AREA;
 use lines::RULE_AREA;
 use lines::Setting;
 use lines::WORK_AREA;
+use matcher::BUDGET_LIMIT;
 use matcher::Listing;
 use output::put;
 use output::say;
@@ -31,8 +32,6 @@ const FLAGS: usize = 3;
 
 const BUDGET: usize = 4;
 
-const LARGEST_BUDGET: u32 = 100000;
-
 // The flags; none where the argument is missing.
 fn flags() -> Value {
     if os::arg_count() <= FLAGS {
@@ -46,11 +45,11 @@ fn flags() -> Value {
 // The budget; the largest where the argument is missing.
 fn budget() -> Value {
     if os::arg_count() <= BUDGET {
-        return Value::Is(LARGEST_BUDGET);
+        return Value::Is(BUDGET_LIMIT);
     }
     let mut text = io::buffer();
     let n = os::arg(BUDGET, &mut text);
-    arguments::decimal(&text[..n], LARGEST_BUDGET)
+    arguments::decimal(&text[..n], BUDGET_LIMIT)
 }
 
 // Opens the file that an argument names. Where that fails it says so, and answers -1.
