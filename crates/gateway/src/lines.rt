@@ -152,7 +152,7 @@ fn end_input(
 }
 
 // Answers all lines of the input. The turns are counted down because a loop has to end, from a number that no run uses up.
-pub fn answer_input(
+pub(crate) fn answer_input(
     rule: &[u8],
     groups: u32,
     piece: &mut [u8],
