@@ -1,6 +1,7 @@
 // Standard input, piece by piece, and the answers to its lines.
 use crate::input::Input;
 use crate::input::read_some;
+use gateway_line::ANSWER_ROOM;
 use gateway_line::Progress;
 use gateway_line::advance;
 use gateway_line::finish;
@@ -11,9 +12,6 @@ ghost use lib.ListN.{length};
 ghost use Rattle.gateway_line.specs.Limits.{heldLimit, answerRoom};
 ghost use Rattle.gateway_line.specs.Promises.{Lent};
 ghost use Rattle.gateway.specs.Counts.{Held};
-
-// The room that every answer finds in the output.
-const ANSWER_ROOM: usize = 728;
 
 // How many bytes wait in the output, and whether it is still open.
 struct Waiting {

@@ -18,17 +18,17 @@ ghost use Rattle.gateway_line.specs.Limits.{answerRoom};
 ghost use Rattle.gateway_line.specs.Promises.{Reads};
 
 // One byte more than a rule may have: with so many, it is known to be too long.
-const RULE_ROOM: usize = 1001;
+const RULE_ROOM: usize = matcher::RULE_LIMIT + 1;
 
 // What is lent to every call: 01, "Rows, room and what is left behind".
-const RULE_AREA: usize = 16384;
+const RULE_AREA: usize = matcher::RULE_AREA_NEED;
 
-const WORK_AREA: usize = 16 * 1000;
+const WORK_AREA: usize = matcher::WORK_PER_STEP * gateway_line::BUDGET as usize;
 
-const RESULT_AREA: usize = 66;
+const RESULT_AREA: usize = matcher::ROW_LENGTH;
 
 // One byte more than a line may have.
-const LINE_ROOM: usize = 257;
+const LINE_ROOM: usize = gateway_line::HELD_LIMIT;
 
 // Says that the rule file cannot be read.
 fn say_unreadable(out: &mut [u8])

@@ -15,6 +15,11 @@ ghost use Rattle.gateway_line.specs.Limits.{spanRoom, answerRoom};
 ghost use Rattle.gateway_line.specs.Answers.{span, spans, matchedLine, notMatchedLine, exhaustedLine, tooLongLine, refusalLine, unreadableLine};
 ghost use Rattle.gateway_line.specs.Promises.{WroteLine};
 
+// The bytes of a group's span at most, and of an answer: a letter, two numbers, a span for each group of a row, and the 0A.
+const SPAN_ROOM: usize = 22;
+
+pub const ANSWER_ROOM: usize = 24 + SPAN_ROOM * ((matcher::ROW_LENGTH - 2) / 2);
+
 // A group's span.
 pub fn write_span(from: u32, to: u32, out: &mut [u8], at: usize) -> usize
     requires { ⌜ at + spanRoom ≤ length (now out) ⌝ }
