@@ -1,11 +1,13 @@
 -- The gateway's rule: refused for its length, or as it reads.
-use mathlib.Core.Path.{_≡_, refl, _∙_}
+use mathlib.Core.Path.{_≡_, refl, sym, ap, _∙_}
 use mathlib.Core.List.{List}
+use mathlib.Core.Logic.{inl, inr}
 use mathlib.Core.Bool.{Bool, true, false}
-use Prim.Native.Nat.{ℕ, _≤_, _<_}
+use Prim.Native.Nat.{ℕ, suc, _≤_, _<_}
 use native.Mathlib.Omega.{arith}
 use borrow.Author.Tests.{lt-ltb, le-ltb, ltb-false}
-use lib.ListN.{length}
+use lib.ListN.{length, take, length-take}
+use lib.Seq.{take-all}
 use lib.Dec.{ltb}
 use Rattle.syntax.specs.declared.Reason.the-variants.{RuleTooLong}
 use Rattle.syntax.specs.Limits.{ruleLimit, groupLimit}
@@ -15,6 +17,7 @@ use Rattle.syntax.specs.Reading.{reading}
 use Rattle.syntax.specs.WellFormed.{WellFormed}
 use Rattle.syntax.specs.Laws.Formation.{well-formed}
 use Rattle.syntax.specs.declared.Refusal.{Refusal}
+use Rattle.semantics.specs.Laws.Cases.{le-or}
 use Rattle.reader.specs.declared.compiling.Compilation.{Compilation}
 use Rattle.reader.specs.declared.compiling.Compilation.the-variants.{Sound, Refused}
 use Rattle.reader.specs.Compiles.{Stands, Compiles}
@@ -58,3 +61,10 @@ module _ (s : List ℕ) where
     compiledSound pc groups e =
         let z : Stands s 0 new pc groups = rw e at (done .says) in
         (z .tree, (z .stop, shortRule short ∙ z .reads))
+
+-- of a rule that is too long, one byte more than the limit is enough to read
+pub cutRule : (s : List ℕ) → gatewayRule (take (suc ruleLimit) s) ≡ gatewayRule s
+cutRule s = elim (le-or (length s) ruleLimit) [
+  | inl k ↦ ap gatewayRule (take-all (suc ruleLimit) s (omega arith))
+  | inr k ↦ longRule (take (suc ruleLimit) s) (omega (arith, length-take (suc ruleLimit) s)) ∙ sym (longRule s k)
+]
