@@ -22,9 +22,6 @@ pub const RESULT_AREA: usize = 1000 * matcher::ROW_LENGTH;
 // A line that fills this is too long: the longest that can be listed has one byte less.
 pub const LINE: usize = matcher::SUBJECT_LIMIT + 1;
 
-// The budget that is tried first.
-const FIRST_BUDGET: u32 = 1000;
-
 // How many lines pass between two messages.
 const PROGRESS: u64 = 10000;
 
@@ -42,13 +39,7 @@ enum Piece {
     Failed,
 }
 
-fn least(a: u32, b: u32) -> u32 {
-    if a < b { a } else { b }
-}
-
-// The readings of a line. A call clears 16 numbers for each step of its budget, so that a large budget costs a millisecond on a line that
-// needs few steps. The answer of a listing that is not exhausted is the same at every larger budget (specs/Laws/Budgets of `semantics`): so a
-// small one is tried first.
+// The readings of a line, within the areas that are lent to all calls.
 pub fn list(
     rule: &[u8],
     setting: Setting,
@@ -57,25 +48,15 @@ pub fn list(
     work: &mut [u32; WORK_AREA],
     results: &mut [u32; RESULT_AREA],
 ) -> Listing {
-    let flags = setting.flags;
-    let budget = setting.budget;
-    let first = least(budget, FIRST_BUDGET);
-    let r = matcher::list_readings(rule, flags, line, first, area, work, results);
-    if first == budget {
-        return r;
-    }
-    match r {
-        Listing::Exhausted(_, _, _) => matcher::list_readings(
-            rule,
-            flags,
-            line,
-            budget,
-            area,
-            work,
-            results,
-        ),
-        _ => r,
-    }
+    lister::list(
+        rule,
+        setting.flags,
+        line,
+        setting.budget,
+        area,
+        work,
+        results,
+    )
 }
 
 // Tells of a line, or of one that is too long and of which the beginning is there.

@@ -1,0 +1,3 @@
+-- When a small budget may be tried first.
+pub mod Budgets
+pub mod Laws
