@@ -10,7 +10,7 @@ pub enum Input {
     Failed,
 }
 
-pub fn read_some(fd: i32, buffer: &mut [u8]) -> Input
+pub(crate) fn read_some(fd: i32, buffer: &mut [u8]) -> Input
     ensures { λ r. ⌜ Read (length (now (buffer .entry))) r ⌝ }
 {
     let got = libc::read(fd, buffer);

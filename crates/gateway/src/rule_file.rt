@@ -46,7 +46,7 @@ fn load_some(fd: i32, rule: &mut [u8], have: usize) -> Loading
 
 // Reads up to the first 0A, the end of the file or the end of the slice. The turns are counted down because a loop has to end, from a
 // number that no run uses up.
-pub fn load(fd: i32, rule: &mut [u8]) -> Loading
+pub(crate) fn load(fd: i32, rule: &mut [u8]) -> Loading
     ensures { λ r. ⌜ Loaded (length (now (rule .entry))) r ⌝ }
 {
     let mut turns = u64::MAX;

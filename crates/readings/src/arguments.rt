@@ -18,7 +18,7 @@ fn digit(b: u8) -> u32
 }
 
 // The decimal number that a text is, if it is one and at most a limit.
-pub fn decimal(text: &[u8], limit: u32) -> Value
+pub(crate) fn decimal(text: &[u8], limit: u32) -> Value
     requires { ⌜ limit ≤ 100000 ⌝ }
 {
     if text.len() == 0 {
@@ -65,7 +65,7 @@ fn letters(text: &[u8]) -> Value {
 }
 
 // Flags: a number from 0 to 3, letters out of `s` and `m`, or `-` for none.
-pub fn flags(text: &[u8]) -> Value {
+pub(crate) fn flags(text: &[u8]) -> Value {
     if text.len() == 0 {
         return Value::Wrong;
     }

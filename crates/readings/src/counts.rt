@@ -30,7 +30,7 @@ fn more(n: u64) -> u64 {
     if n < 18446744073709551615 { n + 1 } else { n }
 }
 
-pub fn count(counts: &mut [u64; KINDS], kind: usize)
+pub(crate) fn count(counts: &mut [u64; KINDS], kind: usize)
     requires { ⌜ kind < 9 ⌝ }
 {
     counts[kind] = more(counts[kind]);
@@ -53,7 +53,7 @@ fn put_some(before: &[u8], n: u64) {
 }
 
 // The summary. It says whether it could be written.
-pub fn summarize(counts: &[u64; KINDS]) -> bool {
+pub(crate) fn summarize(counts: &[u64; KINDS]) -> bool {
     put_count(b"\nlines: ", counts[LINES]);
     put_count(b"\nmatched once: ", counts[ONCE]);
     put_count(b"\nambiguous: ", counts[AMBIGUOUS]);

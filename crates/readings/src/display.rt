@@ -131,7 +131,7 @@ fn put_window(line: &[u8], at: usize, results: &[u32], rows: usize)
 }
 
 // A line, in windows, with the readings of so many rows under it.
-pub fn put_line(line: &[u8], results: &[u32], rows: usize)
+pub(crate) fn put_line(line: &[u8], results: &[u32], rows: usize)
     requires { ⌜ length (now line) ≤ 65536 ⌝ }
 {
     let mut at: usize = 0;

@@ -40,7 +40,7 @@ enum Piece {
 }
 
 // The readings of a line, within the areas that are lent to all calls.
-pub fn list(
+pub(crate) fn list(
     rule: &[u8],
     setting: Setting,
     line: &[u8],
@@ -154,7 +154,7 @@ fn read_piece(
 }
 
 // Tells of all lines of a file, and says whether it could be read to its end. A last piece without 0A counts if it is not empty.
-pub fn read_lines(
+pub(crate) fn read_lines(
     fd: i32,
     rule: &[u8],
     setting: Setting,

@@ -9,7 +9,7 @@ ghost use lib.ListN.{length};
 // The lowest number of a refusal that has a place in the rule.
 const FIRST_IN_RULE: u32 = 10;
 
-pub fn usage() {
+pub(crate) fn usage() {
     say(b"usage: readings RULE-FILE LINES-FILE [FLAGS [BUDGET]]\n");
     say(b"\n");
     say(
@@ -107,7 +107,7 @@ fn say_rule(rule: &[u8], place: usize)
 }
 
 // Why the rule is refused: the number, the place and what it means, and the rule with the place marked if it is one in the rule.
-pub fn say_refusal(f: Refusal, rule: &[u8])
+pub(crate) fn say_refusal(f: Refusal, rule: &[u8])
     requires { ⌜ length (now rule) ≤ 1001 ⌝ }
 {
     let reason = f.reason;

@@ -46,7 +46,7 @@ fn read_on(fd: i32, rule: &mut [u8], have: usize) -> Part
 }
 
 // Reads the rule into the buffer.
-pub fn read_rule(fd: i32, rule: &mut [u8]) -> Rule
+pub(crate) fn read_rule(fd: i32, rule: &mut [u8]) -> Rule
     ensures { λ r. ⌜ whole r ≤ length (now (rule .entry)) ⌝ }
 {
     let mut have: usize = 0;

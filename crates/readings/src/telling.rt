@@ -91,7 +91,7 @@ fn begin(counts: &mut [u64; KINDS]) {
     put(b": ");
 }
 
-pub fn tell(listing: Listing, line: &[u8], results: &[u32], counts: &mut [u64; KINDS])
+pub(crate) fn tell(listing: Listing, line: &[u8], results: &[u32], counts: &mut [u64; KINDS])
     requires { ⌜ length (now line) ≤ 65536 ⌝ }
 {
     begin(counts);
@@ -106,7 +106,7 @@ pub fn tell(listing: Listing, line: &[u8], results: &[u32], counts: &mut [u64; K
     }
 }
 
-pub fn tell_too_long(counts: &mut [u64; KINDS]) {
+pub(crate) fn tell_too_long(counts: &mut [u64; KINDS]) {
     begin(counts);
     count(counts, TOO_LONG);
     put(b"too long, over 65535 bytes\n");
