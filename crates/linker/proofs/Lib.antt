@@ -1,3 +1,4 @@
+-- Laws that the proofs of the linker's functions cite.
 pub mod Regions
 pub mod Compiled
 mod Made

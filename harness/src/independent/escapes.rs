@@ -18,18 +18,32 @@ const LAST_BYTE: u32 = 10;
 const NOT_HELD: u32 = 11;
 const BAD_NUMBER: u32 = 12;
 
+/// An escape as far as it means the same in a class and outside: it is read, or its letter and its backslash's place are known.
+enum Begun {
+    Read(Escape),
+    Letter(u8, usize),
+}
+
 impl Reader<'_> {
-    /// Reads the escape whose backslash is the next byte, outside a class.
-    pub fn escape_outside(&mut self) -> Result<Escape, Refusal> {
+    fn begin_escape(&mut self) -> Result<Begun, Refusal> {
         let place = self.at;
         self.at += 1;
         let Some(letter) = self.take() else { return Err(Refusal { number: LAST_BYTE, place }) };
         if let Some(byte) = self.byte_escape(letter, place)? {
-            return Ok(Escape::Byte(byte));
+            return Ok(Begun::Read(Escape::Byte(byte)));
         }
         if let Some(set) = sets::by_escape(letter) {
-            return Ok(Escape::Set(set));
+            return Ok(Begun::Read(Escape::Set(set)));
         }
+        Ok(Begun::Letter(letter, place))
+    }
+
+    /// Reads the escape whose backslash is the next byte, outside a class.
+    pub fn escape_outside(&mut self) -> Result<Escape, Refusal> {
+        let (letter, place) = match self.begin_escape()? {
+            Begun::Read(escape) => return Ok(escape),
+            Begun::Letter(letter, place) => (letter, place),
+        };
         match letter {
             b'N' => Ok(Escape::Set(ByteSet::one(0x0A).complement())),
             b'A' => Ok(Escape::Place(Place::Start)),
@@ -52,15 +66,10 @@ impl Reader<'_> {
 
     /// Reads the escape whose backslash is the next byte, in a class: a byte or a set.
     pub fn escape_in_class(&mut self) -> Result<Escape, Refusal> {
-        let place = self.at;
-        self.at += 1;
-        let Some(letter) = self.take() else { return Err(Refusal { number: LAST_BYTE, place }) };
-        if let Some(byte) = self.byte_escape(letter, place)? {
-            return Ok(Escape::Byte(byte));
-        }
-        if let Some(set) = sets::by_escape(letter) {
-            return Ok(Escape::Set(set));
-        }
+        let (letter, place) = match self.begin_escape()? {
+            Begun::Read(escape) => return Ok(escape),
+            Begun::Letter(letter, place) => (letter, place),
+        };
         match letter {
             b'b' => Ok(Escape::Byte(0x08)),
             b'0'..=b'7' => {
