@@ -1,9 +1,13 @@
 # Reads one question a line: flags, rule and subject in hex, and the number of groups, with tabs between them.
-# Answers on one line each: `failed` for a rule refused or a panic, `none`, or start, end and each group's span, `-` for a group that is not set.
+# Answers on one line each: `failed` for a rule refused or a panic, `slow` for a match that takes more than ten seconds, `none`, or start, end
+# and each group's span, `-` for a group that is not set.
 # The rule stands in a variable, so that nothing in it is interpolated.
 use strict;
 no warnings;
+use POSIX ();
 $| = 0;
+# Taken at once, and not between two of Perl's own steps: a match is one of these.
+POSIX::sigaction(POSIX::SIGALRM(), POSIX::SigAction->new(sub { die "slow\n" }));
 while (my $line = <STDIN>) {
     chomp $line;
     my ($flags, $rule, $subject, $groups) = split /\t/, $line, -1;
@@ -17,9 +21,11 @@ while (my $line = <STDIN>) {
     }
     # The spans are read where the match was made: they are gone once that block is left.
     my $answer = eval {
+        alarm 10;
         $subject =~ $compiled
             ? join(" ", "$-[0]-$+[0]", map { defined $-[$_] ? "$_:$-[$_]-$+[$_]" : () } 1 .. $groups)
             : "none";
     };
-    print defined $answer ? $answer : "failed", "\n";
+    alarm 0;
+    print defined $answer ? $answer : $@ eq "slow\n" ? "slow" : "failed", "\n";
 }

@@ -17,6 +17,8 @@ pub struct Question<'a> {
 pub enum Answer {
     /// The rule was refused, or the match ended in a panic.
     Failed,
+    /// Perl took too long.
+    Slow,
     NotMatched,
     Matched(Box<Row>),
 }
@@ -48,10 +50,11 @@ pub fn run_script(script: &str, asked: String) -> std::io::Result<String> {
     Ok(String::from_utf8_lossy(&output.stdout).into_owned())
 }
 
-/// One line of the script: `failed`, `none`, or `start-end` and `group:start-end` for each group that is set.
+/// One line of the script: `failed`, `slow`, `none`, or `start-end` and `group:start-end` for each group that is set.
 fn answer(line: &str) -> Option<Answer> {
     match line {
         "failed" => return Some(Answer::Failed),
+        "slow" => return Some(Answer::Slow),
         "none" => return Some(Answer::NotMatched),
         _ => {}
     }

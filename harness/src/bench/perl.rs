@@ -32,7 +32,7 @@ fn replies(cases: &[&Case]) -> Result<Vec<Reply>, String> {
     let reply = |answer| match answer {
         Answer::Matched(row) => Reply::Rows(row.to_vec()),
         Answer::NotMatched => Reply::Rows(Vec::new()),
-        Answer::Failed => Reply::GaveUp,
+        Answer::Failed | Answer::Slow => Reply::GaveUp,
     };
     Ok(perl::answers(&questions)?.into_iter().map(reply).collect())
 }

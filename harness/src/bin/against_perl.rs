@@ -72,6 +72,10 @@ impl Tester {
         let class = match answer {
             Answer::NotMatched if ours.is_none() => return self.group.pass(),
             Answer::Matched(row) if ours == Some(&**row) => return self.group.pass(),
+            Answer::Slow => {
+                self.left_out += 1;
+                return;
+            }
             Answer::Failed => compared.perl_failure_class(),
             Answer::NotMatched => compared.perl_class(ours, None),
             Answer::Matched(row) => compared.perl_class(ours, Some(row)),
@@ -108,6 +112,7 @@ fn told(case: &Shared, ours: Option<&Row>, answer: &Answer) -> String {
     let row = |row: Option<&Row>| row.map_or("not matched".to_string(), shown_row);
     let perls = match answer {
         Answer::Failed => "failed".to_string(),
+        Answer::Slow => "slow".to_string(),
         Answer::NotMatched => row(None),
         Answer::Matched(perls) => row(Some(perls)),
     };
