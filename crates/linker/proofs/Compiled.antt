@@ -75,6 +75,8 @@ module _ (a b : List ℕ) (lo top lo′ top′ : ℕ) (l : lo′ ≤ lo) (h : to
         record {
           room = c .room;
           bounds = c .bounds;
+          kind = c .kind;
+          entered = c .entered;
           node = node-keep (omega arith) (c .node);
           loop = word 1 (omega arith) (c .node) (c .loop);
           least = word 2 (omega arith) (c .node) (c .least);

@@ -1,22 +1,24 @@
 -- Repeats: the body is linked in the region below the node, and goes on at the loop; then the node's own numbers are written.
-use mathlib.Core.Path.{_≡_, _∙_}
+use mathlib.Core.Path.{_≡_, sym, _∙_}
 use mathlib.Core.List.{List}
+use mathlib.Core.Logic.{_⊎_, inl, inr}
 use Prim.Native.Nat.{ℕ, _+_, _≤_, _<_}
 use native.Mathlib.Omega.{arith}
 use lib.ListN.{getD, length}
 use Rattle.syntax.specs.declared.Greed.{Greed}
+use Rattle.syntax.specs.declared.Greed.the-variants.{Greedy, Lazy}
 use Rattle.syntax.specs.declared.Most.{Most}
 use Rattle.syntax.specs.Limits.{registers, ruleAreaNeed}
 use Rattle.syntax.specs.Reading.{unresolved}
-use Rattle.syntax.specs.Tree.{Rule, repeat}
-use Rattle.syntax.specs.Compiled.{Compiled}
+use Rattle.syntax.specs.Tree.{byteIn, assert, reference, Rule, empty, item, seq, alt, group, repeat}
+use Rattle.syntax.specs.Compiled.{greedWord, RunOf, Entered, Compiled}
 use Rattle.linker.specs.Nodes.{Part}
 use Rattle.linker.specs.Linking.{Fits, Stands, Made, Links}
-use Rattle.linker.specs.Stores.{RepeatClosed}
+use Rattle.linker.specs.Stores.{EntryKind, RepeatClosed}
 use Rattle.linker.proofs.Regions.{part-here}
 use Rattle.linker.proofs.Compiled.{keep}
 use Rattle.linker.proofs.Made.{outside-then}
-use Rattle.linker.proofs.Trees.{for-repeat}
+use Rattle.linker.proofs.Trees.{kindOf, part-kind, for-repeat}
 
 body-fits : (groups r place least : ℕ) (most : Most) (g : Greed) (s : Rule) → Fits groups r (repeat place least most g s) → Fits groups (r + 2) s
 body-fits groups r place least most g s f = record { few = f .few; proper = f .proper .1; room = omega (arith, f .room) }
@@ -46,26 +48,44 @@ repeat-at groups r a p s e = for-repeat a (s .lo) (s .top) p (λ t. Fits groups 
           body = rw (h .is) (record { tree = t; lo = s .lo; top = p; holds = h .holds; fits = body-fits groups r place least most g t f; within = omega arith; small = omega arith });
         }
 
-module _ (groups r : ℕ) (a b c : List ℕ) (p next sofar entry found : ℕ) where
+-- what is entered as a run is a greedy repeat of one byte item
+run-of : (a : List ℕ) (g : Greed) (s : Rule) (lo top p x : ℕ) → x ≡ greedWord g → x ≡ 0 → Part a s lo top p → getD a p 0 ≡ 0 → RunOf g s
+unfolding greedWord
+run-of a Lazy s lo top p x e z h k = absurd (omega arith)
+run-of a Greedy s lo top p x e z h k = go s (sym (part-kind a s lo top p h) ∙ k)
+  where
+    go : (s : Rule) → kindOf s ≡ 0 → RunOf Greedy s
+    go (item place (byteIn c)) k = tt
+    go (item place (assert c)) k = absurd (omega arith)
+    go (item place (reference n)) k = absurd (omega arith)
+    go (group n s) k = absurd (omega arith)
+    go (repeat place least most g s) k = absurd (omega arith)
+    go empty k = absurd (omega arith)
+    go (seq x y) k = absurd (omega arith)
+    go (alt bs t) k = absurd (omega arith)
+
+module _ (groups r : ℕ) (a b c : List ℕ) (p kind next sofar entry found : ℕ) where
   repeat-made : (place least : ℕ) (most : Most) (g : Greed) (s : Rule) (lo top : ℕ) → Part a (repeat place least most g s) lo top p → Fits groups r (repeat place least most g s)
-      → Made groups (r + 2) s lo p a b (p + 1) sofar entry found → RepeatClosed b c p next r entry → Made groups r (repeat place least most g s) lo top a c next sofar p found
+      → EntryKind a p (getD a (p + 6) 0) kind → Made groups (r + 2) s lo p a b (p + 1) sofar entry found → RepeatClosed b c p kind next r entry → Made groups r (repeat place least most g s) lo top a c next sofar p found
   unfolding Part unresolved Compiled
-  repeat-made place least most g s lo top h f m w =
+  repeat-made place least most g s lo top h f x m w =
       let l = h .node .low in
       let u = h .node .high in
-      -- the node's first five numbers are as they were
-      let kept : (k : ℕ) → k < 5 → getD c (p + k) 0 ≡ getD a (p + k) 0 = λ k v. w .rest .below (p + k) (omega arith) ∙ m .outside .above (p + k) (omega arith) in
+      -- four of the node's numbers are as they were
+      let kept : (k : ℕ) → 1 ≤ k → k < 5 → getD c (p + k) 0 ≡ getD a (p + k) 0 = λ k o v. w .kept k o v ∙ m .outside .above (p + k) (omega arith) in
       record {
-        outside = outside-then lo p (p + 5) (p + 8) lo top a b c (omega arith) (omega arith) (omega arith) u (m .outside) (w .rest);
+        outside = outside-then lo p p (p + 8) lo top a b c (omega arith) (omega arith) (omega arith) u (m .outside) (w .rest);
         near = omega arith;
         stands = λ e. record {
           room = omega (arith, f .room);
           bounds = f .proper .0;
-          node = record { low = l; high = u; is = w .rest .below p (omega arith) ∙ m .outside .above p (omega arith) ∙ h .node .is };
-          loop = kept 1 (omega arith) ∙ h .loop;
-          least = kept 2 (omega arith) ∙ h .least;
-          most = kept 3 (omega arith) ∙ h .most;
-          greed = kept 4 (omega arith) ∙ h .greed;
+          kind = kind;
+          entered = elim x [ inl e ↦ inl e | inr e ↦ inr (e .0, run-of a g s lo p (h .body) (getD a (p + 4) 0) (h .greed) (e .1) (h .holds) (rw (h .is) at (e .2))) ];
+          node = record { low = l; high = u; is = w .is };
+          loop = kept 1 (omega arith) (omega arith) ∙ h .loop;
+          least = kept 2 (omega arith) (omega arith) ∙ h .least;
+          most = kept 3 (omega arith) (omega arith) ∙ h .most;
+          greed = kept 4 (omega arith) (omega arith) ∙ h .greed;
           register = w .register;
           body = entry;
           enters = w .enters;
@@ -75,9 +95,9 @@ module _ (groups r : ℕ) (a b c : List ℕ) (p next sofar entry found : ℕ) wh
         first = m .first;
       }
 
-  pub repeat-links : getD a p 0 ≡ 7 → Links (Part a) groups (r + 2) a b (getD a (p + 6) 0) (p + 1) sofar entry found → RepeatClosed b c p next r entry → Links (Part a) groups r a c p next sofar p found
+  pub repeat-links : getD a p 0 ≡ 7 → EntryKind a p (getD a (p + 6) 0) kind → Links (Part a) groups (r + 2) a b (getD a (p + 6) 0) (p + 1) sofar entry found → RepeatClosed b c p kind next r entry → Links (Part a) groups r a c p next sofar p found
   unfolding Links Part
-  repeat-links e m w t lo top h f = for-repeat a lo top p (λ t. Fits groups r t → Made groups r t lo top a c next sofar p found) go e t h f
+  repeat-links e x m w t lo top h f = for-repeat a lo top p (λ t. Fits groups r t → Made groups r t lo top a c next sofar p found) go e t h f
     where
       go : (place least : ℕ) (most : Most) (g : Greed) (s : Rule) → Part a (repeat place least most g s) lo top p → Fits groups r (repeat place least most g s) → Made groups r (repeat place least most g s) lo top a c next sofar p found
-      go place least most g s k f = repeat-made place least most g s lo top k f (m s lo p (rw (k .is) (k .holds)) (body-fits groups r place least most g s f)) w
+      go place least most g s k f = repeat-made place least most g s lo top k f x (m s lo p (rw (k .is) (k .holds)) (body-fits groups r place least most g s f)) w

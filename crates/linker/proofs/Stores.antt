@@ -47,13 +47,15 @@ group-closed a b c p next r entry u v =
       rest = outside-then (p + 1) (p + 1 + 2) (p + 5) (p + 5 + 2) p (p + 7) a b c (omega arith) (omega arith) (omega arith) (omega arith) (u .rest) (v .rest);
     }
 
-pub repeat-closed : (a b c : List ℕ) (p next r entry : ℕ) → PutTwo a b (p + 5) r entry → Put b c (p + 7) next → RepeatClosed a c p next r entry
-repeat-closed a b c p next r entry u v =
+pub repeat-closed : (z a b c : List ℕ) (p kind next r entry : ℕ) → Put z a p kind → PutTwo a b (p + 5) r entry → Put b c (p + 7) next → RepeatClosed z c p kind next r entry
+repeat-closed z a b c p kind next r entry w u v =
     record {
+      is = v .rest .below p (omega arith) ∙ u .rest .below p (omega arith) ∙ w .is;
+      kept = λ k l h. v .rest .below (p + k) (omega arith) ∙ u .rest .below (p + k) (omega arith) ∙ w .rest .above (p + k) (omega arith);
       register = v .rest .below (p + 5) (omega arith) ∙ u .is;
       enters = v .rest .below (p + 6) (omega arith) ∙ moved b (p + 5 + 1) (p + 6) (omega arith) (u .also);
       goes = v .is;
-      rest = outside-then (p + 5) (p + 5 + 2) (p + 7) (p + 7 + 1) (p + 5) (p + 8) a b c (omega arith) (omega arith) (omega arith) (omega arith) (u .rest) (v .rest);
+      rest = outside-then p (p + 1) p (p + 8) p (p + 8) z a c (omega arith) (omega arith) (omega arith) (omega arith) (w .rest) (outside-then (p + 5) (p + 5 + 2) (p + 7) (p + 7 + 1) p (p + 8) a b c (omega arith) (omega arith) (omega arith) (omega arith) (u .rest) (v .rest));
     }
 
 -- the part before another, by the node's kind

@@ -14,7 +14,7 @@ itemKind (byteIn c) = 0
 itemKind (assert k) = 1
 itemKind (reference n) = 2
 
-abbrev kindOf : Rule → ℕ
+abbrev pub kindOf : Rule → ℕ
 kindOf (item place i) = itemKind i
 kindOf (group n t) = 4
 kindOf (repeat place least most g t) = 7
@@ -22,7 +22,7 @@ kindOf empty = 10
 kindOf (seq x y) = 10
 kindOf (alt bs t) = 10
 
-part-kind : (a : List ℕ) (t : Rule) (lo top p : ℕ) → Part a t lo top p → getD a p 0 ≡ kindOf t
+pub part-kind : (a : List ℕ) (t : Rule) (lo top p : ℕ) → Part a t lo top p → getD a p 0 ≡ kindOf t
 unfolding Part
 part-kind a (item place (byteIn c)) lo top p h = h .node .is
 part-kind a (item place (assert k)) lo top p h = h .node .is

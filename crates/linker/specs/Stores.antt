@@ -1,8 +1,9 @@
 -- What the small functions write, number by number.
 use mathlib.Core.Path.{_≡_}
 use mathlib.Core.List.{List}
+use mathlib.Core.Logic.{_⊎_}
 use mathlib.Core.Option.{none}
-use Prim.Native.Nat.{ℕ, _+_, _≤_}
+use Prim.Native.Nat.{ℕ, _+_, _≤_, _<_}
 use lib.ListN.{getD}
 use Rattle.syntax.specs.Limits.{slot}
 use Rattle.syntax.specs.Reading.{dangling}
@@ -30,12 +31,18 @@ pub record GroupClosed (old new : List ℕ) (p next r entry : ℕ) : Type 0 wher
   pub opener : getD new (p + 6) 0 ≡ r
   pub rest : Outside p (p + 7) old new
 
--- a repeat's register, body and next
-pub record RepeatClosed (old new : List ℕ) (p next r entry : ℕ) : Type 0 where
+-- where a repeat stands at p with its body at `body`: 7; or 10, if it is greedy and repeats a byte item
+abbrev pub EntryKind : List ℕ → (p body kind : ℕ) → Type 0
+EntryKind a p body kind = (kind ≡ 7) ⊎ ((kind ≡ 10) × (getD a (p + 4) 0 ≡ 0) × (getD a body 0 ≡ 0))
+
+-- a repeat's kind, register, body and next
+pub record RepeatClosed (old new : List ℕ) (p kind next r entry : ℕ) : Type 0 where
+  pub is : getD new p 0 ≡ kind
+  pub kept : (k : ℕ) → 1 ≤ k → k < 5 → getD new (p + k) 0 ≡ getD old (p + k) 0
   pub register : getD new (p + 5) 0 ≡ r
   pub enters : getD new (p + 6) 0 ≡ entry
   pub goes : getD new (p + 7) 0 ≡ next
-  pub rest : Outside (p + 5) (p + 8) old new
+  pub rest : Outside p (p + 8) old new
 
 -- a reference, whose number becomes its group's slot; or it is noted
 pub record Referred (groups : ℕ) (old new : List ℕ) (p next sofar found : ℕ) : Type 0 where

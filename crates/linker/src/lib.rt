@@ -5,7 +5,7 @@ ghost use lib.ListN.{getD, length};
 ghost use Rattle.syntax.specs.Limits.{groupLimit, ruleAreaNeed, registers, spansLength};
 ghost use Rattle.linker.specs.Nodes.{beforeOf, Part, Chain, Inside};
 ghost use Rattle.linker.specs.Linking.{Stands, StandAll, Links, LinksAll, LinksWhole};
-ghost use Rattle.linker.specs.Stores.{Put, PutTwo, GroupClosed, RepeatClosed, Referred};
+ghost use Rattle.linker.specs.Stores.{Put, PutTwo, GroupClosed, EntryKind, RepeatClosed, Referred};
 
 // The kinds of nodes, as specs/Nodes.antt lists them. What is of none of these is an item, and goes on alike.
 const REFERENCE: usize = 2;
@@ -17,6 +17,13 @@ const LAST: usize = 6;
 const REPEAT: usize = 7;
 
 const PLAIN: usize = 10;
+
+// The kinds of a byte item and of a compiled run, and the number of a greedy repeat's greed.
+const BYTE: usize = 0;
+
+const RUN: usize = 10;
+
+const GREEDY: usize = 0;
 
 // What a rule is linked to.
 pub enum Linkage {
@@ -77,11 +84,26 @@ fn close_group(area: &mut [u32], p: usize, next: usize, r: usize, entry: usize)
     put_two(area, p + 5, entry, r);
 }
 
-// A repeat whose body is linked: its register, where its body begins, and what follows it.
-fn close_repeat(area: &mut [u32], p: usize, next: usize, r: usize, entry: usize)
-    requires { ⌜ (p + 8 ≤ length (now area)) × (next ≤ ruleAreaNeed) × (r ≤ registers) × (entry ≤ ruleAreaNeed) ⌝ }
-    ensures { λ _. ⌜ RepeatClosed (now (area .entry)) (now (area .exit)) p next r entry ⌝ }
+// The number at which a repeat is entered: a greedy repeat of one byte item is a run.
+fn entry_kind(area: &[u32], p: usize, body: usize) -> usize
+    requires { ⌜ (p + 8 ≤ length (now area)) × (body < p) ⌝ }
+    ensures { λ k. ⌜ EntryKind (now (area .entry)) p body k ⌝ }
 {
+    if word(area, p + 4) != GREEDY {
+        return REPEAT;
+    }
+    if word(area, body) != BYTE {
+        return REPEAT;
+    }
+    RUN
+}
+
+// A repeat whose body is linked: its kind, its register, where its body begins, and what follows it.
+fn close_repeat(area: &mut [u32], p: usize, kind: usize, next: usize, r: usize, entry: usize)
+    requires { ⌜ (p + 8 ≤ length (now area)) × (kind ≤ 10) × (next ≤ ruleAreaNeed) × (r ≤ registers) × (entry ≤ ruleAreaNeed) ⌝ }
+    ensures { λ _. ⌜ RepeatClosed (now (area .entry)) (now (area .exit)) p kind next r entry ⌝ }
+{
+    put(area, p, kind);
     put_two(area, p + 5, r, entry);
     put(area, p + 7, next);
 }
@@ -176,10 +198,11 @@ fn link_repeat(
     ensures { λ l. ⌜ Links (Part (now (area .entry))) groups r (now (area .entry)) (now (area .exit)) p next dangling (l .pc) (l .dangling) ⌝ }
 {
     let body = word(area, p + 6);
+    let kind = entry_kind(area, p, body);
     let l = link_part(area, body, p + 1, r + 2, groups, dangling);
     let entry = l.pc;
     let found = l.dangling;
-    close_repeat(area, p, next, r, entry);
+    close_repeat(area, p, kind, next, r, entry);
     Linked {
         pc: p,
         dangling: found,

@@ -6,9 +6,10 @@ use native.Mathlib.Omega.{arith}
 use native.Mathlib.Numerals.{add-one}
 use lib.ListN.{length, getD, set, length-set}
 use lib.Seq.{getD-set-same, getD-set-other}
+use borrow.Author.Tests.{lt-ltb, le-ltb}
 use Rattle.syntax.specs.Limits.{registers}
 use Rattle.machine.specs.Code.{Program, repeatAt, RepeatFits}
-use Rattle.machine.specs.Moves.{undo, Stack, idle, set2, saved, go, goSet, begin, fall}
+use Rattle.machine.specs.Moves.{undo, Stack, idle, set2, saved, go, goSet, begin, descend, below, fall}
 use Rattle.machine.specs.Words.{frameOf, frameAt, stackOf}
 use Rattle.machine.specs.Ready.{StackFits}
 
@@ -52,6 +53,16 @@ pub begin-saved : (p : Program) (q n at h h′ : ℕ) (regs regs′ work work′
 unfolding begin repeatAt
 begin-saved p q n at h h′ regs regs′ work work′ e f g = go-saved _ at h h′ (getD p (q + 3) 0) n at regs regs′ work work′ e f g
 
+-- the positions below the one to go on from, if there are any
+module _ (pc high low : ℕ) (regs : List ℕ) where
+  pub down-some : (h h′ : ℕ) (work work′ : List ℕ) → low < high → h′ ≡ h + 1 → stackOf work′ (h + 1) ≡ frameOf 2 pc (high - 1) low ∷ stackOf work h → go pc high regs (stackOf work′ h′) ≡ go pc high regs (below pc high low (stackOf work h))
+  unfolding descend frameOf
+  down-some h h′ work work′ l e f = rw (e, f, lt-ltb low high l)
+
+  pub down-none : (st : Stack) → high ≤ low → go pc high regs st ≡ go pc high regs (below pc high low st)
+  unfolding descend
+  down-none st l = rw (le-ltb low high l)
+
 -- Taking off -----------------------------------------------------------------
 
 stack-pop : (w : List ℕ) (h : ℕ) → 0 < h → stackOf w h ≡ frameAt w (h - 1) ∷ stackOf w (h - 1)
@@ -59,11 +70,12 @@ unfolding stackOf
 stack-pop w zero s = absurd (omega arith)
 stack-pop w (suc h) s = let e : suc h - 1 ≡ h = omega arith in rw e
 
-frame-undo : (kind a b c : ℕ) → (kind ≡ 0 → ⊥) → (kind ≡ 1 → ⊥) → frameOf kind a b c ≡ undo b a c
+frame-undo : (kind a b c : ℕ) → (kind ≡ 0 → ⊥) → (kind ≡ 1 → ⊥) → (kind ≡ 2 → ⊥) → frameOf kind a b c ≡ undo b a c
 unfolding frameOf
-frame-undo zero a b c x y = absurd (x refl)
-frame-undo (suc zero) a b c x y = absurd (y refl)
-frame-undo (suc (suc n)) a b c x y = refl
+frame-undo zero a b c x y z = absurd (x refl)
+frame-undo (suc zero) a b c x y z = absurd (y refl)
+frame-undo (suc (suc zero)) a b c x y z = absurd (z refl)
+frame-undo (suc (suc (suc n))) a b c x y z = refl
 
 module _ (p : Program) (w : List ℕ) (h : ℕ) (some : 0 < h) where
   abbrev top : ℕ → ℕ
@@ -80,9 +92,13 @@ module _ (p : Program) (w : List ℕ) (h : ℕ) (some : 0 < h) where
   unfolding fall frameAt frameOf
   pop-again regs e = rw (stack-pop w h some, e)
 
-  pub pop-undo : (regs : List ℕ) → (kind ≡ 0 → ⊥) → (kind ≡ 1 → ⊥) → fall p regs (stackOf w h) ≡ fall p (set2 regs (top 2) (top 1) (top 3)) (stackOf w (h - 1))
+  pub pop-stretch : (regs : List ℕ) → kind ≡ 2 → fall p regs (stackOf w h) ≡ go (top 1) (top 2) regs (below (top 1) (top 2) (top 3) (stackOf w (h - 1)))
+  unfolding fall frameAt frameOf
+  pop-stretch regs e = rw (stack-pop w h some, e)
+
+  pub pop-undo : (regs : List ℕ) → (kind ≡ 0 → ⊥) → (kind ≡ 1 → ⊥) → (kind ≡ 2 → ⊥) → fall p regs (stackOf w h) ≡ fall p (set2 regs (top 2) (top 1) (top 3)) (stackOf w (h - 1))
   unfolding fall frameAt
-  pop-undo regs x y = rw (stack-pop w h some, frame-undo kind (top 1) (top 2) (top 3) x y)
+  pop-undo regs x y z = rw (stack-pop w h some, frame-undo kind (top 1) (top 2) (top 3) x y z)
 
   module _ (f : StackFits p (stackOf w h)) where
     popped : StackFits p (frameAt w (h - 1) ∷ stackOf w (h - 1))
@@ -95,9 +111,9 @@ module _ (p : Program) (w : List ℕ) (h : ℕ) (some : 0 < h) where
     unfolding frameAt frameOf
     fits-again e = rw e at (popped .0)
 
-    pub fits-undo : (kind ≡ 0 → ⊥) → (kind ≡ 1 → ⊥) → top 2 + 2 ≤ registers
+    pub fits-undo : (kind ≡ 0 → ⊥) → (kind ≡ 1 → ⊥) → (kind ≡ 2 → ⊥) → top 2 + 2 ≤ registers
     unfolding frameAt
-    fits-undo x y = rw (frame-undo kind (top 1) (top 2) (top 3) x y) at (popped .0)
+    fits-undo x y z = rw (frame-undo kind (top 1) (top 2) (top 3) x y z) at (popped .0)
 
 pub pop-none : (p : Program) (w : List ℕ) (h : ℕ) (regs : List ℕ) → h ≤ 0 → fall p regs (stackOf w h) ≡ idle regs
 unfolding fall stackOf

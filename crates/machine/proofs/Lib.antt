@@ -2,4 +2,5 @@
 pub mod Frames
 pub mod Tests
 pub mod Decisions
+pub mod Bytes
 pub mod Walking

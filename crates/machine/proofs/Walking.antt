@@ -1,24 +1,31 @@
 -- One move as the code makes it, and the invariant of the loop that runs to the next end. Assumes nothing.
 use mathlib.Core.Path.{_≡_, refl, ap, _∙_}
-use mathlib.Core.List.{List}
+use mathlib.Core.List.{List, _∷_}
 use mathlib.Core.Bool.{true, false}
-use Prim.Native.Nat.{ℕ, _+_, _*_, _-_, _≤_, _<_}
+use Prim.Native.Nat.{ℕ, suc, _+_, _*_, _-_, _≤_, _<_}
 use native.Mathlib.Omega.{arith}
 use lib.ListN.{length, getD}
 use Rattle.semantics.specs.Walk.{Trace}
+use Rattle.semantics.specs.Laws.Loops.{Quiet}
 use Rattle.machine.specs.declared.Machine.{Machine}
 use Rattle.machine.specs.declared.Stop.{Stop}
 use Rattle.machine.specs.declared.Stop.the-variants.{End, Nothing, Spent}
-use Rattle.machine.specs.Code.{decode, Fits}
-use Rattle.machine.specs.Moves.{Configuration, idle, busy, move}
-use Rattle.machine.specs.Words.{stackOf, configurationOf, nowOf, movedOn, carried}
+use Rattle.machine.specs.declared.runs.Ran.{Ran}
+use Rattle.machine.specs.declared.runs.Ran.the-variants.{Made, TooLong}
+use Rattle.machine.specs.Code.{repeatAt, decode, Fits}
+use Rattle.machine.specs.Moves.{Configuration, idle, busy, bytesOf, carryOut, move}
+use Rattle.machine.specs.Words.{stackOf, configurationOf, nowOf, movedOn, carried, ranOn, RanBy}
 use Rattle.machine.specs.Ready.{until, StackFits, Ready, Reached, Agrees, atEnd, allTried, outOfSteps}
 use Rattle.machine.specs.Laws.Stack.{length-stackOf}
-use Rattle.machine.specs.Laws.Loop.{Running, running-start, running-idle, running-out, running-on, running-end, fits-now}
+use Rattle.machine.specs.Laws.Loop.{Running, running-start, running-idle, running-out, running-run, running-cut, running-on, running-end, quiet-ran, fits-now}
 
 pub moved-as : (p sub regs work : List ℕ) (m : Machine) (n : ℕ) → getD p (m .pc) 0 ≡ n → movedOn p sub regs work m ≡ carried n p sub regs work m
 unfolding move decode
 moved-as p sub regs work m n e = ap (λ (k : ℕ). carried k p sub regs work m) e
+
+pub moved-run : (p sub regs work : List ℕ) (m : Machine) → getD p (m .pc) 0 ≡ 10 → move p sub (configurationOf regs work m) ≡ ranOn p sub regs work m
+unfolding move decode carryOut
+moved-run p sub regs work m e = rw e
 
 -- the only kind that is left
 pub only-loop : (n : ℕ) → n ≤ 8 → (n ≡ 0 → ⊥) → (n ≡ 1 → ⊥) → (n ≡ 2 → ⊥) → (n ≡ 3 → ⊥) → (n ≡ 4 → ⊥) → (n ≡ 5 → ⊥) → (n ≡ 6 → ⊥) → (n ≡ 7 → ⊥) → n ≡ 8
@@ -77,9 +84,9 @@ module _ {p sub regs₀ work₀ : List ℕ} {m₀ : Machine} {budget : ℕ} {reg
     pub walking-out : used ≡ budget → Promised p sub regs₀ work₀ m₀ budget Spent regs work
     walking-out h first t x = rw (running-out p sub (length work₀) budget first t used here (running first t x) h) outOfSteps
 
-    pub walking-end : used < budget → 8 < getD p (m .pc) 0 → Promised p sub regs₀ work₀ m₀ budget (End (used + 1) m) regs work
-    walking-end h k first t x =
-        let e = running-end p sub (length work₀) budget first t used here (running first t x) h k in
+    pub walking-end : used < budget → 8 < getD p (m .pc) 0 → (getD p (m .pc) 0 ≡ 10 → ⊥) → Promised p sub regs₀ work₀ m₀ budget (End (used + 1) m) regs work
+    walking-end h k k′ first t x =
+        let e = running-end p sub (length work₀) budget first t used here (running first t x) h k k′ in
         let x : Reached p sub (length work₀) budget first (used + 1) (e .met) (e .rest) m regs work = record { few = omega arith; at = e .at; spans = e .spans; low = omega (arith, walking-low); fits = walking-stack; ready = e .ready } in
         rw (e .until-is) (atEnd {used = used + 1} {s = e .met} {rest = e .rest} {m = m} x)
 
@@ -92,3 +99,34 @@ module _ {p sub regs₀ work₀ : List ℕ} {m₀ : Machine} {budget : ℕ} {reg
       some = g .some;
       runs = λ first t x. rw e (running-on p sub (length work₀) budget first t used here (running first t x) h k);
     }
+
+    module _ (is : getD p (m .pc) 0 ≡ 10) where
+      quiet-run : Quiet (move p sub here .first ∷ move p sub here .more)
+      quiet-run = rw (moved-run p sub regs work m is) (quiet-ran p sub (repeatAt p (m .pc + 2)) (bytesOf p sub (repeatAt p (m .pc + 2)) 0 (m .at)) (m .at) regs (stackOf work (m .height)))
+
+      module _ (regs′ work′ : List ℕ) (r : Ran) (x : RanBy p sub regs work m (budget - used) regs′ work′ r) where
+        -- a run that the steps are not enough for
+        pub walking-cut : r ≡ TooLong → Promised p sub regs₀ work₀ m₀ budget Spent regs′ work′
+        walking-cut e first t y =
+            let h : budget - used < suc (length (ranOn p sub regs work m .more)) = rw e at x in
+            rw (running-cut p sub (length work₀) budget first t used here (running first t y) quiet-run (g .few) (rw (moved-run p sub regs work m is) (omega (arith, g .few)))) outOfSteps
+
+        -- a run that is made
+        module _ (n : ℕ) (m′ : Machine) (e : r ≡ Made n m′) where
+          made : RanBy p sub regs work m (budget - used) regs′ work′ (Made n m′)
+          made = rw e at x
+
+          pub made-some : 1 ≤ n
+          made-some = omega (arith, made .0)
+
+          pub made-few : n ≤ budget - used
+          made-few = made .1
+
+          pub walking-run : length regs′ ≡ length regs → length work′ ≡ length work → Walking p sub regs₀ work₀ m₀ budget regs′ work′ (used + n) m′
+          walking-run s s′ = record {
+            size = s ∙ g .size;
+            wide = s′ ∙ g .wide;
+            few = omega (arith, g .few, made-few);
+            some = g .some;
+            runs = λ first t y. rw (made .2, made .0) (rw (moved-run p sub regs work m is) at (running-run p sub (length work₀) budget first t used here (running first t y) quiet-run (rw (moved-run p sub regs work m is) (omega (arith, g .few, made .0, made .1)))));
+          }

@@ -43,6 +43,7 @@ pub data Instruction : Type 0 where
   lastBranch : (body : ℕ) → Instruction
   enters : (repeat : ℕ) → Instruction
   loops : (repeat : ℕ) → Instruction
+  runs : (repeat : ℕ) → Instruction
   ends : Instruction
 
 -- Reading numbers -----------------------------------------------------------
@@ -89,7 +90,9 @@ decodeAs (suc (suc (suc (suc (suc zero))))) p pc = branches (getD p (pc + 1) 0) 
 decodeAs (suc (suc (suc (suc (suc (suc zero)))))) p pc = lastBranch (getD p (pc + 1) 0)
 decodeAs (suc (suc (suc (suc (suc (suc (suc zero))))))) p pc = enters (pc + 2)
 decodeAs (suc (suc (suc (suc (suc (suc (suc (suc zero)))))))) p pc = loops (pc + 1)
-decodeAs (suc (suc (suc (suc (suc (suc (suc (suc (suc n))))))))) p pc = ends
+decodeAs (suc (suc (suc (suc (suc (suc (suc (suc (suc zero))))))))) p pc = ends
+decodeAs (suc (suc (suc (suc (suc (suc (suc (suc (suc (suc zero)))))))))) p pc = runs (pc + 2)
+decodeAs (suc (suc (suc (suc (suc (suc (suc (suc (suc (suc (suc n))))))))))) p pc = ends
 
 unfoldable pub decode : Program → ℕ → Instruction
 decode p pc = decodeAs (getD p pc 0) p pc
@@ -111,7 +114,9 @@ FitsAs (suc (suc (suc (suc (suc zero))))) p pc = pc + 3 ≤ length p
 FitsAs (suc (suc (suc (suc (suc (suc zero)))))) p pc = pc + 2 ≤ length p
 FitsAs (suc (suc (suc (suc (suc (suc (suc zero))))))) p pc = RepeatFits p (pc + 2)
 FitsAs (suc (suc (suc (suc (suc (suc (suc (suc zero)))))))) p pc = RepeatFits p (pc + 1)
-FitsAs (suc (suc (suc (suc (suc (suc (suc (suc (suc n))))))))) p pc = Unit {0}
+FitsAs (suc (suc (suc (suc (suc (suc (suc (suc (suc zero))))))))) p pc = Unit {0}
+FitsAs (suc (suc (suc (suc (suc (suc (suc (suc (suc (suc zero)))))))))) p pc = (pc + 8 ≤ length p) × (getD p (pc + 6) 0 + 11 ≤ length p)
+FitsAs (suc (suc (suc (suc (suc (suc (suc (suc (suc (suc (suc n))))))))))) p pc = Unit {0}
 
 pub record Fits (p : Program) (pc : ℕ) : Type 0 where
   pub here : pc < length p

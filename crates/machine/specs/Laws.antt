@@ -3,6 +3,8 @@ pub mod Code
 pub mod Registers
 pub mod Run
 pub mod Rounds
+pub mod Extent
 pub mod Walk
 pub mod Stack
 pub mod Loop
+pub mod Skips

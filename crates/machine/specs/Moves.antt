@@ -2,19 +2,22 @@
 -- node, and emits the events of the walk.
 use mathlib.Core.Path.{_≡_}
 use mathlib.Core.List.{List, [], _∷_}
-use mathlib.Core.Bool.{Bool, false}
-use Prim.Native.Nat.{ℕ, suc, _+_, _<_, min}
-use lib.ListN.{length, getD, set, take}
+use mathlib.Core.Bool.{Bool, true, false, _&&_}
+use Prim.Native.Nat.{ℕ, zero, suc, _+_, _-_, _<_, min}
+use lib.ListN.{length, getD, set, take, drop}
 use lib.Dec.{ltb, eqb}
+use Rattle.charset.specs.Class.{has}
 use Rattle.syntax.specs.declared.Greed.the-variants.{Greedy, Lazy}
+use Rattle.syntax.specs.declared.Most.{Most}
+use Rattle.syntax.specs.declared.Most.the-variants.{AtMost, Unlimited}
 use Rattle.syntax.specs.Limits.{unset, boundLimit, spansLength}
 use Rattle.syntax.specs.Read.{byte}
 use Rattle.semantics.specs.Assertions.{holds}
 use Rattle.semantics.specs.States.{State, moved}
 use Rattle.semantics.specs.Items.{Tried, fails, goes, when, refer}
-use Rattle.semantics.specs.Repeats.{Next, round, leave, either, decision}
+use Rattle.semantics.specs.Repeats.{Next, round, leave, either, isFull, decision}
 use Rattle.semantics.specs.Walk.{Event, step, miss, end, Trace}
-use Rattle.machine.specs.Code.{Program, Test, inSet, holding, sameAs, Repeat, Instruction, tests, opens, closes, branches, lastBranch, enters, loops, ends, repeatAt, decode, Fits}
+use Rattle.machine.specs.Code.{Program, Test, inSet, holding, sameAs, Repeat, Instruction, tests, opens, closes, branches, lastBranch, enters, loops, runs, ends, repeatAt, decode, Fits}
 
 -- no byte of a subject is above 255
 abbrev pub Bytes : List ℕ → Type 0
@@ -27,6 +30,7 @@ pub data Frame : Type 0 where
   explore : (pc at : ℕ) → Frame  -- go on at this node
   again : (q n at : ℕ) → Frame  -- begin round n of the repeat at q: the step for its decision is taken already
   undo : (i a b : ℕ) → Frame  -- put a and b back into the registers i and i + 1
+  stretch : (pc high low : ℕ) → Frame  -- go on at this node from each position from high down to low
 
 abbrev pub Stack : Type 0
 Stack = List Frame
@@ -42,7 +46,7 @@ pub data Now : Type 0 where
   idle : List ℕ → Now
   busy : Configuration → Now
 
--- A move emits a run of events that is not empty, and costs its length. So far every run has one event.
+-- A move emits a run of events that is not empty, and costs its length.
 pub record Move : Type 0 where
   pub first : Event
   pub more : Trace
@@ -93,6 +97,49 @@ tested sub (inSet f) s = when (ltb (s .at) (length sub)) (when (f (byte sub (s .
 tested sub (holding a) s = when (holds sub a (s .at)) (goes s)
 tested sub (sameAs slot) s = refer sub (getD (s .spans) slot unset) (getD (s .spans) (slot + 1) unset) s
 
+-- Runs ------------------------------------------------------------------------
+
+-- whether there is a byte at a position, and it is in the set
+unfoldable pub takes : List ℕ → (ℕ → Bool) → ℕ → Bool
+takes sub f at = ltb at (length sub) && f (byte sub at)
+
+unfoldable pub oneMore : Bool → ℕ → ℕ
+oneMore true n = suc n
+oneMore false n = 0
+
+-- how many bytes of the set stand from a position on, at most `limit` of them
+unfoldable pub extent : List ℕ → (ℕ → Bool) → (limit at : ℕ) → ℕ
+extent sub f zero at = 0
+extent sub f (suc limit) at = oneMore (takes sub f at) (extent sub f limit (suc at))
+
+-- how many rounds may follow the n-th, where so many bytes are left
+unfoldable pub allowance : Most → (n bytes : ℕ) → ℕ
+allowance (AtMost m) n bytes = m - n
+allowance Unlimited n bytes = bytes
+
+-- two steps for each byte that is taken, its own and that of the decision behind it
+unfoldable pub strides : ℕ → Trace → Trace
+strides zero t = t
+strides (suc k) t = step ∷ step ∷ strides k t
+
+-- one for the byte that failed, unless the most rounds were made
+unfoldable pub stopped : Bool → (place at : ℕ) → Trace
+stopped true place at = []
+stopped false place at = miss place at ∷ []
+
+-- the positions below `high`, down to low
+unfoldable pub descend : Bool → (pc high low : ℕ) → Stack → Stack
+descend true pc high low st = stretch pc (high - 1) low ∷ st
+descend false pc high low st = st
+
+abbrev pub below : (pc high low : ℕ) → Stack → Stack
+below pc high low st = descend (ltb low high) pc high low st
+
+-- all of them, unless the rounds are too few
+unfoldable pub endsOf : Bool → (pc high low : ℕ) → Stack → Stack
+endsOf true pc high low st = st
+endsOf false pc high low st = stretch pc high low ∷ st
+
 -- Moves -----------------------------------------------------------------------
 
 module _ (p : Program) where
@@ -102,6 +149,7 @@ module _ (p : Program) where
   fall regs (explore pc at ∷ st) = go pc at regs st
   fall regs (again q n at ∷ st) = begin (repeatAt p q) n at regs st
   fall regs (undo i a b ∷ st) = fall (set2 regs i a b) st
+  fall regs (stretch pc high low ∷ st) = go pc high regs (below pc high low st)
 
   -- what a decision after n rounds leads to
   unfoldable pub decided : Next → (q n at : ℕ) → List ℕ → Stack → Now
@@ -117,7 +165,19 @@ module _ (p : Program) where
   tried fails place next at regs st = emitting (miss place at) (fall regs st)
   tried (goes t) place next at regs st = emitting step (go next (t .at) regs st)
 
+  -- a run of k bytes from `at` on: it goes on behind them, and later behind fewer, down to the least
+  unfoldable pub ran : Repeat → (k at : ℕ) → List ℕ → Stack → Move
+  ran q k at regs st = record {
+    first = step;
+    more = strides k (stopped (isFull (q .most) k) (getD p (q .body + 2) 0) (at + k));
+    after = fall regs (endsOf (ltb k (q .least)) (q .next) (at + k) (at + q .least) st);
+  }
+
   module _ (sub : List ℕ) where
+    -- the bytes that a run takes: its body is the node of a byte item
+    unfoldable pub bytesOf : Repeat → (n at : ℕ) → ℕ
+    bytesOf q n at = extent sub (has (drop (q .body + 3) p)) (allowance (q .most) n (length sub - at)) at
+
     unfoldable pub carryOut : Instruction → (at : ℕ) → List ℕ → Stack → Move
     carryOut (tests t place next) at regs st = tried (tested sub t (state at regs)) place next at regs st
     carryOut (opens i body) at regs st = emitting step (goSet i at 0 body at regs st)
@@ -126,6 +186,7 @@ module _ (p : Program) where
     carryOut (lastBranch body) at regs st = emitting step (go body at regs st)
     carryOut (enters q) at regs st = emitting step (decides q 0 false at regs st)
     carryOut (loops q) at regs st = emitting step (decides q (getD regs (repeatAt p q .register) 0) (eqb (getD regs (repeatAt p q .register + 1) 0) at) at regs st)
+    carryOut (runs q) at regs st = ran (repeatAt p q) (bytesOf (repeatAt p q) 0 at) at regs st
     carryOut ends at regs st = emitting (end (state at regs)) (fall regs st)
 
     unfoldable pub move : Configuration → Move

@@ -10,7 +10,7 @@ use Rattle.machine.specs.declared.Machine.{Machine}
 use Rattle.machine.specs.declared.Stop.{Stop}
 use Rattle.machine.specs.declared.Stop.the-variants.{End, Nothing, Spent}
 use Rattle.machine.specs.Code.{Program, RepeatFits}
-use Rattle.machine.specs.Moves.{Frame, explore, again, undo, Stack, Now, idle, busy, set2, fall, Emits}
+use Rattle.machine.specs.Moves.{Frame, explore, again, undo, stretch, Stack, Now, idle, busy, set2, fall, Emits}
 use Rattle.machine.specs.Words.{stackOf}
 
 -- The next end of a trace -----------------------------------------------------
@@ -36,6 +36,7 @@ abbrev pub FrameFits : Program → Frame → Type 0
 FrameFits p (explore pc at) = Unit {0}
 FrameFits p (again q n at) = RepeatFits p q
 FrameFits p (undo i a b) = i + 2 ≤ registers
+FrameFits p (stretch pc high low) = Unit {0}
 
 abbrev pub StackFits : Program → Stack → Type 0
 StackFits p [] = Unit {0}
@@ -51,6 +52,7 @@ replay regs [] = regs
 replay regs (explore pc at ∷ st) = replay regs st
 replay regs (again q n at ∷ st) = replay regs st
 replay regs (undo i a b ∷ st) = replay (set2 regs i a b) st
+replay regs (stretch pc high low ∷ st) = replay regs st
 
 abbrev pub origin : Now → List ℕ
 origin (idle regs) = regs

@@ -1,21 +1,25 @@
 -- What the code's numbers stand for: the work area holds the stack, and a `Machine` tells where the machine stands.
+use mathlib.Core.Path.{_≡_}
 use mathlib.Core.List.{List, [], _∷_}
 use mathlib.Core.Bool.{Bool, true, false, _&&_}
-use Prim.Native.Nat.{ℕ, zero, suc, _+_, _*_}
+use Prim.Native.Nat.{ℕ, zero, suc, _+_, _*_, _≤_, _<_}
 use lib.ListN.{length, getD}
 use lib.Dec.{ltb, leb}
 use Rattle.syntax.specs.Limits.{unset}
 use Rattle.semantics.specs.Items.{sameAt}
 use Rattle.machine.specs.declared.Machine.{Machine}
-use Rattle.machine.specs.Code.{decodeAs}
-use Rattle.machine.specs.Moves.{Frame, explore, again, undo, Stack, Configuration, Now, idle, busy, carryOut, move}
+use Rattle.machine.specs.declared.runs.Ran.{Ran}
+use Rattle.machine.specs.declared.runs.Ran.the-variants.{Made, TooLong}
+use Rattle.machine.specs.Code.{repeatAt, decodeAs}
+use Rattle.machine.specs.Moves.{Frame, explore, again, undo, stretch, Stack, Configuration, Now, idle, busy, Move, ran, bytesOf, carryOut, move}
 
 -- A frame takes four numbers, the first of which is its kind. An undo frame has its register between the two values: side by side, they would
 -- be read as one word of 64 bits just after they were written as two of 32, and that stalls.
 unfoldable pub frameOf : (kind a b c : ℕ) → Frame
 frameOf zero a b c = explore a b
 frameOf (suc zero) a b c = again a b c
-frameOf (suc (suc n)) a b c = undo b a c
+frameOf (suc (suc zero)) a b c = stretch a b c
+frameOf (suc (suc (suc n))) a b c = undo b a c
 
 unfoldable pub frameAt : List ℕ → ℕ → Frame
 frameAt work h = frameOf (getD work (4 * h) 0) (getD work (4 * h + 1) 0) (getD work (4 * h + 2) 0) (getD work (4 * h + 3) 0)
@@ -42,6 +46,15 @@ movedOn p sub regs work m = move p sub (configurationOf regs work m) .after
 -- the same, where the node is of a known kind
 abbrev pub carried : ℕ → (p sub regs work : List ℕ) → Machine → Now
 carried kind p sub regs work m = carryOut p sub (decodeAs kind p (m .pc)) (m .at) regs (stackOf work (m .height)) .after
+
+-- the move of a run
+abbrev pub ranOn : (p sub regs work : List ℕ) → Machine → Move
+ranOn p sub regs work m = ran p (repeatAt p (m .pc + 2)) (bytesOf p sub (repeatAt p (m .pc + 2)) 0 (m .at)) (m .at) regs (stackOf work (m .height))
+
+-- it is made, and leaves these registers and this work area; or it takes more than the steps that are left
+abbrev pub RanBy : (p sub regs work : List ℕ) → Machine → (left : ℕ) → (regs′ work′ : List ℕ) → Ran → Type 0
+RanBy p sub regs work m left regs′ work′ (Made n r) = (n ≡ suc (length (ranOn p sub regs work m .more))) × (n ≤ left) × (nowOf regs′ work′ r ≡ ranOn p sub regs work m .after)
+RanBy p sub regs work m left regs′ work′ TooLong = left < suc (length (ranOn p sub regs work m .more))
 
 -- whether a span from `from` on is set and its n bytes stand at a position too
 abbrev pub refers : List ℕ → (from n at : ℕ) → Bool

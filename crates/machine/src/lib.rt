@@ -11,6 +11,7 @@ mod nodes;
 mod references;
 mod repeats;
 mod run;
+mod runs;
 mod stack;
 
 pub use run::run_to_end;

@@ -27,7 +27,7 @@ fn count_round(n: u32) -> u32
 }
 
 // Whether `n` rounds are the most that there may be.
-fn is_full(most: u32, n: u32) -> bool
+pub fn is_full(most: u32, n: u32) -> bool
     ensures { λ r. ⌜ r ≡ isFull (mostOf most) n ⌝ }
 {
     if most == semantics::unset_position() {

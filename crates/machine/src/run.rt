@@ -10,6 +10,8 @@ use crate::nodes::test_assertion;
 use crate::nodes::test_reference;
 use crate::repeats::end_round;
 use crate::repeats::enter_repeat;
+use crate::runs::Ran;
+use crate::runs::take_run;
 ghost use mathlib.Core.Path.{_≡_};
 ghost use mathlib.Core.List.{List};
 ghost use Prim.Native.Nat.{ℕ, _+_, _*_, _≤_, _<_, _^_};
@@ -20,7 +22,10 @@ ghost use Rattle.machine.specs.Code.{Fits};
 ghost use Rattle.machine.specs.Words.{stackOf, nowOf, movedOn};
 ghost use Rattle.machine.specs.Ready.{until, StackFits, Ready, Agrees};
 
-// One node that is no end; `kind` is its first number.
+// The kind of a run.
+const RUN: u32 = 10;
+
+// One node that is no end and no run; `kind` is its first number.
 fn step(
     code: &[u32],
     sub: &[u8],
@@ -69,10 +74,18 @@ pub fn run_to_end(
         }
         let pc = head.pc as usize;
         let kind = code[pc];
-        used += 1;
         if 8 < kind {
-            return Stop::End(used, head);
+            if kind != RUN {
+                return Stop::End(used + 1, head);
+            }
+            let Ran::Made(n, made) = take_run(code, sub, regs, work, head, budget - used) else {
+                return Stop::Spent;
+            };
+            used += n;
+            head = made;
+            continue;
         }
+        used += 1;
         let next = step(code, sub, regs, work, kind, head);
         head = next;
     }

@@ -1,12 +1,12 @@
 // The stack in the work area, four numbers for each frame, and the registers, whose every change is undone by a frame.
 use crate::Machine;
 ghost use mathlib.Core.Path.{_≡_};
-ghost use mathlib.Core.List.{_∷_};
-ghost use Prim.Native.Nat.{_+_, _*_, _≤_};
+ghost use mathlib.Core.List.{List, _∷_};
+ghost use Prim.Native.Nat.{ℕ, _+_, _*_, _≤_};
 ghost use lib.ListN.{length, getD};
 ghost use Rattle.syntax.specs.Limits.{registers};
 ghost use Rattle.machine.specs.Code.{repeatAt};
-ghost use Rattle.machine.specs.Moves.{set2, saved, begin, fall};
+ghost use Rattle.machine.specs.Moves.{set2, saved, go, begin, below, fall};
 ghost use Rattle.machine.specs.Words.{frameOf, stackOf, nowOf};
 ghost use Rattle.machine.specs.Ready.{StackFits};
 
@@ -15,7 +15,9 @@ pub const EXPLORE: u32 = 0;
 
 pub const AGAIN: u32 = 1;
 
-const UNDO: u32 = 2;
+const STRETCH: u32 = 2;
+
+const UNDO: u32 = 3;
 
 // A frame goes onto the stack.
 pub fn push(work: &mut [u32], height: usize, kind: u32, a: u32, b: u32, c: u32) -> usize
@@ -83,6 +85,28 @@ pub fn begin_round(
     }
 }
 
+// Goes on at a node from the position `high`, and keeps those below it, down to `low`, for later.
+pub fn go_down(work: &mut [u32], pc: u32, high: u32, low: u32, height: usize) -> Machine
+    requires { ⌜ 4 * height + 4 ≤ length (now work) ⌝ }
+    ensures { λ m. ⌜ ((regs : List ℕ) → nowOf regs (now (work .exit)) m ≡ go pc high regs (below pc high low (stackOf (now (work .entry)) height))) ⌝ }
+{
+    if low < high {
+        let h = push(work, height, STRETCH, pc, high - 1, low);
+        return Machine {
+            pc: pc,
+            at: high,
+            height: h,
+            live: true,
+        };
+    }
+    Machine {
+        pc: pc,
+        at: high,
+        height: height,
+        live: true,
+    }
+}
+
 // Falls back: undoes changes of registers until a frame is found to go on with.
 pub fn fall_back(code: &[u32], regs: &mut [u32], work: &mut [u32], height: usize) -> Machine
     requires { ⌜ (length (now regs) ≡ registers) × (4 * height ≤ length (now work)) ⌝ }
@@ -108,6 +132,9 @@ pub fn fall_back(code: &[u32], regs: &mut [u32], work: &mut [u32], height: usize
         if kind == AGAIN {
             let q = a as usize;
             return begin_round(code, regs, work, q, b, c, h);
+        }
+        if kind == STRETCH {
+            return go_down(work, a, b, c, h);
         }
         let i = b as usize;
         write_pair(regs, i, a, c);

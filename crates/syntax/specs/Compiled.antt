@@ -9,12 +9,14 @@
 --   branch    5, body, the branch after it
 --   last      6, body                                 the last branch
 --   repeat    7, 8, least, most, greed, register, body, next    entered at the 7, decided again at the 8
+--   run      10, 8, least, most, greed, register, body, next    a greedy repeat of one byte item, which is taken as a whole
 --   end       9
 --
 -- `next` is the position of the node after it, `place` the item's place in the rule. A group keeps where it was opened, and a repeat its
 -- rounds and where the last one began, in two registers from the number given on; nodes inside use those behind.
 use mathlib.Core.Path.{_≡_}
 use mathlib.Core.List.{List}
+use mathlib.Core.Logic.{_⊎_}
 use Prim.Native.Nat.{ℕ, _+_, _≤_, _<_}
 use lib.ListN.{getD, drop}
 use Rattle.syntax.specs.declared.Assertion.{Assertion}
@@ -47,6 +49,27 @@ mostWord Unlimited = unset
 unfoldable pub greedWord : Greed → ℕ
 greedWord Greedy = 0
 greedWord Lazy = 1
+
+-- Runs ----------------------------------------------------------------------------
+
+abbrev pub OneByte : Rule → Type 0
+OneByte empty = ⊥
+OneByte (item place (byteIn c)) = Unit {0}
+OneByte (item place (assert a)) = ⊥
+OneByte (item place (reference n)) = ⊥
+OneByte (seq a b) = ⊥
+OneByte (alt bs b) = ⊥
+OneByte (group n a) = ⊥
+OneByte (repeat place least most g a) = ⊥
+
+-- what can be repeated as a run
+abbrev pub RunOf : Greed → Rule → Type 0
+RunOf Greedy a = OneByte a
+RunOf Lazy a = ⊥
+
+-- the first number of a repeat's node
+abbrev pub Entered : ℕ → Greed → Rule → Type 0
+Entered kind g a = (kind ≡ 7) ⊎ ((kind ≡ 10) × RunOf g a)
 
 -- Nodes ---------------------------------------------------------------------------
 
@@ -111,7 +134,9 @@ module _ (p : List ℕ) (lo hi : ℕ) where
     Compiled (repeat place least most g a) pc next r = record {
       room : r + 2 ≤ registers;
       bounds : BoundsFit least most;
-      node : Node pc 8 7;
+      kind : ℕ;
+      entered : Entered kind g a;
+      node : Node pc 8 kind;
       loop : getD p (pc + 1) 0 ≡ 8;
       least : getD p (pc + 2) 0 ≡ least;
       most : getD p (pc + 3) 0 ≡ mostWord most;

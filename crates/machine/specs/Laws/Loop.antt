@@ -1,6 +1,7 @@
 -- Running to the next end: each move takes its run of events off the trace, and keeps the machine ready for the steps that are left.
 use mathlib.Core.Path.{_≡_, refl, ap, sym, _∙_, subst}
 use mathlib.Core.List.{List, [], _∷_, _++_}
+use mathlib.Core.Bool.{Bool, true, false}
 use Prim.Native.Nat.{ℕ, zero, suc, _+_, _-_, _≤_, _<_}
 use native.Mathlib.Omega.{arith}
 use native.Mathlib.Numerals.{add-one}
@@ -8,10 +9,11 @@ use lib.ListN.{length, getD, take}
 use Rattle.syntax.specs.Limits.{spansLength}
 use Rattle.semantics.specs.States.{State}
 use Rattle.semantics.specs.Items.{Tried, fails, goes}
+use Rattle.semantics.specs.Repeats.{isFull}
 use Rattle.semantics.specs.Walk.{Event, step, miss, end, Trace}
 use Rattle.semantics.specs.Laws.Loops.{Quiet}
-use Rattle.machine.specs.Code.{Program, Instruction, ends, decodeAs, decode, Fits}
-use Rattle.machine.specs.Moves.{Stack, Configuration, Now, idle, busy, Move, emitting, state, shown, fall, tried, carryOut, move, Emits}
+use Rattle.machine.specs.Code.{Program, Repeat, Instruction, ends, decodeAs, decode, Fits}
+use Rattle.machine.specs.Moves.{Stack, Configuration, Now, idle, busy, Move, emitting, state, shown, strides, stopped, fall, tried, ran, carryOut, move, Emits}
 use Rattle.machine.specs.Ready.{ended, nothing, spent, until, Ready}
 use Rattle.machine.specs.Laws.Stack.{fall-leaves, move-leaves}
 
@@ -144,17 +146,33 @@ module _ (p : Program) (sub : List ℕ) where
   quiet (suc (suc (suc (suc (suc (suc (suc (suc zero)))))))) pc at regs st h = record { no-end = tt; single = refl }
   quiet (suc (suc (suc (suc (suc (suc (suc (suc (suc n))))))))) pc at regs st h = absurd (omega arith)
 
-  decode-end : (n pc : ℕ) → 8 < n → decodeAs n p pc ≡ ends
-  decode-end zero pc h = absurd (omega arith)
-  decode-end (suc zero) pc h = absurd (omega arith)
-  decode-end (suc (suc zero)) pc h = absurd (omega arith)
-  decode-end (suc (suc (suc zero))) pc h = absurd (omega arith)
-  decode-end (suc (suc (suc (suc zero)))) pc h = absurd (omega arith)
-  decode-end (suc (suc (suc (suc (suc zero))))) pc h = absurd (omega arith)
-  decode-end (suc (suc (suc (suc (suc (suc zero)))))) pc h = absurd (omega arith)
-  decode-end (suc (suc (suc (suc (suc (suc (suc zero))))))) pc h = absurd (omega arith)
-  decode-end (suc (suc (suc (suc (suc (suc (suc (suc zero)))))))) pc h = absurd (omega arith)
-  decode-end (suc (suc (suc (suc (suc (suc (suc (suc (suc n))))))))) pc h = refl
+  quiet-strides : (k : ℕ) (t : Trace) → Quiet t → Quiet (strides k t)
+  unfolding strides
+  quiet-strides zero t q = q
+  quiet-strides (suc k) t q = quiet-strides k t q
+
+  quiet-stopped : (b : Bool) (place at : ℕ) → Quiet (stopped b place at)
+  unfolding stopped
+  quiet-stopped true place at = tt
+  quiet-stopped false place at = tt
+
+  pub quiet-ran : (q : Repeat) (k at : ℕ) (regs : List ℕ) (st : Stack) → Quiet (ran p q k at regs st .first ∷ ran p q k at regs st .more)
+  unfolding ran
+  quiet-ran q k at regs st = quiet-strides k _ (quiet-stopped (isFull (q .most) k) _ _)
+
+  decode-end : (n pc : ℕ) → 8 < n → (n ≡ 10 → ⊥) → decodeAs n p pc ≡ ends
+  decode-end zero pc h x = absurd (omega arith)
+  decode-end (suc zero) pc h x = absurd (omega arith)
+  decode-end (suc (suc zero)) pc h x = absurd (omega arith)
+  decode-end (suc (suc (suc zero))) pc h x = absurd (omega arith)
+  decode-end (suc (suc (suc (suc zero)))) pc h x = absurd (omega arith)
+  decode-end (suc (suc (suc (suc (suc zero))))) pc h x = absurd (omega arith)
+  decode-end (suc (suc (suc (suc (suc (suc zero)))))) pc h x = absurd (omega arith)
+  decode-end (suc (suc (suc (suc (suc (suc (suc zero))))))) pc h x = absurd (omega arith)
+  decode-end (suc (suc (suc (suc (suc (suc (suc (suc zero)))))))) pc h x = absurd (omega arith)
+  decode-end (suc (suc (suc (suc (suc (suc (suc (suc (suc zero))))))))) pc h x = refl
+  decode-end (suc (suc (suc (suc (suc (suc (suc (suc (suc (suc zero)))))))))) pc h x = absurd (x refl)
+  decode-end (suc (suc (suc (suc (suc (suc (suc (suc (suc (suc (suc n))))))))))) pc h x = refl
 
   -- The run ---------------------------------------------------------------------------
 
@@ -224,12 +242,12 @@ module _ (p : Program) (sub : List ℕ) where
       at-end : (s : State) → _≡_ {A = Event} (end (state (c .at) (c .regs))) (shown (end s)) → state (c .at) (c .regs) ≡ record { at = s .at; spans = s .spans; path = [] }
       at-end s e = cc
 
-      pub running-end : used < budget → 8 < getD p (c .pc) 0 → Ended
+      pub running-end : used < budget → 8 < getD p (c .pc) 0 → (getD p (c .pc) 0 ≡ 10 → ⊥) → Ended
       unfolding Emits move decode carryOut until
-      running-end h k = f (g .rest) (g .ready .emits) (g .same)
+      running-end h k k′ = f (g .rest) (g .ready .emits) (g .same)
         where
           m : move p sub c ≡ emitting (end (state (c .at) (c .regs))) (fall p (c .regs) (c .stack))
-          m = ap (λ (j : Instruction). carryOut p sub j (c .at) (c .regs) (c .stack)) (decode-end (getD p (c .pc) 0) (c .pc) k)
+          m = ap (λ (j : Instruction). carryOut p sub j (c .at) (c .regs) (c .stack)) (decode-end (getD p (c .pc) 0) (c .pc) k k′)
 
           f : (v : Trace) → Emits p sub [] (busy c) v → until (budget - used) used v ≡ until budget 0 t₀ → Ended
           f [] x y = absurd x

@@ -12,7 +12,7 @@ use Rattle.semantics.specs.Repeats.{Next, round, leave, either, decision}
 use Rattle.semantics.specs.Walk.{Event, step, miss, end, Trace, done}
 use Rattle.semantics.specs.Laws.Rounds.{Begins}
 use Rattle.machine.specs.Code.{Program, Test, Instruction, tests, opens, closes, branches, lastBranch, ends, repeatAt, decode, Fits}
-use Rattle.machine.specs.Moves.{explore, again, Stack, Now, Move, emitting, set2, saved, state, shown, go, begin, bump, tested, fall, decided, decides, tried, carryOut, move, Emits}
+use Rattle.machine.specs.Moves.{explore, again, stretch, Stack, Now, Move, emitting, set2, saved, state, shown, go, begin, bump, tested, fall, decided, decides, tried, carryOut, move, Emits}
 use Rattle.machine.specs.Laws.Registers.{undo-set2}
 
 -- A way to read the walk of a part of the rule: `says` turns that walk's trace, with what is left to fall back to, into what the machine
@@ -26,6 +26,7 @@ pub record Way : Type 1 where
   pub on-saved : (regs : List ℕ) (st : Stack) (i a b : ℕ) → Base regs st → Base (set2 regs i a b) (saved regs i ∷ st)
   pub on-explore : (regs : List ℕ) (st : Stack) (pc at : ℕ) → Base regs st → Base regs (explore pc at ∷ st)
   pub on-again : (regs : List ℕ) (st : Stack) (q n at : ℕ) → Base regs st → Base regs (again q n at ∷ st)
+  pub on-stretch : (regs : List ℕ) (st : Stack) (pc high low : ℕ) → Base regs st → Base regs (stretch pc high low ∷ st)
 
 unfoldable pub plain : Way
 plain = record {
@@ -36,6 +37,7 @@ plain = record {
   on-saved = λ _ _ _ _ _ _. tt;
   on-explore = λ _ _ _ _ _. tt;
   on-again = λ _ _ _ _ _ _. tt;
+  on-stretch = λ _ _ _ _ _ _. tt;
 }
 
 -- a decision's two ways on, a round and going on, in the order in which they are tried
@@ -63,6 +65,15 @@ module _ (p : Program) (sub : List ℕ) where
   emit-run pc at regs st i e es after d x f t h =
       let m : move p sub (record { pc = pc; at = at; regs = regs; stack = st }) ≡ record { first = shown e; more = map shown es; after = after } = ap (λ (j : Instruction). carryOut p sub j at regs st) d ∙ x in
       (f, ap (λ (z : Move). z .first) m, subst (λ (z : Move). Emits p sub (z .more) (z .after) (es ++ t)) (sym m) (pending es after t h))
+
+  -- the same, where what the move emits is pending
+  pub emit-pending : (pc at : ℕ) (regs : List ℕ) (st : Stack) (i : Instruction) (m : Move) → decode p pc ≡ i → carryOut p sub i at regs st ≡ m → Fits p pc → (t : Trace) → Emits p sub (m .first ∷ m .more) (m .after) t
+      → Emits p sub [] (go pc at regs st) t
+  unfolding Emits move
+  emit-pending pc at regs st i m d x f [] h = absurd h
+  emit-pending pc at regs st i m d x f (e ∷ t) h =
+      let y : move p sub (record { pc = pc; at = at; regs = regs; stack = st }) ≡ m = ap (λ (j : Instruction). carryOut p sub j at regs st) d ∙ x in
+      (f, ap (λ (z : Move). z .first) y ∙ h .0, subst (λ (z : Move). Emits p sub (z .more) (z .after) t) (sym y) (h .1))
 
   -- one event
   emit : (pc at : ℕ) (regs : List ℕ) (st : Stack) (i : Instruction) (e : Event) (after : Now) → decode p pc ≡ i → carryOut p sub i at regs st ≡ emitting (shown e) after → Fits p pc

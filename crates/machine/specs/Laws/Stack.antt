@@ -1,14 +1,16 @@
 -- What a move or falling back leaves of the stack: at most two frames more, all in range, and the same registers once all is undone.
 use mathlib.Core.Path.{_≡_, refl, ap}
 use mathlib.Core.List.{List, [], _∷_}
+use mathlib.Core.Bool.{Bool, true, false}
 use Prim.Native.Nat.{ℕ, zero, suc, _+_, _≤_}
 use native.Mathlib.Omega.{arith}
 use lib.ListN.{length, getD}
+use lib.Dec.{ltb}
 use Rattle.syntax.specs.declared.Greed.the-variants.{Greedy, Lazy}
 use Rattle.semantics.specs.Items.{Tried, fails, goes}
 use Rattle.semantics.specs.Repeats.{Next, round, leave, either}
-use Rattle.machine.specs.Code.{Program, repeatAt, decodeAs, decode, RepeatFits, FitsAs, Fits}
-use Rattle.machine.specs.Moves.{explore, again, undo, Stack, Configuration, Now, set2, saved, begin, bump, fall, decided, decides, tried, carryOut, move}
+use Rattle.machine.specs.Code.{Program, Repeat, repeatAt, decodeAs, decode, RepeatFits, FitsAs, Fits}
+use Rattle.machine.specs.Moves.{explore, again, undo, stretch, Stack, Configuration, Now, set2, saved, go, begin, bump, descend, endsOf, fall, decided, decides, tried, ran, carryOut, move}
 use Rattle.machine.specs.Words.{stackOf}
 use Rattle.machine.specs.Ready.{StackFits, frames, replay, origin}
 use Rattle.machine.specs.Laws.Code.{spans-in-registers}
@@ -37,12 +39,18 @@ module _ (p : Program) where
   unfolding begin repeatAt
   begin-leaves q n at regs st s f = record { low = omega arith; fits = (s .1, f); back = replay-saved regs (repeatAt p q .register) n at st }
 
+  descend-leaves : (b : Bool) (pc high low : ℕ) (regs : List ℕ) (st : Stack) → StackFits p st → Leaves p (length st + 1) (replay regs st) (go pc high regs (descend b pc high low st))
+  unfolding descend replay
+  descend-leaves true pc high low regs st f = record { low = omega arith; fits = (tt, f); back = refl }
+  descend-leaves false pc high low regs st f = record { low = omega arith; fits = f; back = refl }
+
   pub fall-leaves : (regs : List ℕ) (st : Stack) → StackFits p st → Leaves p (length st) (replay regs st) (fall p regs st)
   unfolding fall replay
   fall-leaves regs [] f = record { low = omega arith; fits = tt; back = refl }
   fall-leaves regs (explore pc at ∷ st) f = record { low = omega arith; fits = f .1; back = refl }
   fall-leaves regs (again q n at ∷ st) f = leaves-more (omega arith) (begin-leaves q n at regs st (f .0) (f .1))
   fall-leaves regs (undo i a b ∷ st) f = leaves-more (omega arith) (fall-leaves (set2 regs i a b) st (f .1))
+  fall-leaves regs (stretch pc high low ∷ st) f = leaves-more (omega arith) (descend-leaves (ltb low high) pc high low regs st (f .1))
 
   decided-leaves : (d : Next) (q n at : ℕ) (regs : List ℕ) (st : Stack) → RepeatFits p q → StackFits p st → Leaves p (length st + 2) (replay regs st) (decided p d q n at regs st)
   unfolding decided replay
@@ -55,6 +63,15 @@ module _ (p : Program) where
   unfolding tried
   tried-leaves fails place next at regs st f = leaves-more (omega arith) (fall-leaves regs st f)
   tried-leaves (goes t) place next at regs st f = record { low = omega arith; fits = f; back = refl }
+
+  ends-leaves : (b : Bool) (pc high low : ℕ) (regs : List ℕ) (st : Stack) → StackFits p st → Leaves p (length st + 2) (replay regs st) (fall p regs (endsOf b pc high low st))
+  unfolding endsOf fall
+  ends-leaves true pc high low regs st f = leaves-more (omega arith) (fall-leaves regs st f)
+  ends-leaves false pc high low regs st f = leaves-more (omega arith) (descend-leaves (ltb low high) pc high low regs st f)
+
+  ran-leaves : (q : Repeat) (k at : ℕ) (regs : List ℕ) (st : Stack) → StackFits p st → Leaves p (length st + 2) (replay regs st) (ran p q k at regs st .after)
+  unfolding ran
+  ran-leaves q k at regs st f = ends-leaves _ _ _ _ regs st f
 
   module _ (sub : List ℕ) where
     carried-leaves : (n pc at : ℕ) (regs : List ℕ) (st : Stack) → FitsAs n p pc → StackFits p st → Leaves p (length st + 2) (replay regs st) (carryOut p sub (decodeAs n p pc) at regs st .after)
@@ -69,7 +86,9 @@ module _ (p : Program) where
     carried-leaves (suc (suc (suc (suc (suc (suc zero)))))) pc at regs st w f = record { low = omega arith; fits = f; back = refl }
     carried-leaves (suc (suc (suc (suc (suc (suc (suc zero))))))) pc at regs st w f = decided-leaves _ (pc + 2) 0 at regs st w f
     carried-leaves (suc (suc (suc (suc (suc (suc (suc (suc zero)))))))) pc at regs st w f = decided-leaves _ (pc + 1) _ at regs st w f
-    carried-leaves (suc (suc (suc (suc (suc (suc (suc (suc (suc n))))))))) pc at regs st w f = leaves-more (omega arith) (fall-leaves regs st f)
+    carried-leaves (suc (suc (suc (suc (suc (suc (suc (suc (suc zero))))))))) pc at regs st w f = leaves-more (omega arith) (fall-leaves regs st f)
+    carried-leaves (suc (suc (suc (suc (suc (suc (suc (suc (suc (suc zero)))))))))) pc at regs st w f = ran-leaves _ _ at regs st f
+    carried-leaves (suc (suc (suc (suc (suc (suc (suc (suc (suc (suc (suc n))))))))))) pc at regs st w f = leaves-more (omega arith) (fall-leaves regs st f)
 
     pub move-leaves : (c : Configuration) → Fits p (c .pc) → StackFits p (c .stack) → Leaves p (length (c .stack) + 2) (replay (c .regs) (c .stack)) (move p sub c .after)
     unfolding move decode

@@ -1,12 +1,13 @@
 -- Where a rule stands compiled, the machine emits the rule's walk: one induction over the rule, with a lemma for each form.
 use mathlib.Core.Path.{_≡_, refl, ap, sym, _∙_, subst}
 use mathlib.Core.List.{List, [], _∷_, _++_, append-assoc, append-nil}
+use mathlib.Core.Logic.{inl, inr}
 use mathlib.Core.Bool.{Bool, true, false}
-use Prim.Native.Nat.{ℕ, zero, suc, _+_, _≤_, _<_}
+use Prim.Native.Nat.{ℕ, zero, suc, _+_, _-_, _≤_, _<_}
 use native.Mathlib.Omega.{arith}
 use lib.ListN.{length, getD, drop, take}
-use lib.Dec.{eqb}
-use borrow.Author.Tests.{ltb-true}
+use lib.Dec.{ltb, eqb}
+use borrow.Author.Tests.{ltb-true, ltb-false, lt-ltb, le-ltb}
 use Rattle.charset.specs.Class.{has}
 use Rattle.syntax.specs.declared.Assertion.{Assertion}
 use Rattle.syntax.specs.declared.Greed.{Greed}
@@ -17,20 +18,21 @@ use Rattle.syntax.specs.Read.{byte}
 use Rattle.syntax.specs.Sets.{Class, inClass}
 use Rattle.syntax.specs.Tree.{Item, byteIn, assert, reference, Rule, empty, item, seq, alt, group, repeat, Branches, one, also}
 use Rattle.syntax.specs.WellFormed.{BoundsFit}
-use Rattle.syntax.specs.Compiled.{CompiledItem, Compiled, CompiledBranches}
+use Rattle.syntax.specs.Compiled.{RunOf, CompiledItem, Compiled, CompiledBranches}
 use Rattle.semantics.specs.States.{Choice, branch, again, goOn, State, chose, moved, closed}
 use Rattle.semantics.specs.Items.{Tried, fails, goes, when, refer, try}
-use Rattle.semantics.specs.Repeats.{Next, round, leave, either, decision}
+use Rattle.semantics.specs.Repeats.{Next, round, leave, either, isFull, decision}
 use Rattle.semantics.specs.Derivations.{branchCount}
 use Rattle.semantics.specs.Walk.{step, Trace, Go, _▹_, done, tried, decide, rounds, enough, walk, walks}
 use Rattle.semantics.specs.Laws.Traces.{bind-append, bind-bind, bind-done, bind-end}
 use Rattle.semantics.specs.Laws.Right.{try-reach}
 use Rattle.semantics.specs.Laws.Rounds.{unlessIdle, left, fewer}
-use Rattle.machine.specs.Code.{Program, Test, inSet, holding, sameAs, Instruction, tests, opens, closes, branches, lastBranch, enters, loops, repeatAt, decode, Fits}
-use Rattle.machine.specs.Moves.{Bytes, Stack, emitting, set2, state, go, tested, fall, decides, carryOut, Emits}
+use Rattle.machine.specs.Code.{Program, Test, inSet, holding, sameAs, Instruction, tests, opens, closes, branches, lastBranch, enters, loops, runs, repeatAt, decode, Fits}
+use Rattle.machine.specs.Moves.{Bytes, stretch, Stack, emitting, set2, state, go, tested, takes, extent, allowance, strides, stopped, descend, below, endsOf, fall, decides, ran, bytesOf, carryOut, Emits}
 use Rattle.machine.specs.Laws.Code.{assertion-read, repeat-read, decode-at, fits}
 use Rattle.machine.specs.Laws.Registers.{length-set2, getD-set2, first-set2, second-set2, take-behind, take-within}
-use Rattle.machine.specs.Laws.Run.{Way, plain, join, Run, run-miss, run-hit, run-open, run-close, run-branch, run-last, run-decides, run-end}
+use Rattle.machine.specs.Laws.Run.{Way, plain, join, emit-pending, Run, run-miss, run-hit, run-open, run-close, run-branch, run-last, run-decides, run-end}
+use Rattle.machine.specs.Laws.Extent.{byte-small, takes-inside, owed-room, extent-none, extent-full, extent-more, owed-hit, owed-miss, at-most, both-hit, both-miss}
 use Rattle.machine.specs.Laws.Rounds.{counted, counted-none, bump-counted, decision-counted}
 
 -- Items: the machine's test and the rule's item -------------------------------
@@ -48,12 +50,6 @@ agree-when s true true x y e h = h refl
 agree-when s true false x y e h = let z : _≡_ {A = ℕ} 0 1 = cc in absurd (omega arith)
 agree-when s false true x y e h = let z : _≡_ {A = ℕ} 0 1 = cc in absurd (omega arith)
 agree-when s false false x y e h = tt
-
-byte-small : (sub : List ℕ) → Bytes sub → (i : ℕ) → i < length sub → byte sub i < 256
-unfolding byte
-byte-small [] bytes i h = absurd (omega arith)
-byte-small (b ∷ sub) bytes zero h = bytes 0
-byte-small (b ∷ sub) bytes (suc i) h = byte-small sub (λ j. bytes (suc j)) i (omega arith)
 
 module _ (sub : List ℕ) (s : State) (regs : List ℕ) where
   agree-byte : Bytes sub → (c : Class) (f : ℕ → Bool) → ((x : ℕ) → x < 256 → f x ≡ inClass c x) → Agree s (try sub (byteIn c) s) (tested sub (inSet f) (state (s .at) regs))
@@ -253,6 +249,110 @@ module _ (p : Program) (sub : List ℕ) where
     carries-repeat place pc given room f f′ d d′ l v W s regs k z h =
         run-rounds (pc + 2) given room f′ d′ l v W k (enough sub least (s .at)) (enters (pc + 2)) pc 0 false s regs f d (λ st. rw counted-none) z (omega arith) h
 
+  -- Runs ------------------------------------------------------------------------------
+
+  later-byte : (r : ℕ) {s : State} {regs : List ℕ} → s .at < length sub → Mirrors s regs → Later r s regs (moved (suc (s .at)) s) regs
+  unfolding moved
+  later-byte r h m = record { on = omega arith; mirrors = record { inside = omega arith; size = m .size; spans = m .spans }; kept = λ i _ _. refl }
+
+  base-below : (W : Way) (b : Bool) (pc high low : ℕ) (regs : List ℕ) (st : Stack) → W .Base regs st → W .Base regs (descend b pc high low st)
+  unfolding descend
+  base-below W true pc high low regs st o = W .on-stretch regs st pc _ low o
+  base-below W false pc high low regs st o = o
+
+  below-next : (pc at low : ℕ) (st : Stack) → low ≤ at → below pc (suc at) low st ≡ stretch pc at low ∷ st
+  unfolding descend
+  below-next pc at low st h = let e : suc at - 1 ≡ at = omega arith in rw (lt-ltb low (suc at) (omega arith), e)
+
+  below-none : (pc at : ℕ) (st : Stack) → below pc at at st ≡ st
+  unfolding descend
+  below-none pc at st = rw (le-ltb at at (omega arith))
+
+  module _ (bytes : Bytes sub) (place : ℕ) (c : Class) (least : ℕ) (most : Most) (fit : BoundsFit least most) (next r : ℕ) (f : ℕ → Bool) (same : (x : ℕ) → x < 256 → f x ≡ inClass c x) (W : Way) (k : Go) (regs : List ℕ) where
+    -- the bytes that are taken after n rounds, and what is emitted for k of them
+    abbrev far : (n at : ℕ) → ℕ
+    far n at = extent sub f (allowance most n (length sub - at)) at
+
+    abbrev emitted : (n at k : ℕ) → Trace
+    emitted n at k = step ∷ strides k (stopped (isFull most (n + k)) place (at + k))
+
+    abbrev from : ℕ → ℕ → State → Trace
+    from d m t = rounds (walk sub (item place (byteIn c))) least most Greedy d m false t ▹ k
+
+    -- Once the least rounds are made: the positions below this one are left, and lead to u.
+    abbrev Climbs : (fuel n low : ℕ) → State → Stack → Trace → Type 0
+    Climbs fuel n low s st u = least ≤ n → low ≤ s .at → length sub - s .at < fuel → Mirrors s regs → GoesOn W next r s regs k → W .Base regs st → Emits p sub [] (fall p regs (below next (s .at) low st)) (W .says u)
+        → Emits p sub (emitted n (s .at) (far n (s .at))) (fall p regs (stretch next (s .at + far n (s .at)) low ∷ st)) (W .says (from fuel n s ++ u))
+
+    climb : (fuel n low : ℕ) (s : State) (st : Stack) (u : Trace) → Climbs fuel n low s st u
+    unfolding Run Emits fall strides stopped leaving
+    climb zero n low s st u l h z m g o e = absurd (omega arith)
+    climb (suc fuel) n low s st u l h z m g o e = by (λ s′ v. climb fuel (suc n) low s′ st v) (isFull most n) refl (takes sub f (s .at)) refl
+      where
+        none : s .at + 0 ≡ s .at
+        none = omega arith
+
+        same-round : n + 0 ≡ n
+        same-round = omega arith
+
+        by : ((s′ : State) (v : Trace) → Climbs fuel (suc n) low s′ st v) → (x : Bool) → isFull most n ≡ x → (y : Bool) → takes sub f (s .at) ≡ y
+            → Emits p sub (emitted n (s .at) (far n (s .at))) (fall p regs (stretch next (s .at + far n (s .at)) low ∷ st)) (W .says (from (suc fuel) n s ++ u))
+        by i true x y w = rw (extent-full sub f most n (s .at) x, at-most sub bytes c f same place least most k fuel n s l x, none, same-round, x, W .on-step) (refl, g s regs (at-once r s regs m) _ u (base-below W _ next _ low regs st o) e)
+        by i false x true w =
+            let t = takes-inside sub f (s .at) w in
+            let e₀ : n + suc (far (suc n) (suc (s .at))) ≡ suc n + far (suc n) (suc (s .at)) = omega arith in
+            let e₁ : s .at + suc (far (suc n) (suc (s .at))) ≡ suc (s .at) + far (suc n) (suc (s .at)) = omega arith in
+            let a : Later r s regs (moved (suc (s .at)) (chose (again Greedy) s)) regs = later-chose (again Greedy) (unfold chose in later-byte r t (mirrors-chose (again Greedy) m)) in
+            let d = carries-leaving (either Greedy) W next r s regs k m g _ u (base-below W _ next _ low regs st o) e in
+            rw (extent-more sub f most n (s .at) x w, both-hit sub bytes c f same place least most k fuel n s l x w, e₀, e₁, W .on-step, W .on-step, append-assoc)
+            (refl, (refl, unfold moved chose in i (moved (suc (s .at)) (chose (again Greedy) s)) (k (chose (goOn Greedy) s) ++ u) (omega arith) (omega arith) (omega arith) (a .mirrors) (λ s′ regs′ b. g s′ regs′ (later-still a b)) o (rw (below-next next (s .at) low st h) d)))
+        by i false x false w = rw (extent-none sub f _ (s .at) w, both-miss sub bytes c f same place least most k fuel n s l x w, none, same-round, x, W .on-step, W .on-miss) (refl, (refl, carries-leaving (either Greedy) W next r s regs k m g _ u (base-below W _ next _ low regs st o) e))
+
+    -- From any round on.
+    abbrev Goes : (fuel n : ℕ) → State → Stack → Trace → Type 0
+    Goes fuel n s st u = length sub - s .at < fuel → Mirrors s regs → GoesOn W next r s regs k → W .Base regs st → Emits p sub [] (fall p regs st) (W .says u)
+        → Emits p sub (emitted n (s .at) (far n (s .at))) (fall p regs (endsOf (ltb (n + far n (s .at)) least) next (s .at + far n (s .at)) (s .at + (least - n)) st)) (W .says (from fuel n s ++ u))
+
+    run-bytes : (fuel n : ℕ) (s : State) (st : Stack) (u : Trace) → Goes fuel n s st u
+    unfolding Emits strides stopped endsOf
+    run-bytes zero n s st u z m g o e = absurd (omega arith)
+    run-bytes (suc fuel) n s st u z m g o e = by (λ s′. run-bytes fuel (suc n) s′ st u) (ltb n least) refl (takes sub f (s .at)) refl
+      where
+        none : s .at + 0 ≡ s .at
+        none = omega arith
+
+        same-round : n + 0 ≡ n
+        same-round = omega arith
+
+        by : ((s′ : State) → Goes fuel (suc n) s′ st u) → (x : Bool) → ltb n least ≡ x → (y : Bool) → takes sub f (s .at) ≡ y
+            → Emits p sub (emitted n (s .at) (far n (s .at))) (fall p regs (endsOf (ltb (n + far n (s .at)) least) next (s .at + far n (s .at)) (s .at + (least - n)) st)) (W .says (from (suc fuel) n s ++ u))
+        by i true x true w =
+            let l = ltb-true n least x in
+            let a = later-byte r (takes-inside sub f (s .at) w) m in
+            let e₀ : n + suc (far (suc n) (suc (s .at))) ≡ suc n + far (suc n) (suc (s .at)) = omega arith in
+            let e₁ : s .at + suc (far (suc n) (suc (s .at))) ≡ suc (s .at) + far (suc n) (suc (s .at)) = omega arith in
+            let e₂ : s .at + (least - n) ≡ suc (s .at) + (least - suc n) = omega arith in
+            rw (extent-more sub f most n (s .at) (owed-room least most n fit l) w, owed-hit sub bytes c f same place least most k fuel n s l w, e₀, e₁, e₂, W .on-step, W .on-step)
+            (refl, (refl, unfold moved in i (moved (suc (s .at)) s) (omega (arith, takes-inside sub f (s .at) w)) (a .mirrors) (λ s′ regs′ b. g s′ regs′ (later-still a b)) o e))
+        by i true x false w =
+            let l = ltb-true n least x in
+            rw (extent-none sub f _ (s .at) w, owed-miss sub bytes c f same place least most k fuel n s l w, none, same-round, owed-room least most n fit l, x, W .on-step, W .on-miss) (refl, (refl, e))
+        by i false x y w =
+            let l = ltb-false n least x in
+            let e₀ : s .at + (least - n) ≡ s .at = omega arith in
+            rw (le-ltb (n + far n (s .at)) least (omega arith), e₀) (climb (suc fuel) n (s .at) s st u l (omega arith) z m g o (rw (below-none next (s .at) st) e))
+
+  carries-run : Bytes sub → (at-rule place : ℕ) (c : Class) (least : ℕ) (most : Most) (pc next r body : ℕ) → BoundsFit least most → ((x : ℕ) → x < 256 → has (drop (body + 3) p) x ≡ inClass c x) → getD p (body + 2) 0 ≡ place
+      → repeatAt p (pc + 2) ≡ record { least = least; most = most; greed = Greedy; register = r; body = body; next = next } → Fits p pc → decode p pc ≡ runs (pc + 2)
+      → Carries (walk sub (repeat at-rule least most Greedy (item place (byteIn c)))) pc next r
+  unfolding Run walk enough carryOut ran bytesOf
+  carries-run bytes at-rule place c least most pc next r body fit same origin given f d W s regs k m h st u o z =
+      let k₀ = extent sub (has (drop (body + 3) p)) (allowance most 0 (length sub - s .at)) (s .at) in
+      let e₀ : 0 + k₀ ≡ k₀ = omega arith in
+      let e₁ : least - 0 ≡ least = omega arith in
+      let i = run-bytes bytes place c least most fit next r (has (drop (body + 3) p)) same W k regs (enough sub least (s .at)) 0 s st u (omega arith) m h o z in
+      emit-pending p sub pc (s .at) regs st (runs (pc + 2)) (ran p (repeatAt p (pc + 2)) (bytesOf p sub (repeatAt p (pc + 2)) 0 (s .at)) (s .at) regs st) d refl f _ (rw (given, origin) (rw (e₀, e₁) at i))
+
   -- Rules -----------------------------------------------------------------------------
 
   module _ (lo hi : ℕ) (within : hi ≤ length p) (bytes : Bytes sub) where
@@ -266,6 +366,13 @@ module _ (p : Program) (sub : List ℕ) where
     items (reference n) place pc next r k =
         let o = k .node in
         carries-item place (reference n) (sameAs (slot n)) pc next r (fits p pc 2 (o .is) (omega (arith, o .high)) (omega (arith, o .high), rw (k .span) (k .fits))) (decode-at p pc 2 (o .is) ∙ rw (k .goes, k .origin, k .span)) (λ s regs e. agree-reference sub s regs n e)
+
+    works-run : (g : Greed) (a : Rule) (place least : ℕ) (most : Most) (pc next r body loop r′ : ℕ) → RunOf g a → BoundsFit least most
+        → repeatAt p (pc + 2) ≡ record { least = least; most = most; greed = g; register = r; body = body; next = next } → pc + 8 ≤ length p → getD p (pc + 6) 0 ≡ body → getD p pc 0 ≡ 10 → Compiled p lo hi a body loop r′
+        → Carries (walk sub (repeat place least most g a)) pc next r
+    unfolding Compiled
+    works-run Greedy (item place′ (byteIn s)) place least most pc next r body loop r′ single fit given h e is k =
+        carries-run bytes place place′ s least most pc next r body fit (k .set) (k .origin) given (fits p pc 10 is (omega arith) (h, rw e (omega (arith, k .node .high)))) (decode-at p pc 10 is)
 
     mutual
       unfolding Compiled walk
@@ -295,10 +402,14 @@ module _ (p : Program) (sub : List ℕ) where
           let e₄ : pc + 2 + 5 ≡ pc + 7 = omega arith in
           let e₅ : pc + 1 + 1 + 3 ≡ pc + 5 = omega arith in
           let given = repeat-read p (pc + 2) least most g r (c .body) next (c .bounds) (c .least) (rw e₀ (c .most)) (rw e₁ (c .greed)) (rw e₂ (c .register)) (rw e₃ (c .enters)) (rw e₄ (c .goes)) in
-          carries-repeat least most g a next r (c .body) (pc + 1) (c .bounds) place pc given (c .room)
-          (fits p pc 7 (o .is) (omega (arith, o .high)) (omega (arith, o .high), rw (e₂, c .register) (c .room)))
-          (fits p (pc + 1) 8 (c .loop) (omega (arith, o .high)) (omega (arith, o .high), rw (e₅, c .register) (c .room)))
-          (decode-at p pc 7 (o .is)) (decode-at p (pc + 1) 8 (c .loop) ∙ ap loops two) l (works a (c .body) (pc + 1) (r + 2) (c .inner) (omega arith))
+          elim (c .entered) [
+            | inl is ↦
+                carries-repeat least most g a next r (c .body) (pc + 1) (c .bounds) place pc given (c .room)
+                (fits p pc 7 (o .is ∙ is) (omega (arith, o .high)) (omega (arith, o .high), rw (e₂, c .register) (c .room)))
+                (fits p (pc + 1) 8 (c .loop) (omega (arith, o .high)) (omega (arith, o .high), rw (e₅, c .register) (c .room)))
+                (decode-at p pc 7 (o .is ∙ is)) (decode-at p (pc + 1) 8 (c .loop) ∙ ap loops two) l (works a (c .body) (pc + 1) (r + 2) (c .inner) (omega arith))
+            | inr is ↦ works-run g a place least most pc next r (c .body) (pc + 1) (r + 2) (is .1) (c .bounds) given (omega (arith, o .high)) (c .enters) (o .is ∙ is .0) (c .inner)
+          ]
 
       works-branches : (bs : Branches) (pc other next r : ℕ) → CompiledBranches p lo hi bs pc other next r → spansLength ≤ r → CarriesBranches bs pc other next r
       works-branches (one a) pc other next r c l =

@@ -29,6 +29,7 @@ use Rattle.linker.proofs.+link_alternation+link_branches+link_chain+lin
 use Rattle.linker.proofs.before_of.Reads as before-of-reads
 use Rattle.linker.proofs.close_group.Reads as close-group-reads
 use Rattle.linker.proofs.close_repeat.Reads as close-repeat-reads
+use Rattle.linker.proofs.entry_kind.Reads as entry-kind-reads
 use Rattle.linker.proofs.link_reference.Reads as link-reference-reads
 use Rattle.linker.proofs.put.Reads as put-reads
 use Rattle.linker.proofs.put_two.Reads as put-two-reads
@@ -155,4 +156,4 @@ abbrev pub link-plain-calls : ℕ → link-plain-lts.Claims
 link-plain-calls t = (word-reads.Asked, word-reads.Learnt, link-inside-below t, link-inside.Post)
 
 abbrev pub link-repeat-calls : ℕ → link-repeat-lts.Claims
-link-repeat-calls t = (word-reads.Asked, word-reads.Learnt, link-part-below t, link-part.Post, close-repeat-reads.Asked, close-repeat-reads.Learnt)
+link-repeat-calls t = (word-reads.Asked, word-reads.Learnt, entry-kind-reads.Asked, entry-kind-reads.Learnt, link-part-below t, link-part.Post, close-repeat-reads.Asked, close-repeat-reads.Learnt)

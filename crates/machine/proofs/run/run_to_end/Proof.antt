@@ -1,11 +1,12 @@
 -- `run_to_end` meets its contract. The loop's invariant: the machine is ready for the steps that are left, and what it finds from here on is what
 -- it finds from the start. The measure is the steps that are left.
-use mathlib.Core.Path.{refl}
+use mathlib.Core.Path.{refl, _∙_}
 use Prim.Native.Nat.{_-_}
 use native.Mathlib.Omega.{arith}
 use denote.Ref.{now}
 use borrow.Author.Needs.{needs}
-use Rattle.machine.proofs.Walking.{Walking, walking-start, walking-none, walking-fits, walking-stack, walking-low, walking-out, walking-end, walking-on}
+use Rattle.machine.specs.Laws.Code.{fits-at}
+use Rattle.machine.proofs.Walking.{Walking, walking-start, walking-none, walking-fits, walking-stack, walking-low, walking-out, walking-end, walking-on, walking-cut, made-some, made-few, walking-run}
 use Rattle.machine.proofs.run.run_to_end.Statement.{statement}
 use Rattle.machine.proofs.run.run_to_end.Tie as tie
 
@@ -38,17 +39,55 @@ mul-kind c = omega (arith, walking-fits (c .before .before .before .loop .inv) (
 shared-slice-read-kind : tie.Need-shared-slice-read-kind Inv-loop μ-loop
 shared-slice-read-kind c = walking-fits (c .before .before .before .before .loop .inv) (c .before .before .before .loop-test .taken) .here
 
-add-used : tie.Need-add-used Inv-loop μ-loop
-add-used c = omega (arith, c .before .before .before .before .loop .inv .few)
+add-t19 : tie.Need-add-t19 Inv-loop μ-loop
+add-t19 c = omega (arith, c .before .before .before .before .before .before .loop .inv .few)
 
 same-length-3 : tie.Need-same-length-3 Inv-loop μ-loop
-same-length-3 c = c .before .before .before .before .before .loop .inv .size
+same-length-3 c = c .before .before .before .before .before .before .loop .inv .size
 
 same-length-4 : tie.Need-same-length-4 Inv-loop μ-loop
-same-length-4 c = c .before .before .before .before .before .loop .inv .wide
+same-length-4 c = c .before .before .before .before .before .before .loop .inv .wide
 
 returns-2 : tie.Need-returns-2 Inv-loop μ-loop
-returns-2 c = walking-end (c .before .before .before .before .before .loop .inv) (c .before .before .before .before .loop-test .taken) (omega (arith, c .before .before .before .before .before .loop .inv .few, c .before .before .before .if1 .left)) (c .if2 .taken)
+returns-2 c = walking-end (c .before .before .before .before .before .before .loop .inv) (c .before .before .before .before .before .loop-test .taken) (omega (arith, c .before .before .before .before .before .before .loop .inv .few, c .before .before .before .before .if1 .left)) (c .before .if2 .taken) (c .if3 .taken)
+
+sub-take-run : tie.Need-sub-take-run Inv-loop μ-loop
+sub-take-run c = omega (arith, c .before .before .before .before .before .before .before .before .loop .inv .few)
+
+take-run-requires : tie.Need-take-run-requires Inv-loop μ-loop
+take-run-requires c κs =
+    let s = c .before .before .before .before .before .before .before .before .before .before .before .before .before in
+    let g = c .before .before .before .before .before .before .before .before .loop .inv in
+    let t = c .before .before .before .before .before .before .before .loop-test .taken in
+    let f = fits-at (now (s .args .code)) (c .before .before .before .before .before .before .before .before .loop .head .pc) 10 (c .before .before .if3 .left) (walking-fits g t) in
+    ((f .0, f .1, s .pre .0 .1, s .pre .0 .2, omega (arith, s .pre .0 .0, g .size), omega (arith, walking-low g t, g .wide, g .few, c .before .before .before .before .before .before .if1 .left)), walking-stack g t)
+
+enum-known-n : tie.Need-enum-known-n Inv-loop μ-loop
+enum-known-n c = search needs
+
+enum-told : tie.Need-enum-told Inv-loop μ-loop
+enum-told c = search needs
+
+same-length-5 : tie.Need-same-length-5 Inv-loop μ-loop
+same-length-5 c = c .before .before .before .before .before .before .take-run .kept .1 .1 .0 ∙ c .before .before .before .before .before .before .before .before .before .before .before .before .before .before .before .loop .inv .size
+
+same-length-6 : tie.Need-same-length-6 Inv-loop μ-loop
+same-length-6 c = c .before .before .before .before .before .before .take-run .kept .1 .1 .1 .0 ∙ c .before .before .before .before .before .before .before .before .before .before .before .before .before .before .before .loop .inv .wide
+
+returns-3 : tie.Need-returns-3 Inv-loop μ-loop
+returns-3 c = walking-cut (c .before .before .before .before .before .before .before .before .before .before .before .before .before .before .before .loop .inv) (c .before .before .before .before .before .before .before .before .before .before .before .before .before .before .loop-test .taken) (c .before .before .before .before .before .before .before .before .before .if3 .left) _ _ _ (c .before .before .before .before .before .before .take-run .ensures) (c .enum-told .given .1)
+
+add-used : tie.Need-add-used Inv-loop μ-loop
+add-used c = omega (arith, c .before .before .before .before .before .before .before .before .before .before .before .before .before .before .before .before .loop .inv .few, made-few (c .before .before .before .before .before .before .before .before .before .before .before .before .before .before .before .before .loop .inv) (c .before .before .before .before .before .before .before .before .before .before .before .before .before .before .before .loop-test .taken) (c .before .before .before .before .before .before .before .before .before .before .if3 .left) _ _ _ (c .before .before .before .before .before .before .before .take-run .ensures) _ _ (c .before .n .given .1))
+
+loop-less : tie.Need-loop-less Inv-loop μ-loop
+loop-less c = omega (arith, c .before .before .before .before .before .before .before .before .before .before .before .before .before .before .before .before .loop .inv .few, made-few (c .before .before .before .before .before .before .before .before .before .before .before .before .before .before .before .before .loop .inv) (c .before .before .before .before .before .before .before .before .before .before .before .before .before .before .before .loop-test .taken) (c .before .before .before .before .before .before .before .before .before .before .if3 .left) _ _ _ (c .before .before .before .before .before .before .before .take-run .ensures) _ _ (c .before .n .given .1), made-some (c .before .before .before .before .before .before .before .before .before .before .before .before .before .before .before .before .loop .inv) (c .before .before .before .before .before .before .before .before .before .before .before .before .before .before .before .loop-test .taken) (c .before .before .before .before .before .before .before .before .before .before .if3 .left) _ _ _ (c .before .before .before .before .before .before .before .take-run .ensures) _ _ (c .before .n .given .1))
+
+loop-again : tie.Need-loop-again Inv-loop μ-loop
+loop-again c = walking-run (c .before .before .before .before .before .before .before .before .before .before .before .before .before .before .before .before .loop .inv) (c .before .before .before .before .before .before .before .before .before .before .before .before .before .before .before .loop-test .taken) (c .before .before .before .before .before .before .before .before .before .before .if3 .left) _ _ _ (c .before .before .before .before .before .before .before .take-run .ensures) _ _ (c .before .n .given .1) (c .before .before .before .before .before .before .before .take-run .kept .1 .1 .0) (c .before .before .before .before .before .before .before .take-run .kept .1 .1 .1 .0)
+
+add-used-2 : tie.Need-add-used-2 Inv-loop μ-loop
+add-used-2 c = omega (arith, c .before .before .before .before .before .loop .inv .few)
 
 step-requires : tie.Need-step-requires Inv-loop μ-loop
 step-requires c κs =
@@ -57,20 +96,20 @@ step-requires c κs =
     let t = c .before .before .before .before .before .before .loop-test .taken in
     ((refl, c .before .before .if2 .left, omega (arith, s .pre .0 .0, g .size), omega (arith, walking-low g t, g .wide, g .few, c .before .before .before .before .before .if1 .left), s .pre .0 .1, s .pre .0 .2), (walking-fits g t, walking-stack g t))
 
-loop-less : tie.Need-loop-less Inv-loop μ-loop
-loop-less c = omega (arith, c .before .before .before .before .before .before .before .before .before .before .before .before .loop .inv .few)
+loop-less-2 : tie.Need-loop-less-2 Inv-loop μ-loop
+loop-less-2 c = omega (arith, c .before .before .before .before .before .before .before .before .before .before .before .before .loop .inv .few)
 
-loop-again : tie.Need-loop-again Inv-loop μ-loop
-loop-again c = walking-on (c .before .before .before .before .before .before .before .before .before .before .before .before .loop .inv) (c .before .before .before .before .before .before .before .before .before .before .before .loop-test .taken) _ _ _ (omega (arith, c .before .before .before .before .before .before .before .before .before .before .before .before .loop .inv .few, c .before .before .before .before .before .before .before .before .before .before .if1 .left)) (c .before .before .before .before .before .before .before .if2 .left) (c .before .before .before .before .step .ensures) (c .before .before .before .before .step .kept .1 .1 .0) (c .before .before .before .before .step .kept .1 .1 .1 .0)
+loop-again-2 : tie.Need-loop-again-2 Inv-loop μ-loop
+loop-again-2 c = walking-on (c .before .before .before .before .before .before .before .before .before .before .before .before .loop .inv) (c .before .before .before .before .before .before .before .before .before .before .before .loop-test .taken) _ _ _ (omega (arith, c .before .before .before .before .before .before .before .before .before .before .before .before .loop .inv .few, c .before .before .before .before .before .before .before .before .before .before .if1 .left)) (c .before .before .before .before .before .before .before .if2 .left) (c .before .before .before .before .step .ensures) (c .before .before .before .before .step .kept .1 .1 .0) (c .before .before .before .before .step .kept .1 .1 .1 .0)
 
-same-length-5 : tie.Need-same-length-5 Inv-loop μ-loop
-same-length-5 c = c .before .loop .inv .size
+same-length-7 : tie.Need-same-length-7 Inv-loop μ-loop
+same-length-7 c = c .before .loop .inv .size
 
-same-length-6 : tie.Need-same-length-6 Inv-loop μ-loop
-same-length-6 c = c .before .loop .inv .wide
+same-length-8 : tie.Need-same-length-8 Inv-loop μ-loop
+same-length-8 c = c .before .loop .inv .wide
 
-returns-3 : tie.Need-returns-3 Inv-loop μ-loop
-returns-3 c = walking-none (c .before .loop .inv) (c .loop-test .left)
+returns-4 : tie.Need-returns-4 Inv-loop μ-loop
+returns-4 c = walking-none (c .before .loop .inv) (c .loop-test .left)
 
 pub run-to-end-spec : {M : Type 1} → statement M
 run-to-end-spec =
@@ -85,13 +124,24 @@ run-to-end-spec =
     cast-pc
     mul-kind
     shared-slice-read-kind
-    add-used
+    add-t19
     same-length-3
     same-length-4
     returns-2
-    step-requires
-    loop-less
-    loop-again
+    sub-take-run
+    take-run-requires
+    enum-known-n
+    enum-told
     same-length-5
     same-length-6
-    returns-3)
+    returns-3
+    add-used
+    loop-less
+    loop-again
+    add-used-2
+    step-requires
+    loop-less-2
+    loop-again-2
+    same-length-7
+    same-length-8
+    returns-4)

@@ -9,7 +9,7 @@ use borrow.Author.Needs.{needs}
 use Rattle.machine.specs.Moves.{fall}
 use Rattle.machine.specs.Words.{stackOf}
 use Rattle.machine.specs.Ready.{StackFits}
-use Rattle.machine.proofs.Frames.{pop-explore, pop-again, pop-undo, pop-none, fits-rest, fits-again, fits-undo}
+use Rattle.machine.proofs.Frames.{pop-explore, pop-again, pop-stretch, pop-undo, pop-none, fits-rest, fits-again, fits-undo}
 use Rattle.machine.proofs.stack.fall_back.Statement.{statement}
 use Rattle.machine.proofs.stack.fall_back.Tie as tie
 
@@ -92,20 +92,8 @@ same-length-4 c = search needs
 returns-2 : tie.Need-returns-2 Inv-loop μ-loop
 returns-2 c = c .before .before .before .before .begin-round .ensures ∙ sym (pop-again _ _ _ (c .before .before .before .before .before .before .before .before .before .before .before .before .before .loop-test .taken) _ (c .before .before .before .before .before .before .before .if2 .taken)) ∙ c .before .before .before .before .before .before .before .before .before .before .before .before .before .before .loop .inv .4
 
-cast-i : tie.Need-cast-i Inv-loop μ-loop
-cast-i c = omega (arith, c .before .before .before .slice-known5 .given (4 * (c .before .before .before .before .before .before .before .loop .h - 1) + 2))
-
-write-pair-requires : tie.Need-write-pair-requires Inv-loop μ-loop
-write-pair-requires c κs = omega (arith, fits-undo (now (c .before .before .before .before .before .before .before .before .before .before .before .before .args .code)) (c .before .before .before .before .before .before .before .before .loop .work) (c .before .before .before .before .before .before .before .before .loop .h) (c .before .before .before .before .before .before .before .loop-test .taken) (c .before .before .before .before .before .before .before .before .loop .inv .3) (c .before .before .if1 .left) (c .before .if2 .left), c .before .before .before .before .before .before .before .before .loop .inv .1, c .before .before .before .before .before .before .before .before .before .before .before .before .pre .0 .0)
-
-loop-less : tie.Need-loop-less Inv-loop μ-loop
-loop-less c = search needs
-
-loop-again : tie.Need-loop-again Inv-loop μ-loop
-loop-again c =
-    let l = c .before .before .before .before .before .before .before .before .before .before .before .loop in
-    let t = c .before .before .before .before .before .before .before .before .before .before .loop-test .taken in
-    (omega arith, c .before .before .write-pair .kept .0 ∙ l .inv .1, l .inv .2, fits-rest _ _ _ t (l .inv .3), rw (c .before .before .write-pair .ensures) (sym (pop-undo _ _ _ t _ (c .before .before .before .before .before .if1 .left) (c .before .before .before .before .if2 .left)) ∙ l .inv .4))
+go-down-requires : tie.Need-go-down-requires Inv-loop μ-loop
+go-down-requires c κs = omega (arith, c .before .before .before .before .before .before .before .before .before .loop .inv .2)
 
 same-length-5 : tie.Need-same-length-5 Inv-loop μ-loop
 same-length-5 c = search needs
@@ -114,7 +102,31 @@ same-length-6 : tie.Need-same-length-6 Inv-loop μ-loop
 same-length-6 c = search needs
 
 returns-3 : tie.Need-returns-3 Inv-loop μ-loop
-returns-3 c = sym (pop-none (now (c .before .before .before .before .before .args .code)) (c .before .loop .work) (c .before .loop .h) (c .before .loop .regs) (c .loop-test .left)) ∙ c .before .loop .inv .4
+returns-3 c = c .before .before .go-down .ensures _ ∙ sym (pop-stretch _ _ _ (c .before .before .before .before .before .before .before .before .before .before .before .loop-test .taken) _ (c .before .before .before .before .if3 .taken)) ∙ c .before .before .before .before .before .before .before .before .before .before .before .before .loop .inv .4
+
+cast-i : tie.Need-cast-i Inv-loop μ-loop
+cast-i c = omega (arith, c .before .before .before .before .slice-known5 .given (4 * (c .before .before .before .before .before .before .before .before .loop .h - 1) + 2))
+
+write-pair-requires : tie.Need-write-pair-requires Inv-loop μ-loop
+write-pair-requires c κs = omega (arith, fits-undo (now (c .before .before .before .before .before .before .before .before .before .before .before .before .before .args .code)) (c .before .before .before .before .before .before .before .before .before .loop .work) (c .before .before .before .before .before .before .before .before .before .loop .h) (c .before .before .before .before .before .before .before .before .loop-test .taken) (c .before .before .before .before .before .before .before .before .before .loop .inv .3) (c .before .before .before .if1 .left) (c .before .before .if2 .left) (c .before .if3 .left), c .before .before .before .before .before .before .before .before .before .loop .inv .1, c .before .before .before .before .before .before .before .before .before .before .before .before .before .pre .0 .0)
+
+loop-less : tie.Need-loop-less Inv-loop μ-loop
+loop-less c = search needs
+
+loop-again : tie.Need-loop-again Inv-loop μ-loop
+loop-again c =
+    let l = c .before .before .before .before .before .before .before .before .before .before .before .before .loop in
+    let t = c .before .before .before .before .before .before .before .before .before .before .before .loop-test .taken in
+    (omega arith, c .before .before .write-pair .kept .0 ∙ l .inv .1, l .inv .2, fits-rest _ _ _ t (l .inv .3), rw (c .before .before .write-pair .ensures) (sym (pop-undo _ _ _ t _ (c .before .before .before .before .before .before .if1 .left) (c .before .before .before .before .before .if2 .left) (c .before .before .before .before .if3 .left)) ∙ l .inv .4))
+
+same-length-7 : tie.Need-same-length-7 Inv-loop μ-loop
+same-length-7 c = search needs
+
+same-length-8 : tie.Need-same-length-8 Inv-loop μ-loop
+same-length-8 c = search needs
+
+returns-4 : tie.Need-returns-4 Inv-loop μ-loop
+returns-4 c = sym (pop-none (now (c .before .before .before .before .before .args .code)) (c .before .loop .work) (c .before .loop .h) (c .before .loop .regs) (c .loop-test .left)) ∙ c .before .loop .inv .4
 
 pub fall-back-spec : {M : Type 1} → statement M
 fall-back-spec =
@@ -144,10 +156,14 @@ fall-back-spec =
     same-length-3
     same-length-4
     returns-2
+    go-down-requires
+    same-length-5
+    same-length-6
+    returns-3
     cast-i
     write-pair-requires
     loop-less
     loop-again
-    same-length-5
-    same-length-6
-    returns-3)
+    same-length-7
+    same-length-8
+    returns-4)
