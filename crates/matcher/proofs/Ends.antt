@@ -22,10 +22,11 @@ use Rattle.machine.specs.Theorem.{at-end, at-nothing, at-spent}
 use Rattle.machine.specs.Laws.Code.{spans-in-registers}
 use Rattle.machine.specs.Laws.Loop.{until-ended, until-nothing, until-spent}
 use Rattle.matcher.specs.declared.listing.Noted.the-variants.{Kept, NoRoom}
-use Rattle.matcher.specs.Rows.{rowOf, rowsAt, Whole}
+use Rattle.index.specs.Rows.{rowOf, rowsAt, Whole}
 use Rattle.matcher.specs.Listing.{Notes, Holds, Course, Going, Tells, Through}
 use Rattle.matcher.specs.Laws.Areas.{over-length}
-use Rattle.matcher.specs.Laws.Rows.{rowOf-length, rowOf-row, whole-append, joined-length, row-behind, rows-written}
+use Rattle.index.specs.Laws.Rows.{rowOf-length, rowOf-row, whole-append}
+use Rattle.matcher.specs.Laws.Rows.{joined-length, row-behind, rows-written}
 
 -- Rows and room ---------------------------------------------------------------
 
@@ -63,6 +64,11 @@ module _ {rows : List Row} {old area : List ℕ} {n : ℕ} (h : Holds rows old a
     many = length-append rows (x ∷ []) ∙ omega (arith, h .many);
     written = e ∙ rw (h .written) (row-behind rows x old (n * rowLength) numbers l);
   }
+
+-- noting a reading writes at most one row
+pub noted-one : {area : List ℕ} {earlier rows : ℕ} {x : Row} {new : List ℕ} {n : ℕ} → Notes area earlier rows x new (Kept n) → n ≤ rows + 1
+noted-one (inl h) = omega (arith, h .1)
+noted-one (inr h) = omega (arith, h .more)
 
 -- A turn ------------------------------------------------------------------------
 

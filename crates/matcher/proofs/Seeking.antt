@@ -2,7 +2,9 @@
 -- walk is a law of the loops in semantics, at the place in the trace that the run tells.
 use mathlib.Core.Path.{_≡_, refl, sym, _∙_, subst}
 use mathlib.Core.List.{List, [], _∷_, _++_, append-nil}
-use Prim.Native.Nat.{ℕ, suc, _+_, _*_, _-_, _≤_, _<_}
+use mathlib.Core.Logic.{_⊎_, inl, inr}
+use mathlib.Core.Bool.{false}
+use Prim.Native.Nat.{ℕ, zero, suc, _+_, _*_, _-_, _≤_, _<_}
 use native.Mathlib.Omega.{arith}
 use native.Mathlib.Numerals.{add-one}
 use lib.ListN.{length, take, drop}
@@ -16,16 +18,18 @@ use Rattle.semantics.specs.Laws.Loops.{MatchAt, match-begin, match-quiet, match
 use Rattle.machine.specs.declared.Machine.{Machine}
 use Rattle.machine.specs.declared.Stop.{Stop}
 use Rattle.machine.specs.declared.Stop.the-variants.{End, Nothing, Spent}
-use Rattle.machine.specs.Moves.{Bytes, Now, go}
+use Rattle.charset.specs.Class.{has}
+use Rattle.machine.specs.Moves.{Bytes, Now, go, takes}
 use Rattle.machine.specs.Words.{nowOf}
 use Rattle.machine.specs.Ready.{ended, nothing, spent, until, Ready, Agrees}
 use Rattle.machine.specs.Theorem.{Stands, Clear, begins, at-end, at-nothing, at-spent}
 use Rattle.machine.specs.Laws.Loop.{until-ended, until-nothing, until-spent}
 use Rattle.matcher.specs.declared.matching.Outcome.the-variants.{Matched, NotMatched, Exhausted}
-use Rattle.matcher.specs.Rows.{rowOf}
+use Rattle.matcher.specs.Openings.{Skips, Passed}
+use Rattle.index.specs.Rows.{rowOf}
 use Rattle.matcher.specs.Outcomes.{Reports}
 use Rattle.matcher.specs.Laws.Areas.{over-first}
-use Rattle.matcher.specs.Laws.Rows.{rowOf-length, rowOf-row}
+use Rattle.index.specs.Laws.Rows.{rowOf-length, rowOf-row}
 
 -- One start -------------------------------------------------------------------
 
@@ -121,3 +125,45 @@ module _ {p sub r₀ w₀ area₀ : List ℕ} {entry budget : ℕ} {r w area : L
                   (let e : length sub - begin ≡ 0 = omega arith in
                   match-last sub x budget (steps + used) begin 0 (budget - used) (rw e at (left x st)));
             }
+
+-- Starts that are skipped --------------------------------------------------------
+
+module _ {p sub r₀ w₀ area₀ : List ℕ} {entry budget : ℕ} {r w area : List ℕ} (bytes : Bytes sub) (clear : Clear r₀) (room : 8 * budget ≤ length w₀) (small : budget < 4294967296) where
+  -- one start, whose walk finds nothing
+  seeking-pass : (begin steps used : ℕ) → Seeking p sub r₀ w₀ area₀ entry budget r w area begin steps → begin ≤ length sub → used ≤ budget → ((x : Rule) → Stands p x entry → until budget 0 (trace sub x begin) ≡ nothing used)
+      → Seeking p sub r₀ w₀ area₀ entry budget r w area (begin + 1) (steps + used)
+  seeking-pass begin steps used g h l e =
+      record {
+        same = g .same;
+        wide = g .wide;
+        kept = g .kept;
+        few = omega (arith, g .few);
+        small = omega (arith, g .small);
+        goes = λ x st n.
+            (let z : length sub - begin ≡ suc (length sub - (begin + 1)) = omega arith in
+            let y = found-nothing sub x budget steps begin (length sub - begin) (trace sub x begin) (g .goes x st h) used (e x st) in
+            rw (add-one begin) (match-next sub x budget (steps + used) begin (length sub - suc begin) (budget - used) (rw (add-one begin) at (rw z at y))));
+        none = λ x st n.
+            (let z : length sub - begin ≡ 0 = omega arith in
+            let y = found-nothing sub x budget steps begin (length sub - begin) (trace sub x begin) (g .goes x st h) used (e x st) in
+            match-last sub x budget (steps + used) begin 0 (budget - used) (rw z at y));
+      }
+
+  seeking-skips : (base cost : ℕ) → Skips p entry budget base cost → (d begin steps : ℕ) → begin + d ≤ length sub → ((i : ℕ) → begin ≤ i → i < begin + d → takes sub (has (drop base p)) i ≡ false) → Seeking p sub r₀ w₀ area₀ entry budget r w area begin steps
+      → Seeking p sub r₀ w₀ area₀ entry budget r w area (begin + d) (steps + d * cost)
+  seeking-skips base cost k zero begin steps l e g = let z : begin + 0 ≡ begin = omega arith in let y : steps + 0 * cost ≡ steps = omega arith in rw (z, y) g
+  seeking-skips base cost k (suc d) begin steps l e g =
+      let z : begin + 1 + d ≡ begin + suc d = omega arith in
+      let y : steps + cost + d * cost ≡ steps + suc d * cost = omega arith in
+      let n = seeking-pass begin steps cost g (omega arith) (k .few) (λ x st. k .tells sub r (length w) r (trace sub x begin) begin (begins p sub x entry begin budget (length w) r st bytes (rw (g .same) clear) (omega arith) (omega (arith, g .wide))) (e begin (omega arith) (omega arith))) in
+      rw (z, y) at (seeking-skips base cost k d (begin + 1) (steps + cost) (omega arith) (λ i m o. e i (omega arith) (omega arith)) n)
+
+  pub seeking-from : (base cost begin from steps : ℕ) → (cost ≡ 0) ⊎ Skips p entry budget base cost → Passed p sub base cost begin from → Seeking p sub r₀ w₀ area₀ entry budget r w area begin steps
+      → Seeking p sub r₀ w₀ area₀ entry budget r w area from (steps + (from - begin) * cost)
+  seeking-from base cost begin from steps (inl e) x g =
+      let z = x .none e in
+      let y : steps + (from - begin) * cost ≡ steps = rw e (omega arith) in
+      rw (y, z) g
+  seeking-from base cost begin from steps (inr k) x g =
+      let z : begin + (from - begin) ≡ from = omega (arith, x .on) in
+      rw z at (seeking-skips base cost k (from - begin) begin steps (omega (arith, x .on, x .inside)) (λ i l h. x .missed i l (omega (arith, x .on))) g)

@@ -2,6 +2,7 @@
 use mathlib.Core.Path.{_≡_, refl, sym, _∙_}
 use mathlib.Core.List.{List, [], _++_, append-nil}
 use Prim.Native.Nat.{ℕ, suc, _+_, _-_, _*_, _^_, _≤_, _<_}
+use native.Mathlib.Nat.{le-refl}
 use native.Mathlib.Numerals.{add-one}
 use native.Mathlib.Omega.{arith}
 use lib.ListN.{length}
@@ -81,7 +82,7 @@ pub record Turning (code sub : List ℕ) (entry budget : ℕ) (regs₀ work₀ r
   pub clear : Clear regs
   pub same : regs ≡ regs₀
   pub wide : length work ≡ length work₀
-  pub fits : 8 * budget ≤ length work
+  pub fits : 16 * budget ≤ length work
   pub long : length results ≡ length results₀
   pub inside : start ≤ length sub
   pub small : steps ≤ 2 ^ 32 * start
@@ -89,10 +90,10 @@ pub record Turning (code sub : List ℕ) (entry budget : ℕ) (regs₀ work₀ r
 
 module _ {code sub : List ℕ} {entry budget : ℕ} {regs₀ work₀ results₀ regs work results : List ℕ} {start rows steps : ℕ} (t : Turning code sub entry budget regs₀ work₀ results₀ regs work results start rows steps) where
   module _ {now : Now} (e : now ≡ go entry start regs []) where
-    pub turn-begins : (x : Rule) (h : Stands code x entry) → Going code sub budget start rows (course (t .between x h) regs) (length work) now results budget rows
-    turn-begins x h = sets-out (t .between x h) regs h (t .bytes) (t .clear) (t .inside) (t .fits) e
+    pub turn-begins : (x : Rule) (h : Stands code x entry) → Going code sub budget start rows (course (t .between x h) regs) (8 * budget) now results budget rows
+    turn-begins x h = sets-out (t .between x h) regs h (t .bytes) (t .clear) (t .inside) (le-refl (8 * budget)) e
 
-    module _ {o : Ends} {regs′ results′ : List ℕ} (done : (k : Course) → Going code sub budget start rows k (length work) now results budget rows → Listed sub budget start k regs′ results′ o) where
+    module _ {o : Ends} {regs′ results′ : List ℕ} (done : (k : Course) → Going code sub budget start rows k (8 * budget) now results budget rows → Listed sub budget start k regs′ results′ o) where
       listed : (x : Rule) (h : Stands code x entry) → Listed sub budget start (course (t .between x h) regs) regs′ results′ o
       listed x h = done _ (turn-begins x h)
 

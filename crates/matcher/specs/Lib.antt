@@ -1,7 +1,7 @@
 -- What the public calls promise.
 pub mod Inputs
+pub mod Openings
 pub mod Outcomes
 pub mod Listing
 pub mod Fitness
-pub mod Rows
 pub mod Laws

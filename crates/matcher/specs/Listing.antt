@@ -21,7 +21,7 @@ use Rattle.matcher.specs.declared.listing.Ends.{Ends}
 use Rattle.matcher.specs.declared.listing.Ends.the-variants.{Done, Full as NoneLeft, Spent}
 use Rattle.matcher.specs.declared.listing.Listing.{Listing}
 use Rattle.matcher.specs.declared.listing.Listing.the-variants.{Complete as Listed·whole, Full as Listed·full, Exhausted, Refused}
-use Rattle.matcher.specs.Rows.{rowsAt, Whole}
+use Rattle.index.specs.Rows.{rowsAt, Whole}
 
 -- The answer ------------------------------------------------------------------
 

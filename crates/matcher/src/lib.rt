@@ -2,9 +2,12 @@
 mod areas;
 mod listing;
 mod matching;
+mod parts;
 mod refusals;
 mod rows;
+mod skipping;
 
+pub use index::ROW_LENGTH;
 pub use listing::Listing;
 pub use listing::list_readings;
 pub use matching::Outcome;
@@ -14,5 +17,4 @@ pub use refusals::RULE_AREA_NEED;
 pub use refusals::RULE_LIMIT;
 pub use refusals::SUBJECT_LIMIT;
 pub use refusals::WORK_PER_STEP;
-pub use rows::ROW_LENGTH;
 pub use rows::UNSET;

@@ -1,14 +1,16 @@
 // A listing: the readings of all starts, each written as a row when it is met for the first time.
 use crate::areas::clear;
+use crate::parts::fall_below;
+use crate::parts::run_below;
+use crate::parts::spans_of;
 use crate::refusals::Fitness;
 use crate::refusals::RULE_AREA_NEED;
 use crate::refusals::WORK_PER_STEP;
 use crate::refusals::unfit;
 use crate::rows::REGISTERS;
-use crate::rows::ROW_LENGTH;
 use crate::rows::UNSET;
-use crate::rows::is_known;
-use crate::rows::write_row;
+use index::ROW_LENGTH;
+use index::write_row;
 use machine::Machine;
 use machine::Stop;
 use reader::Compilation;
@@ -16,15 +18,17 @@ use reader::compile;
 use syntax::Refusal;
 ghost use mathlib.Core.Path.{_≡_};
 ghost use mathlib.Core.List.{List};
-ghost use Prim.Native.Nat.{ℕ, _+_, _*_, _≤_, _<_, _^_};
-ghost use lib.ListN.{length};
+ghost use Prim.Native.Nat.{ℕ, _+_, _-_, _*_, _≤_, _<_, _^_};
+ghost use lib.ListN.{length, take, drop};
 ghost use Rattle.syntax.specs.Limits.{ruleLimit, subjectLimit, ruleAreaNeed, spansLength, rowLength, registers};
 ghost use Rattle.syntax.specs.Tree.{Rule};
 ghost use Rattle.semantics.specs.Calls.{workAreaNeed, listCall};
 ghost use Rattle.machine.specs.Words.{nowOf};
 ghost use Rattle.machine.specs.Theorem.{Stands, Clear};
 ghost use Rattle.matcher.specs.Inputs.{callOf, Returned, Told};
-ghost use Rattle.matcher.specs.Rows.{rowOf};
+ghost use Rattle.index.specs.Rows.{rowOf};
+ghost use Rattle.index.specs.Index.{words, Indexed};
+ghost use Rattle.matcher.specs.declared.listing.Noted.the-variants.{Kept};
 ghost use Rattle.matcher.specs.Listing.{listingOf, acceptedListing, Lists, Notes, Course, Going, Listed};
 ghost use Rattle.matcher.specs.Laws.Refusals.{Acceptable};
 
@@ -50,9 +54,14 @@ pub enum Listing {
     Refused(Refusal),
 }
 
-// Writes a row for a reading that this start had not met; the rows of earlier starts come first.
+// Writes a row for a reading that this start had not met; the rows of earlier starts come first. The index of this start's rows stands in the
+// work area from `half` on.
 fn note(
     results: &mut [u32],
+    work: &mut [u32],
+    half: usize,
+    heads: usize,
+    spans: usize,
     earlier: usize,
     rows: usize,
     start: u32,
@@ -60,11 +69,24 @@ fn note(
     registers: &[u32],
 ) -> Noted
     requires { ⌜ (earlier ≤ rows) × (rows * rowLength ≤ length (now results)) × (spansLength ≤ length (now «registers»)) ⌝ }
+    requires { ⌜ (0 < heads) × (heads ≤ words) × (spans ≤ spansLength) × (rows - earlier < words) × (half + (heads + (rows - earlier)) < length (now work)) ⌝ }
+    requires { ⌜ Indexed (now results) (drop half (now work)) heads spans earlier rows ⌝ }
     ensures { λ r. ⌜ Notes (now (results .entry)) earlier rows (rowOf start stop (now («registers» .entry))) (now (results .exit)) r ⌝ }
+    ensures { λ r. ⌜ ((n : ℕ) → r ≡ Kept n → Indexed (now (results .exit)) (drop half (now (work .exit))) heads spans earlier n) ⌝ }
+    ensures { λ _. ⌜ take half (now (work .exit)) ≡ take half (now (work .entry)) ⌝ }
 {
-    let from = earlier * ROW_LENGTH;
-    let count = rows - earlier;
-    if is_known(results, from, count, start, stop, registers) {
+    let bucket = index::bucket(stop, registers, heads, spans);
+    if index::find(
+        results,
+        &work[half..],
+        heads,
+        bucket,
+        earlier,
+        rows,
+        start,
+        stop,
+        registers,
+    ) {
         return Noted::Kept(rows);
     }
     if results.len() / ROW_LENGTH <= rows {
@@ -72,6 +94,7 @@ fn note(
     }
     let base = rows * ROW_LENGTH;
     write_row(results, base, start, stop, registers);
+    index::insert(&mut work[half..], heads, bucket, earlier, rows);
     Noted::Kept(rows + 1)
 }
 
@@ -86,23 +109,37 @@ fn list_start(
     m: Machine,
     budget: u32,
     earlier: usize,
+    spans: usize,
 ) -> Ends
-    requires { ⌜ (length (now regs) ≡ registers) × (length (now sub) < 2 ^ 32) × (length (now code) < 2 ^ 32) ⌝ }
-    requires { ⌜ ((k : Course) × Going (now code) (now sub) budget start earlier k (length (now work)) (nowOf (now regs) (now work) m) (now results) budget earlier) ⌝ }
-    ensures { λ r. ⌜ ((k : Course) → Going (now (code .entry)) (now (sub .entry)) budget start earlier k (length (now (work .entry))) (nowOf (now (regs .entry)) (now (work .entry)) m) (now (results .entry)) budget earlier
+    requires { ⌜ (length (now regs) ≡ registers) × (length (now sub) < 2 ^ 32) × (length (now code) < 2 ^ 32) × (16 * budget ≤ length (now work)) × (spans ≤ spansLength) ⌝ }
+    requires { ⌜ ((k : Course) × Going (now code) (now sub) budget start earlier k (8 * budget) (nowOf (now regs) (take (8 * budget) (now work)) m) (now results) budget earlier) ⌝ }
+    ensures { λ r. ⌜ ((k : Course) → Going (now (code .entry)) (now (sub .entry)) budget start earlier k (8 * budget) (nowOf (now (regs .entry)) (take (8 * budget) (now (work .entry))) m) (now (results .entry)) budget earlier
         → Listed (now (sub .entry)) budget start k (now (regs .exit)) (now (results .exit)) r) ⌝ }
 {
+    let heads = budget as usize;
+    let half = 8 * heads;
     let mut head = m;
     let mut left = budget;
     let mut rows = earlier;
     loop {
-        match machine::run_to_end(code, sub, regs, work, head, left) {
+        match run_below(code, sub, regs, work, half, head, left) {
             Stop::End(used, e) => {
                 left -= used;
-                match note(results, earlier, rows, start, e.at, regs) {
+                match note(
+                    results,
+                    work,
+                    half,
+                    heads,
+                    spans,
+                    earlier,
+                    rows,
+                    start,
+                    e.at,
+                    regs,
+                ) {
                     Noted::Kept(n) => {
                         rows = n;
-                        let next = machine::fall_back(code, regs, work, e.height);
+                        let next = fall_below(code, regs, work, half, e.height);
                         head = next;
                     }
                     Noted::NoRoom => return Ends::Full(rows, budget - left),
@@ -126,8 +163,9 @@ fn list_starts(
     results: &mut [u32],
     entry: u32,
     budget: u32,
+    spans: usize,
 ) -> Listing
-    requires { ⌜ Clear (now regs) × (length (now sub) ≤ subjectLimit) × (length (now code) < 2 ^ 32) × (8 * budget ≤ length (now work)) ⌝ }
+    requires { ⌜ Clear (now regs) × (length (now sub) ≤ subjectLimit) × (length (now code) < 2 ^ 32) × (16 * budget ≤ length (now work)) × (spans ≤ spansLength) ⌝ }
     requires { ⌜ ((x : Rule) × Stands (now code) x entry) ⌝ }
     ensures { λ r. ⌜ ((x : Rule) → Stands (now (code .entry)) x entry → Lists (now (sub .entry)) x budget (now (results .entry)) (now (results .exit)) r) ⌝ }
 {
@@ -137,7 +175,18 @@ fn list_starts(
     let mut steps: u64 = 0;
     loop {
         let m = machine::start(entry, start);
-        match list_start(code, sub, regs, work, results, start, m, budget, rows) {
+        match list_start(
+            code,
+            sub,
+            regs,
+            work,
+            results,
+            start,
+            m,
+            budget,
+            rows,
+            spans,
+        ) {
             Ends::Done(n, used) => {
                 rows = n;
                 steps += used as u64;
@@ -160,13 +209,14 @@ fn list_all(
     results: &mut [u32],
     entry: u32,
     budget: u32,
+    spans: usize,
 ) -> Listing
-    requires { ⌜ (length (now sub) ≤ subjectLimit) × (length (now code) ≡ ruleAreaNeed) × (workAreaNeed budget ≤ length (now work)) ⌝ }
+    requires { ⌜ (length (now sub) ≤ subjectLimit) × (length (now code) ≡ ruleAreaNeed) × (workAreaNeed budget ≤ length (now work)) × (spans ≤ spansLength) ⌝ }
     requires { ⌜ ((x : Rule) × Stands (now code) x entry) ⌝ }
     ensures { λ r. ⌜ ((x : Rule) → Stands (now (code .entry)) x entry → Lists (now (sub .entry)) x budget (now (results .entry)) (now (results .exit)) r) ⌝ }
 {
     let mut regs = [UNSET; REGISTERS];
-    list_starts(code, sub, &mut regs, work, results, entry, budget)
+    list_starts(code, sub, &mut regs, work, results, entry, budget, spans)
 }
 
 // Compiles the rule and lists its readings. Only what is needed of the rule area and the work area is lent.
@@ -185,14 +235,10 @@ fn compile_and_list(
     let compiled = compile(rule, flags, code);
     match compiled {
         Compilation::Refused(f) => Listing::Refused(f),
-        Compilation::Sound(pc, _groups) => list_all(
-            code,
-            subject,
-            work,
-            results,
-            pc as u32,
-            budget,
-        ),
+        Compilation::Sound(pc, groups) => {
+            let spans = spans_of(groups);
+            list_all(code, subject, work, results, pc as u32, budget, spans)
+        }
     }
 }
 

@@ -6,7 +6,9 @@ use crate::refusals::WORK_PER_STEP;
 use crate::refusals::unfit;
 use crate::rows::REGISTERS;
 use crate::rows::UNSET;
-use crate::rows::write_row;
+use crate::skipping::find_opening;
+use crate::skipping::skip_starts;
+use index::write_row;
 use machine::Stop;
 use machine::run_to_end;
 use machine::start;
@@ -48,7 +50,13 @@ fn search(
 {
     let mut begin: u32 = 0;
     let mut steps: u64 = 0;
+    let open = find_opening(code, entry, budget);
+    let base = open.base;
+    let cost = open.cost;
     while begin as usize <= subject.len() {
+        let from = skip_starts(code, subject, base, cost, begin);
+        steps += ((from - begin) as u64) * (cost as u64);
+        begin = from;
         let m = start(entry, begin);
         match run_to_end(code, subject, regs, work, m, budget) {
             Stop::End(used, e) => {

@@ -1,5 +1,5 @@
 // What is refused before the rule is read.
-use crate::rows::ROW_LENGTH;
+use index::ROW_LENGTH;
 use syntax::Reason;
 ghost use mathlib.Core.Path.{_≡_};
 ghost use Rattle.semantics.specs.Calls.{Call, unacceptable};

@@ -18,16 +18,19 @@ enum-known-compiled c = search needs
 enum-known-compiled-2 : tie.Need-enum-known-compiled-2
 enum-known-compiled-2 c = search needs
 
+spans-of-requires : tie.Need-spans-of-requires
+spans-of-requires c κs = search needs
+
 cast-list-all : tie.Need-cast-list-all
 unfolding ruleAreaNeed
-cast-list-all c = omega (arith, compile-near (c .before .before .before .before .before .before .before .before .compile .ensures) _ _ (c .before .before .before .before .compiled2 .given .1))
+cast-list-all c = omega (arith, compile-near (c .before .before .before .before .before .before .before .before .before .compile .ensures) _ _ (c .before .before .before .before .before .compiled2 .given .1))
 
 list-all-requires : tie.Need-list-all-requires
 list-all-requires c κs =
-    let s = c .before .before .before .before .before .before .before .before .before .before .before .before .before .before .before in
-    let m = c .before .before .before .before .before .before .before .before .compile .ensures in
-    let z = compile-sound m _ _ (c .before .before .before .before .compiled2 .given .1) (omega (arith, m .long, s .pre .2)) in
-    ((s .pre .1, omega (arith, m .long, s .pre .2), s .pre .3), (z .0, z .3))
+    let s = c .before .before .before .before .before .before .before .before .before .before .before .before .before .before .before .before in
+    let m = c .before .before .before .before .before .before .before .before .before .compile .ensures in
+    let z = compile-sound m _ _ (c .before .before .before .before .before .compiled2 .given .1) (omega (arith, m .long, s .pre .2)) in
+    ((s .pre .1, omega (arith, m .long, s .pre .2), s .pre .3, c .before .before .before .spans-of .ensures), (z .0, z .3))
 
 same-length : tie.Need-same-length
 same-length c = search needs
@@ -50,10 +53,10 @@ same-length-4 c = search needs
 returns-2 : tie.Need-returns-2
 returns-2 c =
     λ ruleArea workArea.
-    (let s = c .before .before .before .before .before .before .before .before .before .before .before .before .before .before .before .before .before .before .before .before in
+    (let s = c .before .before .before .before .before .before .before .before .before .before .before .before .before .before .before .before .before .before .before .before .before in
     let a = s .args in
-    let m = c .before .before .before .before .before .before .before .before .before .before .before .before .before .compile .ensures in
-    let z = compile-sound m _ _ (c .before .before .before .before .before .before .before .before .before .compiled2 .given .1) (omega (arith, m .long, s .pre .2)) in
+    let m = c .before .before .before .before .before .before .before .before .before .before .before .before .before .before .compile .ensures in
+    let z = compile-sound m _ _ (c .before .before .before .before .before .before .before .before .before .before .compiled2 .given .1) (omega (arith, m .long, s .pre .2)) in
     sound-listed (callOf (now (a .rule)) (a .flags) (now (a .subject)) (a .budget) ruleArea workArea (now (a .results))) (z .0) _ (z .1) (z .2) _ _ (c .before .before .before .before .list-all .ensures (z .0) (z .3)))
 
 pub compile-and-list-spec : {M : Type 1} → statement M
@@ -63,6 +66,7 @@ compile-and-list-spec =
     compile-requires
     enum-known-compiled
     enum-known-compiled-2
+    spans-of-requires
     cast-list-all
     list-all-requires
     same-length

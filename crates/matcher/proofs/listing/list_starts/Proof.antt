@@ -2,22 +2,22 @@
 -- leads to the next one, or is the last.
 use mathlib.Core.Path.{refl, _∙_, ap}
 use mathlib.Core.List.{List}
-use Prim.Native.Nat.{ℕ, _-_}
+use Prim.Native.Nat.{ℕ, _-_, _*_}
 use native.Mathlib.Omega.{arith}
 use borrow.Author.Needs.{needs}
 use denote.Ref.{now}
-use lib.ListN.{length}
+use lib.ListN.{length, take}
 use Rattle.syntax.specs.Limits.{subjectLimit}
 use Rattle.matcher.proofs.Starts.{between-first, Turning, turn-begins, turn-few, turn-last, turn-next, turn-full, turn-spent}
 use Rattle.matcher.proofs.listing.list_starts.Statement.{statement}
 use Rattle.matcher.proofs.listing.list_starts.Tie as tie
 
 abbrev Inv-loop : tie.InvT-loop
-Inv-loop code sub regs₀ work₀ results₀ entry budget last start₀ rows₀ steps₀ regs work results start rows steps =
+Inv-loop code sub regs₀ work₀ results₀ entry budget spans last start₀ rows₀ steps₀ regs work results start rows steps =
     Turning code sub entry budget regs₀ work₀ results₀ regs work results start rows steps
 
 abbrev μ-loop : tie.MeasureT-loop
-μ-loop code sub regs₀ work₀ results₀ entry budget last start₀ rows₀ steps₀ regs work results start rows steps = length sub - start
+μ-loop code sub regs₀ work₀ results₀ entry budget spans last start₀ rows₀ steps₀ regs work results start rows steps = length sub - start
 
 cast-last : tie.Need-cast-last Inv-loop μ-loop
 unfolding subjectLimit
@@ -49,7 +49,7 @@ list-start-requires c κs =
     let l = c .before .before .before .before .loop in
     let s = c .before .before .before .before .before .before .before .before .before .before in
     let y = s .pre .1 in
-    ((l .inv .clear .size, omega (arith, l .inv .short), s .pre .0 .2), (_, turn-begins (l .inv) (c .before .before .before .start .ensures (l .regs) (l .work)) (y .0) (y .1)))
+    ((l .inv .clear .size, omega (arith, l .inv .short), s .pre .0 .2, l .inv .fits, s .pre .0 .4), (_, turn-begins (l .inv) (c .before .before .before .start .ensures (l .regs) (take (8 * c .before .before .before .before .before .before .before .before .before .before .args .budget) (l .work))) (y .0) (y .1)))
 
 enum-known-n : tie.Need-enum-known-n Inv-loop μ-loop
 enum-known-n c = search needs
@@ -62,7 +62,7 @@ unfolding subjectLimit
 add-steps c =
     let l = c .before .before .before .before .before .before .before .before .before .before .before .before .before .before .loop in
     let r = c .before .before .before .before .before .before .before .before .before .list-start in
-    let e = c .before .before .before .before .before .before .before .before .before .before .before .before .before .start .ensures (l .regs) (l .work) in
+    let e = c .before .before .before .before .before .before .before .before .before .before .before .before .before .start .ensures (l .regs) (take (8 * c .before .before .before .before .before .before .before .before .before .before .before .before .before .before .before .before .before .before .before .before .args .budget) (l .work)) in
     omega (arith, l .inv .small, l .inv .cheap, l .inv .inside, l .inv .short, turn-few (l .inv) e (r .ensures) _ _ (c .before .n .given .1) (c .before .before .before .before .before .before .before .before .before .before .before .before .before .before .before .before .before .before .before .before .pre .1))
 
 same-length : tie.Need-same-length Inv-loop μ-loop
@@ -78,7 +78,7 @@ returns : tie.Need-returns Inv-loop μ-loop
 returns c =
     let l = c .before .before .before .before .before .before .before .before .before .before .before .before .before .before .before .loop in
     let r = c .before .before .before .before .before .before .before .before .before .before .list-start in
-    let e = c .before .before .before .before .before .before .before .before .before .before .before .before .before .before .start .ensures (l .regs) (l .work) in
+    let e = c .before .before .before .before .before .before .before .before .before .before .before .before .before .before .start .ensures (l .regs) (take (8 * c .before .before .before .before .before .before .before .before .before .before .before .before .before .before .before .before .before .before .before .before .before .args .budget) (l .work)) in
     turn-last (l .inv) e (r .ensures) _ _ (c .before .before .n .given .1) (omega arith)
 
 add-start : tie.Need-add-start Inv-loop μ-loop
@@ -96,21 +96,21 @@ loop-again : tie.Need-loop-again Inv-loop μ-loop
 loop-again c =
     let l = c .before .before .before .before .before .before .before .before .before .before .before .before .before .before .before .loop in
     let r = c .before .before .before .before .before .before .before .before .before .before .list-start in
-    let e = c .before .before .before .before .before .before .before .before .before .before .before .before .before .before .start .ensures (l .regs) (l .work) in
+    let e = c .before .before .before .before .before .before .before .before .before .before .before .before .before .before .start .ensures (l .regs) (take (8 * c .before .before .before .before .before .before .before .before .before .before .before .before .before .before .before .before .before .before .before .before .before .args .budget) (l .work)) in
     turn-next (l .inv) e (r .ensures) _ _ (c .before .before .n .given .1) (omega (arith, l .inv .inside)) (c .before .before .before .before .before .before .before .before .before .before .before .before .before .before .before .before .before .before .before .before .before .pre .1) (r .kept .1 .1 .1 .0) (r .kept .1 .1 .1 .1 .0)
 
 enum-known-n-2 : tie.Need-enum-known-n-2 Inv-loop μ-loop
 enum-known-n-2 c = search needs
 
-cast-t28 : tie.Need-cast-t28 Inv-loop μ-loop
-cast-t28 c = omega arith
+cast-t29 : tie.Need-cast-t29 Inv-loop μ-loop
+cast-t29 c = omega arith
 
-add-t29 : tie.Need-add-t29 Inv-loop μ-loop
+add-t30 : tie.Need-add-t30 Inv-loop μ-loop
 unfolding subjectLimit
-add-t29 c =
+add-t30 c =
     let l = c .before .before .before .before .before .before .before .before .before .before .before .before .before .before .loop in
     let r = c .before .before .before .before .before .before .before .before .before .list-start in
-    let e = c .before .before .before .before .before .before .before .before .before .before .before .before .before .start .ensures (l .regs) (l .work) in
+    let e = c .before .before .before .before .before .before .before .before .before .before .before .before .before .start .ensures (l .regs) (take (8 * c .before .before .before .before .before .before .before .before .before .before .before .before .before .before .before .before .before .before .before .before .args .budget) (l .work)) in
     let y = c .before .before .before .before .before .before .before .before .before .before .before .before .before .before .before .before .before .before .before .before .pre .1 in
     omega (arith, l .inv .small, l .inv .cheap, l .inv .inside, l .inv .short, turn-full (l .inv) e (r .ensures) _ _ (c .before .n2 .given .1) (y .0) (y .1) .1)
 
@@ -127,15 +127,15 @@ returns-2 : tie.Need-returns-2 Inv-loop μ-loop
 returns-2 c =
     let l = c .before .before .before .before .before .before .before .before .before .before .before .before .before .before .loop in
     let r = c .before .before .before .before .before .before .before .before .before .list-start in
-    let e = c .before .before .before .before .before .before .before .before .before .before .before .before .before .start .ensures (l .regs) (l .work) in
+    let e = c .before .before .before .before .before .before .before .before .before .before .before .before .before .start .ensures (l .regs) (take (8 * c .before .before .before .before .before .before .before .before .before .before .before .before .before .before .before .before .before .before .before .before .args .budget) (l .work)) in
     λ x h. turn-full (l .inv) e (r .ensures) _ _ (c .before .n2 .given .1) x h .0
 
 enum-known-n-3 : tie.Need-enum-known-n-3 Inv-loop μ-loop
 enum-known-n-3 c = search needs
 
-add-t31 : tie.Need-add-t31 Inv-loop μ-loop
+add-t32 : tie.Need-add-t32 Inv-loop μ-loop
 unfolding subjectLimit
-add-t31 c =
+add-t32 c =
     let l = c .before .before .before .before .before .before .before .before .before .before .before .before .before .before .loop in
     omega (arith, l .inv .small, l .inv .cheap, l .inv .inside, l .inv .short)
 
@@ -152,7 +152,7 @@ returns-3 : tie.Need-returns-3 Inv-loop μ-loop
 returns-3 c =
     let l = c .before .before .before .before .before .before .before .before .before .before .before .before .before .before .loop in
     let r = c .before .before .before .before .before .before .before .before .before .list-start in
-    let e = c .before .before .before .before .before .before .before .before .before .before .before .before .before .start .ensures (l .regs) (l .work) in
+    let e = c .before .before .before .before .before .before .before .before .before .before .before .before .before .start .ensures (l .regs) (take (8 * c .before .before .before .before .before .before .before .before .before .before .before .before .before .before .before .before .before .before .before .before .args .budget) (l .work)) in
     turn-spent (l .inv) e (r .ensures) _ (c .before .n3 .given .1)
 
 pub list-starts-spec : {M : Type 1} → statement M
@@ -176,14 +176,14 @@ list-starts-spec =
     loop-less
     loop-again
     enum-known-n-2
-    cast-t28
-    add-t29
+    cast-t29
+    add-t30
     same-length-4
     same-length-5
     same-length-6
     returns-2
     enum-known-n-3
-    add-t31
+    add-t32
     same-length-7
     same-length-8
     same-length-9

@@ -2,6 +2,7 @@
 -- work area is as it was. The measure is the starts that are left.
 use mathlib.Core.Path.{_∙_, ap}
 use mathlib.Core.List.{List}
+use mathlib.Core.Logic.{inl, inr, ⊎-elim}
 use Prim.Native.Nat.{ℕ, suc, _-_}
 use native.Mathlib.Omega.{arith}
 use borrow.Author.Needs.{needs}
@@ -10,23 +11,61 @@ use lib.ListN.{length}
 use Rattle.syntax.specs.Limits.{subjectLimit, ruleAreaNeed, spansLength, registers}
 use Rattle.semantics.specs.Calls.{workAreaNeed}
 use Rattle.machine.specs.Theorem.{enough-room}
-use Rattle.matcher.proofs.Seeking.{Seeking, seeking-start, seeking-none, seeking-ready, seeking-end, seeking-spent, seeking-on}
+use Rattle.matcher.proofs.Passing.{entry-fits}
+use Rattle.matcher.proofs.Seeking.{Seeking, seeking-start, seeking-none, seeking-ready, seeking-end, seeking-spent, seeking-on, seeking-from}
 use Rattle.matcher.proofs.matching.search.Statement.{statement}
 use Rattle.matcher.proofs.matching.search.Tie as tie
 
 abbrev Inv-loop : tie.InvT-loop
-Inv-loop code subject regs₀ work₀ results₀ entry budget begin₀ steps₀ regs work results begin steps =
+Inv-loop code subject regs₀ work₀ results₀ entry budget begin₀ steps₀ base cost regs work results begin steps =
     Seeking code subject regs₀ work₀ results₀ entry budget regs work results begin steps
 
 abbrev μ-loop : tie.MeasureT-loop
-μ-loop code subject regs₀ work₀ results₀ entry budget begin₀ steps₀ regs work results begin steps =
+μ-loop code subject regs₀ work₀ results₀ entry budget begin₀ steps₀ base cost regs work results begin steps =
     suc (length subject) - begin
 
+find-opening-requires : tie.Need-find-opening-requires Inv-loop μ-loop
+unfolding ruleAreaNeed
+find-opening-requires c κs = (omega (arith, c .before .before .before .before .before .pre .0 .code-size), entry-fits _ _ _ (c .before .before .before .before .before .pre .0 .stands))
+
 loop-holds : tie.Need-loop-holds Inv-loop μ-loop
-loop-holds c = let a = c .before .before .before .before .before .args in seeking-start (now (a .code)) (now (a .subject)) (now (a .regs)) (now (a .work)) (now (a .results)) (a .entry) (a .budget)
+loop-holds c = let a = c .before .before .before .before .before .before .args in seeking-start (now (a .code)) (now (a .subject)) (now (a .regs)) (now (a .work)) (now (a .results)) (a .entry) (a .budget)
 
 cast-loop : tie.Need-cast-loop Inv-loop μ-loop
 cast-loop c = search needs
+
+skip-starts-requires : tie.Need-skip-starts-requires Inv-loop μ-loop
+unfolding subjectLimit
+skip-starts-requires c κs = (⊎-elim (λ e. inl e) (λ k. inr (k .fits)) (c .before .before .find-opening .ensures), (c .loop-test .taken, omega (arith, c .before .before .before .before .before .before .before .before .pre .0 .subject-fits)))
+
+sub-steps : tie.Need-sub-steps Inv-loop μ-loop
+sub-steps c = omega (arith, c .skip-starts .ensures .on)
+
+cast-steps : tie.Need-cast-steps Inv-loop μ-loop
+cast-steps c = search needs
+
+cast-steps-2 : tie.Need-cast-steps-2 Inv-loop μ-loop
+cast-steps-2 c = search needs
+
+mul-steps : tie.Need-mul-steps Inv-loop μ-loop
+unfolding workAreaNeed subjectLimit
+mul-steps c =
+    let l = c .before .before .loop in
+    let s = c .before .before .before .before .before .before .before .before .before in
+    let b = c .before .before .before .before .before .before .before .shared-slice-known2 in
+    let room = enough-room (s .args .budget) (length (now (s .args .work))) (s .pre .0 .work-fits) in
+    let g = seeking-from (λ i. omega (arith, b .given i)) (s .pre .1) room (omega arith) _ _ _ _ _ (c .before .before .before .find-opening .ensures) (c .skip-starts .ensures) (l .inv) in
+    omega (arith, g .small, c .skip-starts .ensures .inside, s .pre .0 .subject-fits)
+
+add-steps : tie.Need-add-steps Inv-loop μ-loop
+unfolding workAreaNeed subjectLimit
+add-steps c =
+    let l = c .before .before .loop in
+    let s = c .before .before .before .before .before .before .before .before .before in
+    let b = c .before .before .before .before .before .before .before .shared-slice-known2 in
+    let room = enough-room (s .args .budget) (length (now (s .args .work))) (s .pre .0 .work-fits) in
+    let g = seeking-from (λ i. omega (arith, b .given i)) (s .pre .1) room (omega arith) _ _ _ _ _ (c .before .before .before .find-opening .ensures) (c .skip-starts .ensures) (l .inv) in
+    omega (arith, g .small, c .skip-starts .ensures .inside, s .pre .0 .subject-fits)
 
 start-requires : tie.Need-start-requires Inv-loop μ-loop
 start-requires c κs = search needs
@@ -34,12 +73,13 @@ start-requires c κs = search needs
 run-to-end-requires : tie.Need-run-to-end-requires Inv-loop μ-loop
 unfolding workAreaNeed subjectLimit ruleAreaNeed
 run-to-end-requires c κs =
-    let l = c .before .before .before .before .loop in
-    let b = c .before .before .before .before .before .before .before .before .shared-slice-known2 in
-    let s = c .before .before .before .before .before .before .before .before .before .before in
-    let t = c .before .before .start in
+    let l = c .before .before .before .before .before .loop in
+    let s = c .before .before .before .before .before .before .before .before .before .before .before .before in
+    let b = c .before .before .before .before .before .before .before .before .before .before .shared-slice-known2 in
     let room = enough-room (s .args .budget) (length (now (s .args .work))) (s .pre .0 .work-fits) in
-    ((omega (arith, ap (λ (r : List ℕ). length r) (l .inv .same), s .pre .1 .size), omega arith, omega arith), (_, _, seeking-ready (l .inv) (λ i. omega (arith, b .given i)) (s .pre .1) room (c .before .before .before .loop-test .taken) (t .result) (t .ensures) (s .pre .0 .tree) (s .pre .0 .stands)))
+    let g = seeking-from (λ i. omega (arith, b .given i)) (s .pre .1) room (omega arith) _ _ _ _ _ (c .before .before .before .before .before .before .find-opening .ensures) (c .before .before .before .skip-starts .ensures) (l .inv) in
+    let t = c .before .before .start in
+    ((omega (arith, ap (λ (r : List ℕ). length r) (l .inv .same), s .pre .1 .size), omega arith, omega arith), (_, _, seeking-ready g (λ i. omega (arith, b .given i)) (s .pre .1) room (c .before .before .before .skip-starts .ensures .inside) (t .result) (t .ensures) (s .pre .0 .tree) (s .pre .0 .stands)))
 
 enum-known-used : tie.Need-enum-known-used Inv-loop μ-loop
 enum-known-used c = search needs
@@ -47,126 +87,113 @@ enum-known-used c = search needs
 write-row-requires : tie.Need-write-row-requires Inv-loop μ-loop
 unfolding spansLength registers
 write-row-requires c κs =
-    let l = c .before .before .before .before .before .before .before .before .before .before .before .before .before .before .loop in
+    let l = c .before .before .before .before .before .before .before .before .before .before .before .before .before .before .before .loop in
     let u = c .before .before .before .before .before .before .before .before .before .run-to-end in
-    let s = c .before .before .before .before .before .before .before .before .before .before .before .before .before .before .before .before .before .before .before .before in
+    let s = c .before .before .before .before .before .before .before .before .before .before .before .before .before .before .before .before .before .before .before .before .before .before in
     (omega (arith, ap (λ (r : List ℕ). length r) (l .inv .kept), s .pre .0 .results-fit), omega (arith, u .kept .1 .1 .0, ap (λ (r : List ℕ). length r) (l .inv .same), s .pre .1 .size))
 
-cast-t27 : tie.Need-cast-t27 Inv-loop μ-loop
-cast-t27 c = search needs
+cast-t35 : tie.Need-cast-t35 Inv-loop μ-loop
+cast-t35 c = search needs
 
-add-t28 : tie.Need-add-t28 Inv-loop μ-loop
-unfolding subjectLimit
-add-t28 c =
-    let l = c .before .before .before .before .before .before .before .before .before .before .before .before .before .before .before .before .before .loop in
-    let q = c .before .before .before .before .before .before .before .before .before .before .before .before .before .before .before .before .before .before .before .before .before .before .before .pre .0 in
-    omega (arith, l .inv .small, l .inv .few, q .subject-fits)
+add-t36 : tie.Need-add-t36 Inv-loop μ-loop
+unfolding workAreaNeed subjectLimit
+add-t36 c =
+    let l = c .before .before .before .before .before .before .before .before .before .before .before .before .before .before .before .before .before .before .loop in
+    let s = c .before .before .before .before .before .before .before .before .before .before .before .before .before .before .before .before .before .before .before .before .before .before .before .before .before in
+    let b = c .before .before .before .before .before .before .before .before .before .before .before .before .before .before .before .before .before .before .before .before .before .before .before .shared-slice-known2 in
+    let room = enough-room (s .args .budget) (length (now (s .args .work))) (s .pre .0 .work-fits) in
+    let g = seeking-from (λ i. omega (arith, b .given i)) (s .pre .1) room (omega arith) _ _ _ _ _ (c .before .before .before .before .before .before .before .before .before .before .before .before .before .before .before .before .before .before .before .find-opening .ensures) (c .before .before .before .before .before .before .before .before .before .before .before .before .before .before .before .before .skip-starts .ensures) (l .inv) in
+    omega (arith, g .small, c .before .before .before .before .before .before .before .before .before .before .before .before .before .before .before .before .skip-starts .ensures .inside, s .pre .0 .subject-fits)
 
 same-length : tie.Need-same-length Inv-loop μ-loop
-same-length c =
-    let l = c .before .before .before .before .before .before .before .before .before .before .before .before .before .before .before .before .before .loop in
-    let u = c .before .before .before .before .before .before .before .before .before .before .before .before .run-to-end in
-    u .kept .1 .1 .0 ∙ ap (λ (r : List ℕ). length r) (l .inv .same)
+same-length c = c .before .before .before .before .before .before .before .before .before .before .before .before .run-to-end .kept .1 .1 .0 ∙ ap (λ (r : List ℕ). length r) (c .before .before .before .before .before .before .before .before .before .before .before .before .before .before .before .before .before .before .loop .inv .same)
 
 same-length-2 : tie.Need-same-length-2 Inv-loop μ-loop
-same-length-2 c =
-    let l = c .before .before .before .before .before .before .before .before .before .before .before .before .before .before .before .before .before .loop in
-    let u = c .before .before .before .before .before .before .before .before .before .before .before .before .run-to-end in
-    u .kept .1 .1 .1 .0 ∙ l .inv .wide
+same-length-2 c = c .before .before .before .before .before .before .before .before .before .before .before .before .run-to-end .kept .1 .1 .1 .0 ∙ c .before .before .before .before .before .before .before .before .before .before .before .before .before .before .before .before .before .before .loop .inv .wide
 
 same-length-3 : tie.Need-same-length-3 Inv-loop μ-loop
-same-length-3 c =
-    let l = c .before .before .before .before .before .before .before .before .before .before .before .before .before .before .before .before .before .loop in
-    c .before .before .write-row .kept .0 ∙ ap (λ (r : List ℕ). length r) (l .inv .kept)
+same-length-3 c = c .before .before .write-row .kept .0 ∙ ap (λ (r : List ℕ). length r) (c .before .before .before .before .before .before .before .before .before .before .before .before .before .before .before .before .before .before .loop .inv .kept)
 
 returns : tie.Need-returns Inv-loop μ-loop
 unfolding workAreaNeed spansLength registers
 returns c =
-    let l = c .before .before .before .before .before .before .before .before .before .before .before .before .before .before .before .before .before .loop in
-    let u = c .before .before .before .before .before .before .before .before .before .before .before .before .run-to-end in
-    let b = c .before .before .before .before .before .before .before .before .before .before .before .before .before .before .before .before .before .before .before .before .before .shared-slice-known2 in
-    let h = c .before .before .before .before .before .before .before .before .before .before .before .before .before .before .before .before .loop-test in
-    let s = c .before .before .before .before .before .before .before .before .before .before .before .before .before .before .before .before .before .before .before .before .before .before .before in
-    let t = c .before .before .before .before .before .before .before .before .before .before .before .before .before .before .before .start in
+    let l = c .before .before .before .before .before .before .before .before .before .before .before .before .before .before .before .before .before .before .loop in
+    let s = c .before .before .before .before .before .before .before .before .before .before .before .before .before .before .before .before .before .before .before .before .before .before .before .before .before in
+    let b = c .before .before .before .before .before .before .before .before .before .before .before .before .before .before .before .before .before .before .before .before .before .before .before .shared-slice-known2 in
     let room = enough-room (s .args .budget) (length (now (s .args .work))) (s .pre .0 .work-fits) in
-    seeking-end (l .inv) (λ i. omega (arith, b .given i)) (s .pre .1) room (h .taken) (t .result) (t .ensures) (u .ensures) _ _ (c .before .before .before .before .before .before .used .given .1) (c .before .before .write-row .ensures) (omega (arith, u .kept .1 .1 .0, ap (λ (r : List ℕ). length r) (l .inv .same), s .pre .1 .size))
+    let g = seeking-from (λ i. omega (arith, b .given i)) (s .pre .1) room (omega arith) _ _ _ _ _ (c .before .before .before .before .before .before .before .before .before .before .before .before .before .before .before .before .before .before .before .find-opening .ensures) (c .before .before .before .before .before .before .before .before .before .before .before .before .before .before .before .before .skip-starts .ensures) (l .inv) in
+    let u = c .before .before .before .before .before .before .before .before .before .before .before .before .run-to-end in
+    let t = c .before .before .before .before .before .before .before .before .before .before .before .before .before .before .before .start in
+    seeking-end g (λ i. omega (arith, b .given i)) (s .pre .1) room (c .before .before .before .before .before .before .before .before .before .before .before .before .before .before .before .before .skip-starts .ensures .inside) (t .result) (t .ensures) (u .ensures) _ _ (c .before .before .before .before .before .before .used .given .1) (c .before .before .write-row .ensures) (omega (arith, u .kept .1 .1 .0, ap (λ (r : List ℕ). length r) (l .inv .same), s .pre .1 .size))
 
 enum-known-used-2 : tie.Need-enum-known-used-2 Inv-loop μ-loop
 enum-known-used-2 c = search needs
 
-cast-steps : tie.Need-cast-steps Inv-loop μ-loop
-cast-steps c = search needs
+cast-steps-3 : tie.Need-cast-steps-3 Inv-loop μ-loop
+cast-steps-3 c = search needs
 
-add-steps : tie.Need-add-steps Inv-loop μ-loop
-unfolding subjectLimit
-add-steps c =
-    let l = c .before .before .before .before .before .before .before .before .before .before .before .before .loop in
-    let q = c .before .before .before .before .before .before .before .before .before .before .before .before .before .before .before .before .before .before .pre .0 in
-    omega (arith, l .inv .small, l .inv .few, q .subject-fits)
+add-steps-2 : tie.Need-add-steps-2 Inv-loop μ-loop
+unfolding workAreaNeed subjectLimit
+add-steps-2 c =
+    let l = c .before .before .before .before .before .before .before .before .before .before .before .before .before .loop in
+    let s = c .before .before .before .before .before .before .before .before .before .before .before .before .before .before .before .before .before .before .before .before in
+    let b = c .before .before .before .before .before .before .before .before .before .before .before .before .before .before .before .before .before .before .shared-slice-known2 in
+    let room = enough-room (s .args .budget) (length (now (s .args .work))) (s .pre .0 .work-fits) in
+    let g = seeking-from (λ i. omega (arith, b .given i)) (s .pre .1) room (omega arith) _ _ _ _ _ (c .before .before .before .before .before .before .before .before .before .before .before .before .before .before .find-opening .ensures) (c .before .before .before .before .before .before .before .before .before .before .before .skip-starts .ensures) (l .inv) in
+    omega (arith, g .small, c .before .before .before .before .before .before .before .before .before .before .before .skip-starts .ensures .inside, s .pre .0 .subject-fits)
 
 enum-told : tie.Need-enum-told Inv-loop μ-loop
 enum-told c = search needs
 
-add-t31 : tie.Need-add-t31 Inv-loop μ-loop
-unfolding subjectLimit
-add-t31 c =
-    let l = c .before .before .before .before .before .before .before .before .before .before .before .loop in
-    let q = c .before .before .before .before .before .before .before .before .before .before .before .before .before .before .before .before .before .pre .0 in
-    omega (arith, l .inv .small, l .inv .few, q .subject-fits)
+add-t39 : tie.Need-add-t39 Inv-loop μ-loop
+unfolding workAreaNeed subjectLimit
+add-t39 c =
+    let l = c .before .before .before .before .before .before .before .before .before .before .before .before .loop in
+    let s = c .before .before .before .before .before .before .before .before .before .before .before .before .before .before .before .before .before .before .before in
+    let b = c .before .before .before .before .before .before .before .before .before .before .before .before .before .before .before .before .before .shared-slice-known2 in
+    let room = enough-room (s .args .budget) (length (now (s .args .work))) (s .pre .0 .work-fits) in
+    let g = seeking-from (λ i. omega (arith, b .given i)) (s .pre .1) room (omega arith) _ _ _ _ _ (c .before .before .before .before .before .before .before .before .before .before .before .before .before .find-opening .ensures) (c .before .before .before .before .before .before .before .before .before .before .skip-starts .ensures) (l .inv) in
+    omega (arith, g .small, c .before .before .before .before .before .before .before .before .before .before .skip-starts .ensures .inside, s .pre .0 .subject-fits)
 
 same-length-4 : tie.Need-same-length-4 Inv-loop μ-loop
-same-length-4 c =
-    let l = c .before .before .before .before .before .before .before .before .before .before .before .loop in
-    let u = c .before .before .before .before .before .before .run-to-end in
-    u .kept .1 .1 .0 ∙ ap (λ (r : List ℕ). length r) (l .inv .same)
+same-length-4 c = c .before .before .before .before .before .before .run-to-end .kept .1 .1 .0 ∙ ap (λ (r : List ℕ). length r) (c .before .before .before .before .before .before .before .before .before .before .before .before .loop .inv .same)
 
 same-length-5 : tie.Need-same-length-5 Inv-loop μ-loop
-same-length-5 c =
-    let l = c .before .before .before .before .before .before .before .before .before .before .before .loop in
-    let u = c .before .before .before .before .before .before .run-to-end in
-    u .kept .1 .1 .1 .0 ∙ l .inv .wide
+same-length-5 c = c .before .before .before .before .before .before .run-to-end .kept .1 .1 .1 .0 ∙ c .before .before .before .before .before .before .before .before .before .before .before .before .loop .inv .wide
 
 same-length-6 : tie.Need-same-length-6 Inv-loop μ-loop
-same-length-6 c =
-    let l = c .before .before .before .before .before .before .before .before .before .before .before .loop in
-    ap (λ (r : List ℕ). length r) (l .inv .kept)
+same-length-6 c = ap (λ (r : List ℕ). length r) (c .before .before .before .before .before .before .before .before .before .before .before .before .loop .inv .kept)
 
 returns-2 : tie.Need-returns-2 Inv-loop μ-loop
 unfolding workAreaNeed
 returns-2 c =
-    let l = c .before .before .before .before .before .before .before .before .before .before .before .loop in
-    let u = c .before .before .before .before .before .before .run-to-end in
-    let b = c .before .before .before .before .before .before .before .before .before .before .before .before .before .before .before .shared-slice-known2 in
-    let h = c .before .before .before .before .before .before .before .before .before .before .loop-test in
-    let s = c .before .before .before .before .before .before .before .before .before .before .before .before .before .before .before .before .before in
-    let t = c .before .before .before .before .before .before .before .before .before .start in
+    let l = c .before .before .before .before .before .before .before .before .before .before .before .before .loop in
+    let s = c .before .before .before .before .before .before .before .before .before .before .before .before .before .before .before .before .before .before .before in
+    let b = c .before .before .before .before .before .before .before .before .before .before .before .before .before .before .before .before .before .shared-slice-known2 in
     let room = enough-room (s .args .budget) (length (now (s .args .work))) (s .pre .0 .work-fits) in
-    seeking-spent (l .inv) (λ i. omega (arith, b .given i)) (s .pre .1) room (h .taken) (t .result) (t .ensures) (u .ensures) (c .enum-told .given .1)
+    let g = seeking-from (λ i. omega (arith, b .given i)) (s .pre .1) room (omega arith) _ _ _ _ _ (c .before .before .before .before .before .before .before .before .before .before .before .before .before .find-opening .ensures) (c .before .before .before .before .before .before .before .before .before .before .skip-starts .ensures) (l .inv) in
+    let u = c .before .before .before .before .before .before .run-to-end in
+    let t = c .before .before .before .before .before .before .before .before .before .start in
+    seeking-spent g (λ i. omega (arith, b .given i)) (s .pre .1) room (c .before .before .before .before .before .before .before .before .before .before .skip-starts .ensures .inside) (t .result) (t .ensures) (u .ensures) (c .enum-told .given .1)
 
 add-begin : tie.Need-add-begin Inv-loop μ-loop
 unfolding subjectLimit
-add-begin c =
-    let l = c .before .before .before .before .before .before .before .before .before .before .before .before .loop in
-    let h = c .before .before .before .before .before .before .before .before .before .before .before .loop-test in
-    let q = c .before .before .before .before .before .before .before .before .before .before .before .before .before .before .before .before .before .before .pre .0 in
-    omega (arith, l .inv .few, h .taken, q .subject-fits)
+add-begin c = omega (arith, c .before .before .before .before .before .before .before .before .before .before .before .skip-starts .ensures .inside, c .before .before .before .before .before .before .before .before .before .before .before .before .before .before .before .before .before .before .before .before .pre .0 .subject-fits)
 
 loop-less : tie.Need-loop-less Inv-loop μ-loop
-loop-less c =
-    let h = c .before .before .before .before .before .before .before .before .before .before .before .loop-test in
-    omega (arith, h .taken)
+loop-less c = omega (arith, c .before .before .before .before .before .before .before .before .before .before .before .before .loop-test .taken, c .before .before .before .before .before .before .before .before .before .before .before .skip-starts .ensures .on, c .before .before .before .before .before .before .before .before .before .before .before .skip-starts .ensures .inside)
 
 loop-again : tie.Need-loop-again Inv-loop μ-loop
 unfolding workAreaNeed
 loop-again c =
-    let l = c .before .before .before .before .before .before .before .before .before .before .before .before .loop in
-    let u = c .before .before .before .before .before .before .before .run-to-end in
-    let b = c .before .before .before .before .before .before .before .before .before .before .before .before .before .before .before .before .shared-slice-known2 in
-    let h = c .before .before .before .before .before .before .before .before .before .before .before .loop-test in
-    let s = c .before .before .before .before .before .before .before .before .before .before .before .before .before .before .before .before .before .before in
-    let t = c .before .before .before .before .before .before .before .before .before .before .start in
+    let l = c .before .before .before .before .before .before .before .before .before .before .before .before .before .loop in
+    let s = c .before .before .before .before .before .before .before .before .before .before .before .before .before .before .before .before .before .before .before .before in
+    let b = c .before .before .before .before .before .before .before .before .before .before .before .before .before .before .before .before .before .before .shared-slice-known2 in
     let room = enough-room (s .args .budget) (length (now (s .args .work))) (s .pre .0 .work-fits) in
-    seeking-on (l .inv) (λ i. omega (arith, b .given i)) (s .pre .1) room (h .taken) (t .result) (t .ensures) (u .ensures) _ (c .before .used2 .given .1) (omega arith) (u .kept .1 .1 .1 .0) (s .pre .0 .tree) (s .pre .0 .stands)
+    let g = seeking-from (λ i. omega (arith, b .given i)) (s .pre .1) room (omega arith) _ _ _ _ _ (c .before .before .before .before .before .before .before .before .before .before .before .before .before .before .find-opening .ensures) (c .before .before .before .before .before .before .before .before .before .before .before .skip-starts .ensures) (l .inv) in
+    let u = c .before .before .before .before .before .before .before .run-to-end in
+    let t = c .before .before .before .before .before .before .before .before .before .before .start in
+    seeking-on g (λ i. omega (arith, b .given i)) (s .pre .1) room (c .before .before .before .before .before .before .before .before .before .before .before .skip-starts .ensures .inside) (t .result) (t .ensures) (u .ensures) _ (c .before .used2 .given .1) (omega arith) (u .kept .1 .1 .1 .0) (s .pre .0 .tree) (s .pre .0 .stands)
 
 same-length-7 : tie.Need-same-length-7 Inv-loop μ-loop
 same-length-7 c = ap (λ (r : List ℕ). length r) (c .before .loop .inv .same)
@@ -186,23 +213,30 @@ search-spec =
     (tie.spec
     Inv-loop
     μ-loop
+    find-opening-requires
     loop-holds
     cast-loop
+    skip-starts-requires
+    sub-steps
+    cast-steps
+    cast-steps-2
+    mul-steps
+    add-steps
     start-requires
     run-to-end-requires
     enum-known-used
     write-row-requires
-    cast-t27
-    add-t28
+    cast-t35
+    add-t36
     same-length
     same-length-2
     same-length-3
     returns
     enum-known-used-2
-    cast-steps
-    add-steps
+    cast-steps-3
+    add-steps-2
     enum-told
-    add-t31
+    add-t39
     same-length-4
     same-length-5
     same-length-6
