@@ -11,17 +11,21 @@ use Rattle.syntax.specs.declared.Most.{Most}
 use Rattle.syntax.specs.Limits.{registers, ruleAreaNeed}
 use Rattle.syntax.specs.Reading.{unresolved}
 use Rattle.syntax.specs.Tree.{byteIn, assert, reference, Rule, empty, item, seq, alt, group, repeat}
-use Rattle.syntax.specs.Compiled.{greedWord, RunOf, Entered, Compiled}
-use Rattle.linker.specs.Nodes.{Part}
+use Rattle.syntax.specs.Compiled.{greedWord, OneByte, RunOf, Entered, Compiled}
+use Rattle.linker.specs.Nodes.{beforeOf, Plain, Part, Chain, Inside}
 use Rattle.linker.specs.Linking.{Fits, Stands, Made, Links}
-use Rattle.linker.specs.Stores.{EntryKind, RepeatClosed}
-use Rattle.linker.proofs.Regions.{part-here}
+use Rattle.linker.specs.Stores.{ByteWithin, IsOneByte, EntryKind, RepeatClosed}
+use Rattle.linker.proofs.Regions.{part-here, inside-below}
 use Rattle.linker.proofs.Compiled.{keep}
 use Rattle.linker.proofs.Made.{outside-then}
-use Rattle.linker.proofs.Trees.{kindOf, part-kind, for-repeat}
+use Rattle.linker.proofs.Trees.{kindOf, part-kind, for-repeat, for-plain}
 
 body-fits : (groups r place least : ℕ) (most : Most) (g : Greed) (s : Rule) → Fits groups r (repeat place least most g s) → Fits groups (r + 2) s
 body-fits groups r place least most g s f = record { few = f .few; proper = f .proper .1; room = omega (arith, f .room) }
+
+-- what a group that does not capture holds stands below it
+plain-lower : (a : List ℕ) (t : Rule) (lo top p : ℕ) → Part a t lo top p → getD a p 0 ≡ 10 → getD a (p + 2) 0 < p
+plain-lower a t lo top p h e = for-plain a lo top p (λ _. getD a (p + 2) 0 < p) (λ s q. rw (q .is) (inside-below a s lo p (q .inside) p (omega arith) (q .node .some) (q .holds))) e t h
 
 -- what is asked where a repeat stands, at the body's position in the code's words
 pub record RepeatAt (groups r : ℕ) (a : List ℕ) (p : ℕ) : Type 0 where
@@ -30,6 +34,7 @@ pub record RepeatAt (groups r : ℕ) (a : List ℕ) (p : ℕ) : Type 0 where
   pub room : r + 2 ≤ registers
   pub lower : getD a (p + 6) 0 < p
   pub body : Stands (Part a) groups (r + 2) a (getD a (p + 6) 0)
+  pub deeper : getD a (getD a (p + 6) 0) 0 ≡ 10 → getD a (getD a (p + 6) 0 + 2) 0 < getD a (p + 6) 0
 
 pub repeat-at : (groups r : ℕ) (a : List ℕ) (p : ℕ) → Stands (Part a) groups r a p → getD a p 0 ≡ 7 → RepeatAt groups r a p
 unfolding Part
@@ -45,16 +50,15 @@ repeat-at groups r a p s e = for-repeat a (s .lo) (s .top) p (λ t. Fits groups 
           small = omega arith;
           room = omega (arith, f .room);
           lower = rw (h .is) (omega (arith, part-here a t (s .lo) p (h .body) (h .holds) .high));
+          deeper = rw (h .is) (λ e. plain-lower a t (s .lo) p (h .body) (h .holds) e);
           body = rw (h .is) (record { tree = t; lo = s .lo; top = p; holds = h .holds; fits = body-fits groups r place least most g t f; within = omega arith; small = omega arith });
         }
 
 -- what is entered as a run is a greedy repeat of one byte item
-run-of : (a : List ℕ) (g : Greed) (s : Rule) (lo top p x : ℕ) → x ≡ greedWord g → x ≡ 0 → Part a s lo top p → getD a p 0 ≡ 0 → RunOf g s
-unfolding greedWord
-run-of a Lazy s lo top p x e z h k = absurd (omega arith)
-run-of a Greedy s lo top p x e z h k = go s (sym (part-kind a s lo top p h) ∙ k)
+byte-item : (a : List ℕ) (s : Rule) (lo top p : ℕ) → Part a s lo top p → getD a p 0 ≡ 0 → OneByte s
+byte-item a s lo top p h k = go s (sym (part-kind a s lo top p h) ∙ k)
   where
-    go : (s : Rule) → kindOf s ≡ 0 → RunOf Greedy s
+    go : (s : Rule) → kindOf s ≡ 0 → OneByte s
     go (item place (byteIn c)) k = tt
     go (item place (assert c)) k = absurd (omega arith)
     go (item place (reference n)) k = absurd (omega arith)
@@ -63,6 +67,40 @@ run-of a Greedy s lo top p x e z h k = go s (sym (part-kind a s lo top p h) ∙ 
     go empty k = absurd (omega arith)
     go (seq x y) k = absurd (omega arith)
     go (alt bs t) k = absurd (omega arith)
+
+-- a chain of no parts is empty
+none-before : (a : List ℕ) (x y : Rule) (lo top p : ℕ) → p ≡ 0 → Chain a x lo top p → OneByte y → OneByte (seq x y)
+unfolding Part
+none-before a empty y lo top p e h o = o
+none-before a (seq x z) y lo top p e h o = absurd (omega (arith, part-here a z (h .mid) top p (h .right) .some))
+none-before a (item place i) y lo top p e h o = absurd h
+none-before a (alt bs t) y lo top p e h o = absurd h
+none-before a (group n t) y lo top p e h o = absurd h
+none-before a (repeat place least most g t) y lo top p e h o = absurd h
+
+within-plain : (a : List ℕ) (s : Rule) (lo top p : ℕ) → Part a s lo top p → ByteWithin a p → OneByte s
+unfolding Part beforeOf
+within-plain a s lo top p h w = for-plain a lo top p OneByte go (w .plain) s h
+  where
+    byte-is : (q : ℕ) → getD a (p + 2) 0 ≡ q → getD a q 0 ≡ 0
+    byte-is q e = rw e at (w .byte)
+
+    go : (s : Rule) → Plain a (Inside a s) lo top p → OneByte s
+    go empty h = absurd (omega (arith, w .some, h .is, h .holds .0))
+    go (seq x y) h =
+        let b : getD a (h .inside) 0 ≡ 0 = byte-is (h .inside) (h .is) in
+        let z : h .holds .before ≡ 0 = sym (h .holds .link) ∙ rw b (rw (h .is) at (w .alone)) in
+        none-before a x y lo (h .holds .mid) (h .holds .before) z (h .holds .left) (byte-item a y (h .holds .mid) p (h .inside) (h .holds .right) b)
+    go (alt bs t) h = absurd (omega (arith, byte-is (h .inside) (h .is), h .holds .node .is))
+    go (item place i) h = absurd (h .holds)
+    go (group n t) h = absurd (h .holds)
+    go (repeat place least most g t) h = absurd (h .holds)
+
+run-of : (a : List ℕ) (g : Greed) (s : Rule) (lo top p x : ℕ) → x ≡ greedWord g → x ≡ 0 → Part a s lo top p → IsOneByte a p → RunOf g s
+unfolding greedWord
+run-of a Lazy s lo top p x e z h k = absurd (omega arith)
+run-of a Greedy s lo top p x e z h (inl k) = byte-item a s lo top p h k
+run-of a Greedy s lo top p x e z h (inr k) = within-plain a s lo top p h k
 
 module _ (groups r : ℕ) (a b c : List ℕ) (p kind next sofar entry found : ℕ) where
   repeat-made : (place least : ℕ) (most : Most) (g : Greed) (s : Rule) (lo top : ℕ) → Part a (repeat place least most g s) lo top p → Fits groups r (repeat place least most g s)

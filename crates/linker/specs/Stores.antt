@@ -31,9 +31,20 @@ pub record GroupClosed (old new : List ℕ) (p next r entry : ℕ) : Type 0 wher
   pub opener : getD new (p + 6) 0 ≡ r
   pub rest : Outside p (p + 7) old new
 
--- where a repeat stands at p with its body at `body`: 7; or 10, if it is greedy and repeats a byte item
+-- the only part in a group that does not capture is a byte item
+pub record ByteWithin (a : List ℕ) (p : ℕ) : Type 0 where
+  pub plain : getD a p 0 ≡ 10
+  pub some : 1 ≤ getD a (p + 2) 0
+  pub byte : getD a (getD a (p + 2) 0) 0 ≡ 0
+  pub alone : getD a (getD a (p + 2) 0 + 1) 0 ≡ 0
+
+-- one byte item stands at p, by itself or in such a group
+abbrev pub IsOneByte : List ℕ → (p : ℕ) → Type 0
+IsOneByte a p = (getD a p 0 ≡ 0) ⊎ ByteWithin a p
+
+-- where a repeat stands at p with its body at `body`: 7; or 10, if it is greedy and repeats one byte item
 abbrev pub EntryKind : List ℕ → (p body kind : ℕ) → Type 0
-EntryKind a p body kind = (kind ≡ 7) ⊎ ((kind ≡ 10) × (getD a (p + 4) 0 ≡ 0) × (getD a body 0 ≡ 0))
+EntryKind a p body kind = (kind ≡ 7) ⊎ ((kind ≡ 10) × (getD a (p + 4) 0 ≡ 0) × IsOneByte a body)
 
 -- a repeat's kind, register, body and next
 pub record RepeatClosed (old new : List ℕ) (p kind next r entry : ℕ) : Type 0 where

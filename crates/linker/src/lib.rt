@@ -1,11 +1,12 @@
 // Turns the nodes that the first pass left in the rule area into the compiled rule, in place, from the last part to the first.
 ghost use mathlib.Core.Path.{_≡_};
+ghost use mathlib.Core.Bool.{true};
 ghost use Prim.Native.Nat.{_+_, _≤_, _<_};
 ghost use lib.ListN.{getD, length};
 ghost use Rattle.syntax.specs.Limits.{groupLimit, ruleAreaNeed, registers, spansLength};
 ghost use Rattle.linker.specs.Nodes.{beforeOf, Part, Chain, Inside};
 ghost use Rattle.linker.specs.Linking.{Stands, StandAll, Links, LinksAll, LinksWhole};
-ghost use Rattle.linker.specs.Stores.{Put, PutTwo, GroupClosed, EntryKind, RepeatClosed, Referred};
+ghost use Rattle.linker.specs.Stores.{Put, PutTwo, GroupClosed, IsOneByte, EntryKind, RepeatClosed, Referred};
 
 // The kinds of nodes, as specs/Nodes.antt lists them. What is of none of these is an item, and goes on alike.
 const REFERENCE: usize = 2;
@@ -84,18 +85,40 @@ fn close_group(area: &mut [u32], p: usize, next: usize, r: usize, entry: usize)
     put_two(area, p + 5, entry, r);
 }
 
+// Whether one byte item stands at p, by itself or alone in a group that does not capture.
+fn is_one_byte(area: &[u32], p: usize) -> bool
+    requires { ⌜ (p + 3 ≤ length (now area)) × (getD (now area) p 0 ≡ 10 → getD (now area) (p + 2) 0 < p) ⌝ }
+    ensures { λ r. ⌜ (r ≡ true → IsOneByte (now (area .entry)) p) ⌝ }
+{
+    let kind = word(area, p);
+    if kind == BYTE {
+        return true;
+    }
+    if kind != PLAIN {
+        return false;
+    }
+    let inside = word(area, p + 2);
+    if inside == 0 {
+        return false;
+    }
+    if word(area, inside) != BYTE {
+        return false;
+    }
+    word(area, inside + 1) == 0
+}
+
 // The number at which a repeat is entered: a greedy repeat of one byte item is a run.
 fn entry_kind(area: &[u32], p: usize, body: usize) -> usize
-    requires { ⌜ (p + 8 ≤ length (now area)) × (body < p) ⌝ }
+    requires { ⌜ (p + 8 ≤ length (now area)) × (body < p) × (getD (now area) body 0 ≡ 10 → getD (now area) (body + 2) 0 < body) ⌝ }
     ensures { λ k. ⌜ EntryKind (now (area .entry)) p body k ⌝ }
 {
     if word(area, p + 4) != GREEDY {
         return REPEAT;
     }
-    if word(area, body) != BYTE {
-        return REPEAT;
+    if is_one_byte(area, body) {
+        return RUN;
     }
-    RUN
+    REPEAT
 }
 
 // A repeat whose body is linked: its kind, its register, where its body begins, and what follows it.

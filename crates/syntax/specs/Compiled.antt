@@ -9,7 +9,7 @@
 --   branch    5, body, the branch after it
 --   last      6, body                                 the last branch
 --   repeat    7, 8, least, most, greed, register, body, next    entered at the 7, decided again at the 8
---   run      10, 8, least, most, greed, register, body, next    a greedy repeat of one byte item, which is taken as a whole
+--   run      10, 8, least, most, greed, register, body, next    a greedy repeat of one byte item, `a*` or `(?:a)*`, which is taken as a whole
 --   end       9
 --
 -- `next` is the position of the node after it, `place` the item's place in the rule. A group keeps where it was opened, and a repeat its
@@ -52,12 +52,18 @@ greedWord Lazy = 1
 
 -- Runs ----------------------------------------------------------------------------
 
+-- one byte item, by itself or in a group that does not capture
 abbrev pub OneByte : Rule → Type 0
 OneByte empty = ⊥
 OneByte (item place (byteIn c)) = Unit {0}
 OneByte (item place (assert a)) = ⊥
 OneByte (item place (reference n)) = ⊥
-OneByte (seq a b) = ⊥
+OneByte (seq empty b) = OneByte b
+OneByte (seq (item place i) b) = ⊥
+OneByte (seq (seq x y) b) = ⊥
+OneByte (seq (alt bs x) b) = ⊥
+OneByte (seq (group n x) b) = ⊥
+OneByte (seq (repeat place least most g x) b) = ⊥
 OneByte (alt bs b) = ⊥
 OneByte (group n a) = ⊥
 OneByte (repeat place least most g a) = ⊥

@@ -1,5 +1,5 @@
 -- `entry_kind` meets its contract: the two tests that make a repeat a run.
-use mathlib.Core.Path.{refl, sym, _∙_}
+use mathlib.Core.Path.{refl}
 use mathlib.Core.Logic.{inl, inr}
 use native.Mathlib.Omega.{arith}
 use borrow.Author.Needs.{needs}
@@ -15,15 +15,15 @@ word-requires c κs = search needs
 returns : tie.Need-returns
 returns c = inl refl
 
-word-requires-2 : tie.Need-word-requires-2
-word-requires-2 c κs = search needs
+is-one-byte-requires : tie.Need-is-one-byte-requires
+is-one-byte-requires c κs = search needs
 
 returns-2 : tie.Need-returns-2
-returns-2 c = inl refl
+returns-2 c = inr (refl, omega (arith, c .before .before .before .word .ensures .0, c .before .before .if1 .left), c .before .is-one-byte .ensures (c .if2 .taken))
 
 returns-3 : tie.Need-returns-3
-returns-3 c = inr (refl, omega (arith, c .before .before .before .word .ensures .0, c .before .before .if1 .left), omega (arith, c .before .word2 .ensures .0, c .if2 .left))
+returns-3 c = inl refl
 
 pub entry-kind-spec : {M : Type 1} → statement M
 entry-kind-spec =
-    tie.close (tie.spec add-word word-requires returns word-requires-2 returns-2 returns-3)
+    tie.close (tie.spec add-word word-requires returns is-one-byte-requires returns-2 returns-3)

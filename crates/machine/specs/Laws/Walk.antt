@@ -1,5 +1,5 @@
 -- Where a rule stands compiled, the machine emits the rule's walk: one induction over the rule, with a lemma for each form.
-use mathlib.Core.Path.{_≡_, refl, ap, sym, _∙_, subst}
+use mathlib.Core.Path.{_≡_, refl, ap, sym, _∙_, subst, fun-ext}
 use mathlib.Core.List.{List, [], _∷_, _++_, append-assoc, append-nil}
 use mathlib.Core.Logic.{inl, inr}
 use mathlib.Core.Bool.{Bool, true, false}
@@ -367,12 +367,19 @@ module _ (p : Program) (sub : List ℕ) where
         let o = k .node in
         carries-item place (reference n) (sameAs (slot n)) pc next r (fits p pc 2 (o .is) (omega (arith, o .high)) (omega (arith, o .high), rw (k .span) (k .fits))) (decode-at p pc 2 (o .is) ∙ rw (k .goes, k .origin, k .span)) (λ s regs e. agree-reference sub s regs n e)
 
+    -- a group that does not capture and holds one part is repeated as that part
+    same-repeat : (b : Rule) (place least : ℕ) (most : Most) (g : Greed) → _≡_ {A = Go} (walk sub (repeat place least most g b)) (walk sub (repeat place least most g (seq empty b)))
+    unfolding walk
+    same-repeat b place least most g = fun-ext (λ s. rw (fun-ext {f = λ t. done t ▹ (λ u. walk sub b u)} {g = λ t. walk sub b t} (λ t. bind-done t (λ u. walk sub b u))))
+
     works-run : (g : Greed) (a : Rule) (place least : ℕ) (most : Most) (pc next r body loop r′ : ℕ) → RunOf g a → BoundsFit least most
         → repeatAt p (pc + 2) ≡ record { least = least; most = most; greed = g; register = r; body = body; next = next } → pc + 8 ≤ length p → getD p (pc + 6) 0 ≡ body → getD p pc 0 ≡ 10 → Compiled p lo hi a body loop r′
         → Carries (walk sub (repeat place least most g a)) pc next r
     unfolding Compiled
     works-run Greedy (item place′ (byteIn s)) place least most pc next r body loop r′ single fit given h e is k =
         carries-run bytes place place′ s least most pc next r body fit (k .set) (k .origin) given (fits p pc 10 is (omega arith) (h, rw e (omega (arith, k .node .high)))) (decode-at p pc 10 is)
+    works-run Greedy (seq empty b) place least most pc next r body loop r′ single fit given h e is k =
+        subst (λ (f : Go). Carries f pc next r) (same-repeat b place least most Greedy) (works-run Greedy b place least most pc next r body loop r′ single fit given h e is (rw (k .left) (k .right)))
 
     mutual
       unfolding Compiled walk

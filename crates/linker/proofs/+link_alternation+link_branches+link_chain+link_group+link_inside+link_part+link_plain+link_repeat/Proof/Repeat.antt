@@ -18,7 +18,7 @@ module _ (t : ℕ) where
   word-requires c κs = let g = repeat-at _ _ _ _ (c .before .before .pre .1 .0) (c .before .before .pre .1 .2) in omega arith
 
   pub entry-kind-requires : lts.Need-entry-kind-requires (calls t) (at t) Post
-  entry-kind-requires c κs = let g = repeat-at _ _ _ _ (c .before .before .before .before .pre .1 .0) (c .before .before .before .before .pre .1 .2) in omega (arith, c .before .word .ensures .0)
+  entry-kind-requires c κs = let g = repeat-at _ _ _ _ (c .before .before .before .before .pre .1 .0) (c .before .before .before .before .pre .1 .2) in (omega arith, omega (arith, c .before .word .ensures .0), rw (c .before .word .ensures .0) (g .deeper))
 
   pub add-link-part : lts.Need-add-link-part (calls t) (at t) Post
   add-link-part c = let g = repeat-at _ _ _ _ (c .before .before .before .before .before .before .pre .1 .0) (c .before .before .before .before .before .before .pre .1 .2) in omega arith
