@@ -1,0 +1,78 @@
+// Passing over starts that cannot begin.
+ghost use mathlib.Core.Path.{_≡_};
+ghost use Prim.Native.Nat.{_+_, _≤_, _<_, _^_};
+ghost use lib.ListN.{length};
+ghost use Rattle.openings.specs.Openings.{Passed, Misses};
+
+// Which of the four bytes from `at` on is the first that is in the set, or 4. Four looks in a row nearly halve the time of a skipped byte.
+fn nearby(set: &[u32; 8], subject: &[u8], at: usize) -> usize
+    requires { ⌜ at + 4 ≤ length (now subject) ⌝ }
+    ensures { λ k. ⌜ (k ≤ 4) × Misses (now (set .entry)) (now (subject .entry)) at (at + k) ⌝ }
+{
+    if charset::contains(set, 0, subject[at]) {
+        return 0;
+    }
+    if charset::contains(set, 0, subject[at + 1]) {
+        return 1;
+    }
+    if charset::contains(set, 0, subject[at + 2]) {
+        return 2;
+    }
+    if charset::contains(set, 0, subject[at + 3]) {
+        return 3;
+    }
+    4
+}
+
+// From `at` on, by fours: where a byte of the set is, or where fewer than four are left.
+fn skip_fours(set: &[u32; 8], subject: &[u8], at: usize) -> usize
+    requires { ⌜ at ≤ length (now subject) ⌝ }
+    ensures { λ r. ⌜ (at ≤ r) × (r ≤ length (now (subject .entry))) × Misses (now (set .entry)) (now (subject .entry)) at r ⌝ }
+{
+    let end = subject.len();
+    let mut i = at;
+    while i + 4 <= end {
+        let k = nearby(set, subject, i);
+        if k < 4 {
+            return i + k;
+        }
+        i += 4;
+    }
+    i
+}
+
+// The same one by one, up to the subject's end.
+fn skip_ones(set: &[u32; 8], subject: &[u8], at: usize) -> usize
+    requires { ⌜ at ≤ length (now subject) ⌝ }
+    ensures { λ r. ⌜ (at ≤ r) × (r ≤ length (now (subject .entry))) × Misses (now (set .entry)) (now (subject .entry)) at r ⌝ }
+{
+    let mut i = at;
+    while i < subject.len() {
+        if charset::contains(set, 0, subject[i]) {
+            return i;
+        }
+        i += 1;
+    }
+    i
+}
+
+// The first start from `begin` on that can begin, or the subject's end; `begin` itself if nothing is known. The start at the end is never passed
+// over: the caller walks it.
+pub fn skip_starts(set: &[u32; 8], any: bool, cost: u32, subject: &[u8], begin: u32) -> u32
+    requires { ⌜ (begin ≤ length (now subject) + 1) × (length (now subject) < 2 ^ 31) ⌝ }
+    ensures { λ r. ⌜ Passed (now (set .entry)) any (now (subject .entry)) cost begin r ⌝ }
+{
+    if cost == 0 {
+        return begin;
+    }
+    let end = subject.len();
+    let at = begin as usize;
+    if end < at {
+        return begin;
+    }
+    if !any {
+        return end as u32;
+    }
+    let near = skip_fours(set, subject, at);
+    skip_ones(set, subject, near) as u32
+}
