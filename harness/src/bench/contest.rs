@@ -30,6 +30,18 @@ pub struct Measured {
 }
 
 impl Measured {
+    /// The time beyond the fixed part: the walk's.
+    pub fn walk_seconds(&self) -> f64 {
+        walk_seconds(self.seconds, self.bare_seconds)
+    }
+
+    /// What the walk is held against: PCRE2's time with the rule compiled once or, where it then answers something else, without shortcuts.
+    /// On the empty line there is nothing beyond the fixed part, and so no rival.
+    pub fn walk_rival(&self, case: &Case) -> Option<f64> {
+        let seconds = |way| WAYS.iter().zip(&self.rivals).find(|(other, _)| **other == way).and_then(|(_, rate)| rate.seconds());
+        seconds(Way::Once).or_else(|| seconds(Way::NoShortcuts)).filter(|_| !case.subject.is_empty())
+    }
+
     /// Keeps the shorter time of two measurements, one by one.
     pub fn shorten(&mut self, other: &Measured) {
         self.seconds = self.seconds.min(other.seconds);
@@ -40,7 +52,20 @@ impl Measured {
     }
 }
 
+/// What is beyond the fixed part; two times of hardly any walk may come out the wrong way round.
+pub fn walk_seconds(seconds: f64, bare_seconds: f64) -> f64 {
+    (seconds - bare_seconds).max(0.0)
+}
+
 impl Rate {
+    fn seconds(self) -> Option<f64> {
+        if let Rate::Seconds(seconds) = self {
+            Some(seconds)
+        } else {
+            None
+        }
+    }
+
     pub fn shorten(&mut self, other: Rate) {
         if let (Rate::Seconds(seconds), Rate::Seconds(others)) = (self, other) {
             *seconds = seconds.min(others);

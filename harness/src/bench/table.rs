@@ -7,12 +7,15 @@ use super::Case;
 const FEWEST_STEPS: u64 = 50;
 
 pub fn print_head() {
-    println!("| Case | Library | of it fixed | steps | ns a step | / PCRE2 | / PCRE2 compiled once | / PCRE2 without shortcuts | / Perl |");
-    println!("|---|---|---|---|---|---|---|---|---|");
+    println!(
+        "| Case | Library | of it fixed | steps | ns a step | walk / PCRE2 | / PCRE2 | / PCRE2 compiled once | / PCRE2 without shortcuts | / Perl |"
+    );
+    println!("|---|---|---|---|---|---|---|---|---|---|");
 }
 
 pub fn print_row(case: &Case, measured: &Measured) {
     let mut cells = vec![case.name.clone(), time(measured.seconds), time(measured.bare_seconds), grouped(measured.steps), step(measured)];
+    cells.push(walk_ratio(measured.walk_seconds(), measured.walk_rival(case)));
     cells.extend(measured.rivals.iter().map(|&rate| ratio(measured.seconds, rate)));
     println!("| {} |", cells.join(" | "));
 }
@@ -23,7 +26,12 @@ fn step(measured: &Measured) -> String {
     if steps < FEWEST_STEPS {
         return "–".to_string();
     }
-    format!("{:.1}", (measured.seconds - measured.bare_seconds).max(0.0) / steps as f64 * 1e9)
+    format!("{:.1}", measured.walk_seconds() / steps as f64 * 1e9)
+}
+
+/// The walk's time divided by the rival's.
+pub fn walk_ratio(walk_seconds: f64, rival: Option<f64>) -> String {
+    rival.map_or("–".to_string(), |rival| digits(walk_seconds / rival))
 }
 
 /// The library's time divided by the rival's, with the rival's.
@@ -36,7 +44,7 @@ fn ratio(ours: f64, rate: Rate) -> String {
     }
 }
 
-fn time(seconds: f64) -> String {
+pub fn time(seconds: f64) -> String {
     match seconds * 1e9 {
         ns if ns < 1e3 => format!("{ns:.0} ns"),
         ns if ns < 1e6 => format!("{} µs", digits(ns / 1e3)),
@@ -45,7 +53,7 @@ fn time(seconds: f64) -> String {
 }
 
 /// Two digits behind the point below 10, one below 100, and then none.
-fn digits(number: f64) -> String {
+pub fn digits(number: f64) -> String {
     match number {
         small if small < 9.995 => format!("{small:.2}"),
         middling if middling < 99.95 => format!("{middling:.1}"),
