@@ -12,7 +12,8 @@ const TEXT: &[u8] = b"the tank is filled with milk and the pump runs until the l
 const WORDS: &str = "alpha|bravo|charlie|delta|echo|foxtrot|golf|hotel|india|juliett|kilo|lima|mike|november|oscar|papa|quebec|romeo|sierra|tango";
 
 pub fn all() -> Vec<Case> {
-    [gateway(), long_scans(), alternations(), classes(), references(), catastrophes(), listings()].into_iter().flatten().collect()
+    let kinds = [gateway(), short(), long_scans(), skipped_scans(), alternations(), classes(), references(), catastrophes(), listings()];
+    kinds.into_iter().flatten().collect()
 }
 
 /// A case; its name tells the budget if that is not the gateway's.
@@ -51,6 +52,20 @@ fn gateway() -> Vec<Case> {
     ]
 }
 
+/// Calls with hardly any walk. What a library prepares in order to walk faster is paid here, and brings nothing in.
+fn short() -> Vec<Case> {
+    let on = |call, what, rule, line: &str, room| case(call, &format!("{what}: `{rule}` on `{line}`"), rule, line.as_bytes(), GATEWAY, room);
+    vec![
+        on(Call::Match, "short", "a", "a", 1),
+        on(Call::Match, "short, not matched", "a", "b", 1),
+        on(Call::Match, "short", r"\d+", "12", 1),
+        matching("short, not matched", "x?y", &text_and(20, ""), GATEWAY),
+        case(Call::Match, "short: alternation of twenty words, the last one alone on 5 bytes", &twenty_words(), b"tango", GATEWAY, 1),
+        on(Call::List, "short listing", "(a|b)", "ab", 2),
+        case(Call::List, "short listing: `a*` on the empty line", "a*", b"", GATEWAY, 1),
+    ]
+}
+
 fn long_scans() -> Vec<Case> {
     vec![
         matching("long scan, missing", "needle", &text_and(LONGEST_SUBJECT, "."), GATEWAY),
@@ -59,8 +74,26 @@ fn long_scans() -> Vec<Case> {
     ]
 }
 
+/// Rules of several shapes that no start but the last few, or the first, can begin with.
+fn skipped_scans() -> Vec<Case> {
+    let scan = |what, rule, end| matching(what, rule, &text_and(LONGEST_SUBJECT, end), GATEWAY);
+    let few_rows = r"listing: `(\d+),`, 2 rows at the end of 65,535 bytes";
+    vec![
+        scan("skipped scan, group", r"(\d+),(\d+)", "12,5"),
+        scan("skipped scan, branches", r"(?:\d+|#),x", "12,x"),
+        scan("skipped scan, no minimum", r"-?\d+\.\d", "-4.2"),
+        scan("skipped scan, missing at start 0", "^#", "."),
+        scan("skipped scan, missing at start 0", r"\A\d", "."),
+        case(Call::List, few_rows, r"(\d+),", &text_and(LONGEST_SUBJECT, "12,"), GATEWAY, 2),
+    ]
+}
+
+fn twenty_words() -> String {
+    format!("(?:{WORDS})")
+}
+
 fn alternations() -> Vec<Case> {
-    let one = |name, length| case(Call::Match, name, &format!("(?:{WORDS})"), &text_and(length, "tango"), GATEWAY, 1);
+    let one = |name, length| case(Call::Match, name, &twenty_words(), &text_and(length, "tango"), GATEWAY, 1);
     vec![
         one("alternation of twenty words, the last one at the end of 80 bytes", 80),
         one("alternation of twenty words, the last one at the end of 65,535 bytes", LONGEST_SUBJECT),
