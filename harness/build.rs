@@ -4,6 +4,9 @@ use std::env;
 use std::path::{Path, PathBuf};
 use std::process::{Command, Stdio};
 
+/// Names another archive than the repository's own, so that two libraries can be compared.
+const ARCHIVE: &str = "TERRAVISCO_ARCHIVE";
+
 fn main() {
     link_terravisco();
     println!("cargo:rustc-check-cfg=cfg(pcre2)");
@@ -14,22 +17,30 @@ fn main() {
     println!("cargo:rerun-if-changed=build.rs");
 }
 
-/// Links `target/staticlib/libterravisco.a` of the repository, or says how to build it.
+/// Links the archive that the environment names, or `target/staticlib/libterravisco.a` of the repository, or says how to build that. What is
+/// linked is a copy: a library that was put by for comparing may have any file name, and the linker looks for one.
 fn link_terravisco() {
-    let package = PathBuf::from(env::var("CARGO_MANIFEST_DIR").expect("cargo names the package's folder"));
-    let folder = package.join("../target/staticlib");
-    let archive = folder.join("libterravisco.a");
+    println!("cargo:rerun-if-env-changed={ARCHIVE}");
+    let package = folder_of("CARGO_MANIFEST_DIR");
+    let archive = env::var_os(ARCHIVE).map_or_else(|| package.join("../target/staticlib/libterravisco.a"), PathBuf::from);
     println!("cargo:rerun-if-changed={}", archive.display());
     if !archive.exists() {
         panic!("{} is missing: build the static library first (README.md says how)", archive.display());
     }
+    let folder = folder_of("OUT_DIR");
+    std::fs::copy(&archive, folder.join("libterravisco.a")).expect("the archive can be copied");
     println!("cargo:rustc-link-search=native={}", folder.display());
     println!("cargo:rustc-link-lib=static=terravisco");
 }
 
+/// A folder that cargo names in the environment.
+fn folder_of(variable: &str) -> PathBuf {
+    PathBuf::from(env::var(variable).expect("cargo names its folders"))
+}
+
 /// Whether a C program that includes PCRE2's header and names its 8-bit library can be built: then both are there.
 fn pcre2_is_installed() -> bool {
-    let folder = PathBuf::from(env::var("OUT_DIR").expect("cargo names a folder for what a build makes"));
+    let folder = folder_of("OUT_DIR");
     let source = folder.join("pcre2_probe.c");
     let text = "#define PCRE2_CODE_UNIT_WIDTH 8\n#include <pcre2.h>\nint main(void) { return pcre2_config(PCRE2_CONFIG_VERSION, 0) < 0; }\n";
     std::fs::write(&source, text).is_ok() && builds(&source, &folder.join("pcre2_probe"))

@@ -3,6 +3,7 @@
 pub mod cases;
 #[cfg(pcre2)]
 mod collector;
+pub mod compare;
 pub mod contest;
 pub mod library;
 pub mod pcre2;

@@ -1,13 +1,31 @@
-//! Times the library beside PCRE2's interpreter and Perl, and prints a table for docs/BENCHMARKS.md.
+//! Times the library beside PCRE2's interpreter and Perl, and prints a table for docs/BENCHMARKS.md. `--pass` prints one pass as plain numbers,
+//! and `--compare BEFORE AFTER` a table of two files of such passes, made by this program as it was linked with two libraries.
+
+use std::fs::read_to_string;
+use std::process::ExitCode;
 
 use harness::bench::contest::{measure, Measured, Rate};
 use harness::bench::perl::{self, Perl};
-use harness::bench::{cases, pcre2, table, Case, Reply};
+use harness::bench::{cases, compare, pcre2, table, Case, Reply};
 
 /// Passes over all cases: work beside that slows a whole case down is hardly there at the same case of each pass.
 const PASSES: usize = 4;
 
-fn main() {
+fn main() -> ExitCode {
+    let given: Vec<String> = std::env::args().skip(1).collect();
+    match given.iter().map(String::as_str).collect::<Vec<_>>()[..] {
+        [] => print_table(),
+        ["--pass"] => cases::all().iter().for_each(|case| compare::print_plain(case, &measure(case))),
+        ["--compare", before, after] => return print_comparison(before, after),
+        _ => {
+            eprintln!("usage: [--pass | --compare BEFORE AFTER]");
+            return ExitCode::from(2);
+        }
+    }
+    ExitCode::SUCCESS
+}
+
+fn print_table() {
     let cases = cases::all();
     let (mut all, perl) = pass(&cases);
     for _ in 1..PASSES {
@@ -20,6 +38,18 @@ fn main() {
     for (case, measured) in cases.iter().zip(&all) {
         table::print_row(case, measured);
     }
+}
+
+/// The steps are part of every answer: two libraries that differ in them are not both right, whatever their times.
+fn print_comparison(before: &str, after: &str) -> ExitCode {
+    println!("{}\n", pcre2::version());
+    let read = |path| read_to_string(path).map_err(|error| format!("{path}: {error}"));
+    match read(before).and_then(|before| compare::print_table(&before, &read(after)?)) {
+        Ok(true) => return ExitCode::SUCCESS,
+        Ok(false) => println!("\nFAILED: THE STEPS OF SOME CASES DIFFER. One of the two libraries counts wrongly."),
+        Err(error) => eprintln!("{error}"),
+    }
+    ExitCode::FAILURE
 }
 
 /// All cases once, and Perl's version or what is wrong with it.
