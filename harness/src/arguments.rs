@@ -1,4 +1,4 @@
-//! The arguments that the test programs share: `--cases N` and `--seeds A..B`.
+//! The arguments that the test programs share: `--cases N` and `--seeds A..B`, and a switch that one of them has.
 
 use std::ops::Range;
 
@@ -10,8 +10,16 @@ pub struct Arguments {
 
 /// The arguments given, or these for the ones that are not; ends the program where they cannot be read.
 pub fn arguments(cases: u64, seeds: Range<u64>) -> Arguments {
-    let given: Vec<String> = std::env::args().skip(1).collect();
-    let mut arguments = Arguments { cases, seeds };
+    read_all(std::env::args().skip(1).collect(), Arguments { cases, seeds })
+}
+
+/// The same where a switch may stand among them, and whether it does.
+pub fn arguments_and_switch(switch: &str, cases: u64, seeds: Range<u64>) -> (Arguments, bool) {
+    let (switches, given): (Vec<String>, Vec<String>) = std::env::args().skip(1).partition(|argument| argument == switch);
+    (read_all(given, Arguments { cases, seeds }), !switches.is_empty())
+}
+
+fn read_all(given: Vec<String>, mut arguments: Arguments) -> Arguments {
     if !given.len().is_multiple_of(2) || !given.chunks(2).all(|pair| read(&mut arguments, &pair[0], &pair[1])) {
         eprintln!("usage: [--cases N] [--seeds A..B]");
         std::process::exit(2);

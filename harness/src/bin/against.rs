@@ -1,22 +1,27 @@
 //! The library against the independent matcher on random calls: answers, steps, rows, refusals with their places, and every number of the
-//! three areas. `--cases N --seeds A..B` runs other cases, as many as wanted.
+//! three areas. `--cases N --seeds A..B` runs other cases, as many as wanted; `--fast` those that are aimed at a matcher's fast paths.
 
-use harness::arguments::arguments;
+use harness::arguments::arguments_and_switch;
 use harness::case::Case;
 use harness::independent::{Answer, Ending};
 use harness::lender::Lender;
-use harness::random::calls;
+use harness::random::{calls, fast};
 use harness::report::Group;
 use harness::shrink::shrunk;
 
 fn main() -> std::process::ExitCode {
-    let arguments = arguments(100_000, 1..4);
-    let mut group = Group::new("random calls against the independent matcher");
+    let (arguments, is_fast) = arguments_and_switch("--fast", 100_000, 1..4);
+    let (name, make): (_, fn(u64, u64) -> Case) = if is_fast {
+        ("random calls for fast paths against the independent matcher", fast::case)
+    } else {
+        ("random calls against the independent matcher", calls::case)
+    };
+    let mut group = Group::new(name);
     let mut lender = Lender::default();
     let mut kinds = Kinds::default();
     for seed in arguments.seeds.clone() {
         for number in 0..arguments.cases {
-            let case = calls::case(seed, number);
+            let case = make(seed, number);
             let expected = case.expected();
             let faults = lender.compare(&case, &expected);
             kinds.count(&expected);
@@ -51,11 +56,12 @@ impl Kinds {
 
     fn told(&self) -> String {
         let [matched, not, complete, full, exhausted] = self.endings;
+        let walked = format!("{matched} matched, {not} not, {complete} complete, {full} full, {exhausted} exhausted");
         let rarest = (1..25).filter(|number| ![8, 9].contains(number)).map(|number| self.refusals[number]).min().unwrap_or(0);
-        let refused: u64 = self.refusals.iter().sum();
-        format!(
-            "{matched} matched, {not} not, {complete} complete, {full} full, {exhausted} exhausted, {refused} refused, each refusal at least {rarest} times"
-        )
+        match self.refusals.iter().sum::<u64>() {
+            0 => walked,
+            refused => format!("{walked}, {refused} refused, each refusal at least {rarest} times"),
+        }
     }
 }
 

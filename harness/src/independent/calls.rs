@@ -65,6 +65,14 @@ pub fn answer(call: Call, inputs: &Inputs) -> Answer {
     }
 }
 
+/// The steps that a call takes at one start, where its budget allows for so many: those up to the first end in a match, and in a listing those
+/// of the whole walk.
+pub fn steps_at(call: Call, rule: &Rule, subject: &[u8], start: usize, budget: u64) -> u64 {
+    let mut walk = Walk::new(rule, subject, start, budget);
+    while matches!(walk.next_event(), Event::End(_)) && call == Call::List {}
+    walk.steps
+}
+
 /// The first of refusals 1 to 7 that is due, "tested in this order".
 fn unacceptable(inputs: &Inputs) -> Option<u32> {
     let tests = [

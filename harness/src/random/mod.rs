@@ -2,6 +2,7 @@
 
 pub mod calls;
 pub mod damage;
+pub mod fast;
 pub mod rules;
 pub mod shared;
 pub mod subjects;

@@ -40,7 +40,7 @@ fn any(rng: &mut Rng, alphabet: &[u8]) -> Vec<u8> {
 }
 
 /// A line grown along the rule: the bytes of some branches and rounds. Places are not looked at, so it need not fit.
-fn fitting(rng: &mut Rng, rule: &Rule) -> Vec<u8> {
+pub fn fitting(rng: &mut Rng, rule: &Rule) -> Vec<u8> {
     let mut line = Line { text: Vec::new(), groups: vec![Vec::new(); rule.groups + 1] };
     line.alternation(rng, &rule.whole);
     line.text.truncate(LONGEST);

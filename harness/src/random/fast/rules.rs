@@ -1,0 +1,193 @@
+//! Rules by how they begin: with sets, groups, branches, repeats of every kind and places, alone and within each other.
+
+use crate::random::Rng;
+
+/// Items that take one byte; those that are here twice fit the subjects' bytes best.
+const ITEMS: [&str; 28] = [
+    "a",
+    "a",
+    "a",
+    "b",
+    "b",
+    "1",
+    ",",
+    "#",
+    "[ab]",
+    "[ab]",
+    "[^a]",
+    "[a-c1]",
+    ".",
+    ".",
+    "\\d",
+    "\\d",
+    "\\w",
+    "\\W",
+    "\\N",
+    "\\x61",
+    "[\\d,]",
+    "\\n",
+    "\n",
+    "[^\\n]",
+    "[\\x80-\\xFF]",
+    "\\x00",
+    "[\\d\\D]",
+    "[^\\d\\D]",
+];
+
+/// Rules of many readings, many of them met more than once, and others of one span that differ in a group.
+const MANY_READINGS: [&str; 20] = [
+    "(.*)",
+    "^(.*)",
+    "(?:.*|.*)",
+    "^(?:.*|.*)",
+    "(a*)(a*)",
+    "(a*)(a*)(a*)",
+    "^(a*)(b*)(a*)",
+    "(a|a)*",
+    "(a?)*",
+    "(a??)*",
+    "(?:(a)|(b)|(a))*",
+    "(a+)",
+    "(?:a*|a*?)",
+    "(a*?)(a*)",
+    "((a)|a)*",
+    ".*.*",
+    "(.)*",
+    "(?:|a)(?:a|)",
+    "(a|ab)(b|)",
+    "(\\d*),?(\\d*)",
+];
+
+/// Places that say something of the byte before or behind, so that a start's own byte does not settle whether it can begin.
+const PLACES: [&str; 6] = ["$", "\\b", "\\B", "\\z", "\\Z", "^"];
+
+/// A rule of any of the beginnings.
+pub fn rule(rng: &mut Rng) -> Vec<u8> {
+    let mut maker = Maker::new(rng);
+    let depth = maker.rng.weighted(&[35, 35, 22, 8]);
+    maker.alternation(depth, true);
+    maker.rule.into_bytes()
+}
+
+/// A rule that has many readings on a line of the same bytes.
+pub fn many_readings(rng: &mut Rng) -> Vec<u8> {
+    let mut maker = Maker::new(rng);
+    let text = *maker.rng.pick(&MANY_READINGS);
+    maker.write(text);
+    if maker.rng.percent(40) {
+        maker.item(1, false);
+    }
+    maker.rule.into_bytes()
+}
+
+struct Maker<'r> {
+    rng: &'r mut Rng,
+    /// Items that this rule has more often than others: what stands behind a run then often takes the same bytes.
+    favoured: [&'static str; 2],
+    /// Groups opened so far.
+    groups: usize,
+    rule: String,
+}
+
+impl<'r> Maker<'r> {
+    fn new(rng: &'r mut Rng) -> Maker<'r> {
+        let favoured = [(); 2].map(|()| *rng.pick(&ITEMS));
+        Maker { rng, favoured, groups: 0, rule: String::new() }
+    }
+
+    fn write(&mut self, text: &str) {
+        self.rule.push_str(text);
+    }
+
+    /// Branches; `begins` says that nothing stands before them.
+    fn alternation(&mut self, depth: usize, begins: bool) {
+        let branches = 1 + self.rng.weighted(&[52, 25, 14, 9]);
+        for branch in 0..branches {
+            if branch > 0 {
+                self.write("|");
+            }
+            self.sequence(depth, begins);
+        }
+    }
+
+    fn sequence(&mut self, depth: usize, begins: bool) {
+        if self.rng.percent(if begins { 15 } else { 2 }) {
+            let place = *self.rng.pick(&["^", "^", "\\A", "\\A", "^^", "\\A^"]);
+            self.write(place);
+        }
+        let items = self.rng.weighted(&[6, 42, 30, 15, 7]);
+        for index in 0..items {
+            self.item(depth, begins && index == 0);
+        }
+    }
+
+    fn item(&mut self, depth: usize, begins: bool) {
+        let group = if depth > 0 { 15 } else { 0 };
+        match self.rng.weighted(&[36, 32, group, group, 3, 3]) {
+            0 => self.byte(),
+            1 => self.run(),
+            2 => self.group(depth, begins),
+            3 => {
+                self.group(depth, begins);
+                self.repeat();
+            }
+            4 => {
+                let place = *self.rng.pick(&PLACES);
+                self.write(place);
+            }
+            _ => self.reference(),
+        }
+    }
+
+    fn byte(&mut self) {
+        let item = if self.rng.percent(70) { *self.rng.pick(&self.favoured) } else { *self.rng.pick(&ITEMS) };
+        self.write(item);
+    }
+
+    /// A repeat over one byte item, which may stand in brackets.
+    fn run(&mut self) {
+        let (opening, closing) = *self.rng.pick(&[("", ""), ("", ""), ("", ""), ("", ""), ("", ""), ("(?:", ")"), ("(", ")"), ("(?:(?:", "))")]);
+        self.groups += usize::from(opening == "(");
+        self.write(opening);
+        self.byte();
+        self.write(closing);
+        self.repeat();
+    }
+
+    fn group(&mut self, depth: usize, begins: bool) {
+        let captures = self.rng.percent(50);
+        self.groups += usize::from(captures);
+        self.write(if captures { "(" } else { "(?:" });
+        self.alternation(depth - 1, begins);
+        self.write(")");
+    }
+
+    /// A reference to a group that was opened before, or a byte item where there is none.
+    fn reference(&mut self) {
+        if self.groups == 0 {
+            return self.byte();
+        }
+        let group = self.rng.between(1, self.groups);
+        self.write(&format!("\\g{{{group}}}"));
+    }
+
+    fn repeat(&mut self) {
+        let low = self.rng.between(0, 4);
+        let high = low + self.rng.weighted(&[30, 35, 20, 15]);
+        let text = match self.rng.weighted(&[28, 24, 14, 8, 8, 11, 3, 2, 2]) {
+            0 => "*".to_string(),
+            1 => "+".to_string(),
+            2 => "?".to_string(),
+            3 => format!("{{{low}}}"),
+            4 => format!("{{{low},}}"),
+            5 => format!("{{{low},{high}}}"),
+            6 => "{0}".to_string(),
+            7 => format!("{{{low},{}}}", low + self.rng.between(5, 60)),
+            _ => format!("{{{},}}", low + self.rng.between(5, 30)),
+        };
+        self.write(&text);
+        if self.rng.percent(20) {
+            self.write("?");
+        }
+    }
+}
