@@ -31,7 +31,7 @@ fn matching(what: &str, rule: &str, subject: &[u8], budget: u32) -> Case {
 }
 
 /// The text as often as it takes, and at its very end this.
-fn text_and(length: usize, end: &str) -> Vec<u8> {
+pub fn text_and(length: usize, end: &str) -> Vec<u8> {
     let before = TEXT.iter().copied().cycle().take(length - end.len());
     before.chain(end.bytes()).collect()
 }

@@ -5,6 +5,7 @@ pub mod cases;
 mod collector;
 pub mod compare;
 pub mod contest;
+pub mod growth;
 pub mod library;
 pub mod pcre2;
 pub mod perl;

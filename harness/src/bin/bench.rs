@@ -1,12 +1,13 @@
 //! Times the library beside PCRE2's interpreter and Perl, and prints a table for docs/BENCHMARKS.md. `--pass` prints one pass as plain numbers,
-//! and `--compare BEFORE AFTER` a table of two files of such passes, made by this program as it was linked with two libraries.
+//! and `--compare BEFORE AFTER` a table of two files of such passes, made by this program as it was linked with two libraries. `--growth` prints how
+//! the library's times grow with the size.
 
 use std::fs::read_to_string;
 use std::process::ExitCode;
 
 use harness::bench::contest::{measure, Measured, Rate};
 use harness::bench::perl::{self, Perl};
-use harness::bench::{cases, compare, pcre2, table, Case, Reply};
+use harness::bench::{cases, compare, growth, pcre2, table, Case, Reply};
 
 /// Passes over all cases: work beside that slows a whole case down is hardly there at the same case of each pass.
 const PASSES: usize = 4;
@@ -16,9 +17,10 @@ fn main() -> ExitCode {
     match given.iter().map(String::as_str).collect::<Vec<_>>()[..] {
         [] => print_table(),
         ["--pass"] => cases::all().iter().for_each(|case| compare::print_plain(case, &measure(case))),
+        ["--growth"] => growth::print(),
         ["--compare", before, after] => return print_comparison(before, after),
         _ => {
-            eprintln!("usage: [--pass | --compare BEFORE AFTER]");
+            eprintln!("usage: [--growth | --pass | --compare BEFORE AFTER]");
             return ExitCode::from(2);
         }
     }
