@@ -1,5 +1,7 @@
 //! One case, measured: the library and PCRE2 in turns, after their answers have been compared.
 
+use std::cell::RefCell;
+
 use super::library::Library;
 use super::pcre2::{Rival, Way};
 use super::turns::shortest;
@@ -76,9 +78,10 @@ impl Rate {
 pub const WAYS: [Way; 3] = [Way::EachCall, Way::Once, Way::NoShortcuts];
 
 pub fn measure(case: &Case) -> Measured {
-    let (mut library, mut bare) = (Library::new(case, &case.subject), Library::new(case, b""));
-    let ((reply, steps), (_, bare_steps)) = (library.reply(), bare.reply());
-    let mut calls: Vec<Box<dyn FnMut()>> = vec![Box::new(|| library.call()), Box::new(|| bare.call())];
+    let library = RefCell::new(Library::new(case));
+    let (_, bare_steps) = library.borrow_mut().reply(b"");
+    let (reply, steps) = library.borrow_mut().reply(&case.subject);
+    let mut calls: Vec<Box<dyn FnMut()>> = vec![Box::new(|| library.borrow_mut().call(&case.subject)), Box::new(|| library.borrow_mut().call(b""))];
     let mut rivals = Vec::new();
     for way in WAYS {
         rivals.push(match rival(case, way, &reply) {

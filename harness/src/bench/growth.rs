@@ -1,6 +1,8 @@
 //! How the cost of a call grows: the time beyond the fixed part against the length of the line, the rows of a listing and the budget, each with the
 //! exponent that fits best. An exponent of 1 says that twice the size takes twice the time.
 
+use std::cell::RefCell;
+
 use super::cases::text_and;
 use super::contest::walk_seconds;
 use super::library::Library;
@@ -110,15 +112,15 @@ fn measured(all: &[Series], cut_off: bool) -> Vec<Vec<Times>> {
 
 /// One point; `cut_off` says that its budget is to end the walk.
 fn measure(case: &Case, cut_off: bool) -> Times {
-    let (mut library, mut bare) = (Library::new(case, &case.subject), Library::new(case, b""));
-    match library.reply().0 {
+    let library = RefCell::new(Library::new(case));
+    match library.borrow_mut().reply(&case.subject).0 {
         Reply::GaveUp => assert!(cut_off, "a walk is cut off by its budget, so that its time says nothing of its size"),
         Reply::Rows(rows) => {
             assert!(!cut_off, "a walk that was to be cut off comes to its end");
             assert!(case.call == Call::Match || rows.len() == ROW_LENGTH * case.room, "a listing has other rows than its size says");
         }
     }
-    let times = shortest(&mut [Box::new(|| library.call()), Box::new(|| bare.call())]);
+    let times = shortest(&mut [Box::new(|| library.borrow_mut().call(&case.subject)), Box::new(|| library.borrow_mut().call(b""))]);
     Times { seconds: times[0], bare_seconds: times[1] }
 }
 

@@ -1,4 +1,4 @@
-//! The library as a contender: one call on areas of exactly the size that it needs.
+//! The library as a contender: calls on areas of exactly the size that they need.
 
 use std::hint::black_box;
 
@@ -7,8 +7,7 @@ use crate::independent::{ROW_LENGTH, RULE_AREA, WORK_PER_STEP};
 use crate::raw::{self, Areas, Call, Question};
 
 pub struct Library<'c> {
-    call: Call,
-    question: Question<'c>,
+    case: &'c Case,
     rule_area: Vec<u32>,
     work_area: Vec<u32>,
     result: Vec<u32>,
@@ -16,11 +15,9 @@ pub struct Library<'c> {
 }
 
 impl<'c> Library<'c> {
-    /// The case's call, on this subject.
-    pub fn new(case: &'c Case, subject: &'c [u8]) -> Library<'c> {
+    pub fn new(case: &'c Case) -> Library<'c> {
         Library {
-            call: case.call,
-            question: Question { rule: &case.rule, flags: 0, subject, budget: case.budget },
+            case,
             rule_area: vec![0; RULE_AREA],
             work_area: vec![0; WORK_PER_STEP * case.budget as usize],
             result: vec![0; ROW_LENGTH * case.room],
@@ -28,19 +25,22 @@ impl<'c> Library<'c> {
         }
     }
 
-    pub fn call(&mut self) {
+    /// The case's call, on this subject. It is the same areas for all subjects: what clearing them takes hangs on where they lie, and the time on
+    /// the empty line is taken off that of the walk.
+    pub fn call(&mut self, subject: &[u8]) {
+        let question = Question { rule: &self.case.rule, flags: 0, subject, budget: self.case.budget };
         let areas = Areas { rule: &mut self.rule_area, work: &mut self.work_area, result: &mut self.result };
-        raw::call(self.call, black_box(self.question), areas, &mut self.answer);
+        raw::call(self.case.call, black_box(question), areas, &mut self.answer);
         black_box(&self.answer);
         black_box(&self.result);
     }
 
     /// What a call answers, and after how many steps.
-    pub fn reply(&mut self) -> (Reply, u64) {
-        self.call();
+    pub fn reply(&mut self, subject: &[u8]) -> (Reply, u64) {
+        self.call(subject);
         let [kind, detail, place, low, high, rows] = self.answer;
         let steps = u64::from(high) << 32 | u64::from(low);
-        let rows = match (self.call, kind) {
+        let rows = match (self.case.call, kind) {
             (_, 3) => panic!("a case of the benchmark is refused: {detail} at {place}"),
             (Call::List, 1) => panic!("a case of the benchmark has too few rows"),
             (_, 2) => return (Reply::GaveUp, steps),
