@@ -1,10 +1,10 @@
-//! Two libraries side by side. A program is linked with one library alone, so each prints its passes as plain numbers, and these are joined.
+//! Two libraries side by side. A program is linked with one library alone, at one place; so each prints plain numbers, and these are joined.
 
 use super::contest::{walk_seconds, Measured};
 use super::table::{digits, grouped, time, walk_ratio};
 use super::Case;
 
-/// What the passes of one program have of a case; of each time the shortest, in seconds.
+/// What the programs with one library have of a case; of each time the shortest, in seconds.
 struct Entry {
     name: String,
     steps: u64,
@@ -14,18 +14,18 @@ struct Entry {
     rival: Option<f64>,
 }
 
-/// A case of one pass on a line: its name, its steps, and in nanoseconds the call, the fixed part and the rival, which is 0 where there is none.
+/// A case on a line: its name, its steps, and in nanoseconds the call, its fixed part and the walk's rival, which is 0 where there is none.
 pub fn print_plain(case: &Case, measured: &Measured) {
     let rival = measured.walk_rival(case).unwrap_or(0.0);
     let times = [measured.seconds, measured.bare_seconds, rival].map(|seconds| format!("{:.2}", seconds * 1e9));
     println!("{}\t{}\t{}", case.name, measured.steps, times.join("\t"));
 }
 
-/// The table of what two programs printed, and whether the steps of all cases are equal in both; or what is wrong with the lines.
+/// The table of what the programs with two libraries printed, and whether the steps of all cases are equal in both; or what is wrong with the lines.
 pub fn print_table(before: &str, after: &str) -> Result<bool, String> {
     let (before, after) = (entries(before)?, entries(after)?);
     if before.len() != after.len() {
-        return Err("the two programs do not have the same cases".to_string());
+        return Err("the two do not have the same cases".to_string());
     }
     println!("| Case | steps | walk / PCRE2 before | after | whole call before | after | after / before |");
     println!("|---|---|---|---|---|---|---|");
@@ -37,7 +37,7 @@ pub fn print_table(before: &str, after: &str) -> Result<bool, String> {
     Ok(all_equal)
 }
 
-/// PCRE2 is the same in both programs, so its shortest time in either counts for both.
+/// PCRE2 is the same beside both, so its shortest time beside either counts for both.
 fn print_row(before: &Entry, after: &Entry) {
     let steps = if before.steps == after.steps {
         grouped(after.steps)
@@ -50,11 +50,11 @@ fn print_row(before: &Entry, after: &Entry) {
     println!("| {} | {steps} | {walks} | {whole} | {} |", after.name, digits(after.seconds / before.seconds));
 }
 
-/// The lines of several passes, joined by the cases' names.
+/// The lines of several programs, joined by the cases' names.
 fn entries(lines: &str) -> Result<Vec<Entry>, String> {
     let mut entries: Vec<Entry> = Vec::new();
     for line in lines.lines() {
-        let entry = read(line).ok_or_else(|| format!("no line of a pass: {line}"))?;
+        let entry = read(line).ok_or_else(|| format!("no line of a case: {line}"))?;
         match entries.iter_mut().find(|known| known.name == entry.name) {
             Some(known) => known.shorten(&entry),
             None => entries.push(entry),

@@ -1,6 +1,6 @@
-//! Times the library beside PCRE2's interpreter and Perl, and prints a table for docs/BENCHMARKS.md. `--pass` prints one pass as plain numbers,
-//! and `--compare BEFORE AFTER` a table of two files of such passes, made by this program as it was linked with two libraries. `--growth` prints how
-//! the library's times grow with the size.
+//! Times the library beside PCRE2's interpreter and Perl, and prints a table for docs/BENCHMARKS.md. `--growth` prints how the library's times grow
+//! with the size. For two libraries there are as many programs: `--count` prints how many cases there are, `--plain NUMBER` plain numbers of one of
+//! them, and `--compare BEFORE AFTER` a table of two files of such lines.
 
 use std::fs::read_to_string;
 use std::process::ExitCode;
@@ -16,11 +16,15 @@ fn main() -> ExitCode {
     let given: Vec<String> = std::env::args().skip(1).collect();
     match given.iter().map(String::as_str).collect::<Vec<_>>()[..] {
         [] => print_table(),
-        ["--pass"] => cases::all().iter().for_each(|case| compare::print_plain(case, &measure(case))),
+        ["--count"] => println!("{}", cases::all().len()),
+        ["--plain", number] => {
+            let case = &cases::all()[number.parse::<usize>().expect("a case has a number")];
+            compare::print_plain(case, &measure(case));
+        }
         ["--growth"] => growth::print(),
         ["--compare", before, after] => return print_comparison(before, after),
         _ => {
-            eprintln!("usage: [--growth | --pass | --compare BEFORE AFTER]");
+            eprintln!("usage: [--growth | --count | --plain NUMBER | --compare BEFORE AFTER]");
             return ExitCode::from(2);
         }
     }
