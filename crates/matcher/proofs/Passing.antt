@@ -1,54 +1,31 @@
--- Starts that are skipped: which rules have a set for it, and what is known of the starts that were passed. Assumes nothing.
-use mathlib.Core.Path.{_≡_, refl, subst}
-use mathlib.Core.List.{List, []}
-use mathlib.Core.Bool.{Bool, true, false}
-use Prim.Native.Nat.{ℕ, _+_, _≤_, _<_}
+-- Starts that are passed: what holds before one start and is carried over each that cannot begin holds before the start that is come to.
+use mathlib.Core.Path.{_≡_}
+use mathlib.Core.List.{List}
+use mathlib.Core.Logic.{_⊎_, inl, inr}
+use mathlib.Core.Bool.{Bool}
+use Prim.Native.Nat.{ℕ, zero, suc, _+_, _-_, _*_, _≤_, _<_}
 use native.Mathlib.Omega.{arith}
-use lib.ListN.{length, getD, replicate}
-use lib.Dec.{ltb, eqb}
-use borrow.Author.Tests.{ltb-true, ltb-false, lt-leb}
-use Rattle.syntax.specs.Limits.{unset, registers}
-use Rattle.syntax.specs.Tree.{Rule}
-use Rattle.semantics.specs.Repeats.{isFull}
-use Rattle.semantics.specs.Walk.{trace}
-use Rattle.machine.specs.Code.{pickMost, mostOf, repeatAt, Fits}
-use Rattle.machine.specs.Theorem.{Stands, clear-all, begins}
-use Rattle.machine.specs.Laws.Code.{fits-at}
-use Rattle.machine.specs.Laws.Loop.{fits-now}
-use Rattle.machine.specs.Laws.Skips.{skip-byte, skip-run}
-use Rattle.matcher.specs.Openings.{Skips}
+use lib.ListN.{length}
+use Rattle.openings.specs.Openings.{Outside, Passed}
 
--- the first node of a rule that stands is in range
-pub entry-fits : (p : List ℕ) (x : Rule) (pc : ℕ) → Stands p x pc → Fits p pc
-entry-fits p x pc st = fits-now p [] _ (trace [] x 0) (begins p [] x pc 0 0 0 (replicate registers unset) st (λ i. omega arith) clear-all (omega arith) (omega arith) .emits)
+-- `P start steps` is what is carried
+module _ (P : ℕ → ℕ → Type 0) (cost : ℕ) where
+  carried : (d begin steps : ℕ) → ((i s : ℕ) → begin ≤ i → i < begin + d → P i s → P (i + 1) (s + cost)) → P begin steps → P (begin + d) (steps + d * cost)
+  carried zero begin steps each x = let z : begin + 0 ≡ begin = omega arith in let y : steps + 0 * cost ≡ steps = omega arith in rw (z, y) x
+  carried (suc d) begin steps each x =
+      let z : begin + 1 + d ≡ begin + suc d = omega arith in
+      let y : steps + cost + d * cost ≡ steps + suc d * cost = omega arith in
+      rw (z, y) at (carried d (begin + 1) (steps + cost) (λ i s l h. each i s (omega arith) (omega arith)) (each begin steps (omega arith) (omega arith) x))
 
-not-full : (m : ℕ) → (m ≡ 0 → ⊥) → isFull (mostOf m) 0 ≡ false
-unfolding mostOf pickMost isFull
-not-full m h = by (eqb m unset)
-  where
-    by : (b : Bool) → isFull (pickMost b m) 0 ≡ false
-    by true = refl
-    by false = lt-leb m 0 (omega arith)
+  module _ {set : List ℕ} {any : Bool} {sub : List ℕ} {begin from : ℕ} (passed : Passed set any sub cost begin from) where
+    within : (i : ℕ) → begin ≤ i → i < from → i < length sub
+    within i l h = by (passed .inside)
+      where
+        by : (from ≡ begin) ⊎ (from ≤ length sub) → i < length sub
+        by (inl e) = omega arith
+        by (inr e) = omega arith
 
-module _ (p : List ℕ) (entry budget : ℕ) (f : Fits p entry) (h : 2 ≤ budget) where
-  pub skips-byte : getD p entry 0 ≡ 0 → Skips p entry budget (entry + 3) 1
-  skips-byte is =
-      let w = fits-at p entry 0 is f in
-      record { fits = omega arith; few = omega arith; tells = λ sub regs room first t begin x e. skip-byte p sub entry begin regs room budget first t x is e (omega arith) }
-
-  module _ (is : getD p entry 0 ≡ 10) where
-    pub run-fits : (entry + 8 ≤ length p) × (getD p (entry + 6) 0 + 11 ≤ length p)
-    run-fits = fits-at p entry 10 is f
-
-    pub skips-run : (getD p (entry + 2) 0 ≡ 0 → ⊥) → (getD p (entry + 3) 0 ≡ 0 → ⊥) → Skips p entry budget (getD p (entry + 6) 0 + 3) 2
-    unfolding repeatAt
-    skips-run owes some =
-        let three : entry + 2 + 1 ≡ entry + 3 = omega arith in
-        record { fits = omega (arith, run-fits .1); few = h; tells = λ sub regs room first t begin x e. skip-run p sub entry begin regs room budget first t x is (omega arith) e (rw three (not-full (getD p (entry + 3) 0) some)) h }
-
-pub missed-more : (T : ℕ → Bool) (begin i : ℕ) → ((j : ℕ) → begin ≤ j → j < i → T j ≡ false) → T i ≡ false → (j : ℕ) → begin ≤ j → j < i + 1 → T j ≡ false
-missed-more T begin i h e j l m = by (ltb j i) refl
-  where
-    by : (b : Bool) → ltb j i ≡ b → T j ≡ false
-    by true x = h j l (ltb-true j i x)
-    by false x = let z : i ≡ j = omega (arith, ltb-false j i x) in subst (λ (k : ℕ). T k ≡ false) z e
+    pub passes : (steps : ℕ) → ((i s : ℕ) → begin ≤ i → i < from → i < length sub → Outside set any sub i → P i s → P (i + 1) (s + cost)) → P begin steps → P from (steps + (from - begin) * cost)
+    passes steps each x =
+        let z : begin + (from - begin) ≡ from = omega (arith, passed .on) in
+        rw z at (carried (from - begin) begin steps (λ i s l h. each i s l (omega (arith, passed .on)) (within i l (omega (arith, passed .on))) (passed .missed i l (omega (arith, passed .on)))) x)

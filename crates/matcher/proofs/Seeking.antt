@@ -25,10 +25,12 @@ use Rattle.machine.specs.Ready.{ended, nothing, spent, until, Ready, Agrees}
 use Rattle.machine.specs.Theorem.{Stands, Clear, begins, at-end, at-nothing, at-spent}
 use Rattle.machine.specs.Laws.Loop.{until-ended, until-nothing, until-spent}
 use Rattle.matcher.specs.declared.matching.Outcome.the-variants.{Matched, NotMatched, Exhausted}
-use Rattle.matcher.specs.Openings.{Skips, Passed}
+use Rattle.openings.specs.declared.Opening.{Opening}
+use Rattle.openings.specs.Openings.{Outside, Opens, Passed}
 use Rattle.index.specs.Rows.{rowOf}
 use Rattle.matcher.specs.Outcomes.{Reports}
 use Rattle.matcher.specs.Laws.Areas.{over-first}
+use Rattle.matcher.proofs.Passing.{passes}
 use Rattle.index.specs.Laws.Rows.{rowOf-length, rowOf-row}
 
 -- One start -------------------------------------------------------------------
@@ -84,6 +86,27 @@ module _ (p sub r₀ w₀ area₀ : List ℕ) (entry budget : ℕ) where
       let z : length sub - 0 ≡ length sub = omega arith in
       record { same = refl; wide = refl; kept = refl; few = omega arith; small = omega arith; goes = λ x s l. rw z (match-begin sub x budget); none = λ x s l. absurd (omega arith) }
 
+-- one start, whose walk finds nothing
+seeking-pass : {p sub r₀ w₀ area₀ : List ℕ} {entry budget : ℕ} {r w area : List ℕ} (begin steps used : ℕ) → Seeking p sub r₀ w₀ area₀ entry budget r w area begin steps → begin ≤ length sub → budget < 4294967296 → used ≤ budget
+    → ((x : Rule) → Stands p x entry → until budget 0 (trace sub x begin) ≡ nothing used) → Seeking p sub r₀ w₀ area₀ entry budget r w area (begin + 1) (steps + used)
+seeking-pass {p} {sub} {r₀} {w₀} {area₀} {entry} {budget} begin steps used g h small l e =
+    record {
+      same = g .same;
+      wide = g .wide;
+      kept = g .kept;
+      few = omega (arith, g .few);
+      small = omega (arith, g .small);
+      goes = λ x st n.
+          (let z : length sub - begin ≡ suc (length sub - (begin + 1)) = omega arith in
+          rw (add-one begin) (match-next sub x budget (steps + used) begin (length sub - suc begin) (budget - used) (rw (add-one begin) at (rw z at (left x st)))));
+      none = λ x st n.
+          (let z : length sub - begin ≡ 0 = omega arith in
+          match-last sub x budget (steps + used) begin 0 (budget - used) (rw z at (left x st)));
+    }
+  where
+    left : (x : Rule) → Stands p x entry → MatchAt sub x budget (steps + used) begin (length sub - begin) (budget - used) []
+    left x st = found-nothing sub x budget steps begin (length sub - begin) (trace sub x begin) (g .goes x st h) used (e x st)
+
 module _ {p sub r₀ w₀ area₀ : List ℕ} {entry budget : ℕ} {r w area : List ℕ} {begin steps : ℕ} (g : Seeking p sub r₀ w₀ area₀ entry budget r w area begin steps) where
   pub seeking-none : length sub < begin → (x : Rule) → Stands p x entry → Reports area₀ area (NotMatched steps) (answer sub x budget)
   seeking-none h x st = (g .none x st h, g .kept)
@@ -105,65 +128,21 @@ module _ {p sub r₀ w₀ area₀ : List ℕ} {entry budget : ℕ} {r w area : L
       pub seeking-spent : o ≡ Spent → (x : Rule) → Stands p x entry → Reports area₀ area (Exhausted begin (steps + budget)) (answer sub x budget)
       seeking-spent q x st = (found-spent sub x budget steps begin (length sub - begin) (trace sub x begin) (g .goes x st h) (at-spent (rw q at (agrees x st))), g .kept)
 
-      module _ (used : ℕ) (q : o ≡ Nothing used) where
-        left : (x : Rule) → Stands p x entry → MatchAt sub x budget (steps + used) begin (length sub - begin) (budget - used) []
-        left x st = found-nothing sub x budget steps begin (length sub - begin) (trace sub x begin) (g .goes x st h) used (at-nothing (rw q at (agrees x st)) .0)
+      pub seeking-on : (used : ℕ) → o ≡ Nothing used → budget < 4294967296 → length w′ ≡ length w → (x : Rule) → Stands p x entry → Seeking p sub r₀ w₀ area₀ entry budget r′ w′ area (begin + 1) (steps + used)
+      seeking-on used q small wide′ tree stands =
+          let z = at-nothing (rw q at (agrees tree stands)) in
+          let g′ : Seeking p sub r₀ w₀ area₀ entry budget r′ w′ area begin steps = record { same = z .2 ∙ g .same; wide = wide′ ∙ g .wide; kept = g .kept; few = g .few; small = g .small; goes = g .goes; none = g .none } in
+          seeking-pass begin steps used g′ h small (z .1) (λ x st. at-nothing (rw q at (agrees x st)) .0)
 
-        pub seeking-on : budget < 4294967296 → length w′ ≡ length w → (x : Rule) → Stands p x entry → Seeking p sub r₀ w₀ area₀ entry budget r′ w′ area (begin + 1) (steps + used)
-        seeking-on small wide tree stands =
-            let z = at-nothing (rw q at (agrees tree stands)) in
-            record {
-              same = z .2 ∙ g .same;
-              wide = wide ∙ g .wide;
-              kept = g .kept;
-              few = omega (arith, g .few);
-              small = omega (arith, z .1, g .small);
-              goes = λ x st l.
-                  (let e : length sub - begin ≡ suc (length sub - (begin + 1)) = omega arith in
-                  rw (add-one begin) (match-next sub x budget (steps + used) begin (length sub - suc begin) (budget - used) (rw (add-one begin) at (rw e at (left x st)))));
-              none = λ x st l.
-                  (let e : length sub - begin ≡ 0 = omega arith in
-                  match-last sub x budget (steps + used) begin 0 (budget - used) (rw e at (left x st)));
-            }
+-- Starts that are passed --------------------------------------------------------
 
--- Starts that are skipped --------------------------------------------------------
-
-module _ {p sub r₀ w₀ area₀ : List ℕ} {entry budget : ℕ} {r w area : List ℕ} (bytes : Bytes sub) (clear : Clear r₀) (room : 8 * budget ≤ length w₀) (small : budget < 4294967296) where
-  -- one start, whose walk finds nothing
-  seeking-pass : (begin steps used : ℕ) → Seeking p sub r₀ w₀ area₀ entry budget r w area begin steps → begin ≤ length sub → used ≤ budget → ((x : Rule) → Stands p x entry → until budget 0 (trace sub x begin) ≡ nothing used)
-      → Seeking p sub r₀ w₀ area₀ entry budget r w area (begin + 1) (steps + used)
-  seeking-pass begin steps used g h l e =
-      record {
-        same = g .same;
-        wide = g .wide;
-        kept = g .kept;
-        few = omega (arith, g .few);
-        small = omega (arith, g .small);
-        goes = λ x st n.
-            (let z : length sub - begin ≡ suc (length sub - (begin + 1)) = omega arith in
-            let y = found-nothing sub x budget steps begin (length sub - begin) (trace sub x begin) (g .goes x st h) used (e x st) in
-            rw (add-one begin) (match-next sub x budget (steps + used) begin (length sub - suc begin) (budget - used) (rw (add-one begin) at (rw z at y))));
-        none = λ x st n.
-            (let z : length sub - begin ≡ 0 = omega arith in
-            let y = found-nothing sub x budget steps begin (length sub - begin) (trace sub x begin) (g .goes x st h) used (e x st) in
-            match-last sub x budget (steps + used) begin 0 (budget - used) (rw z at y));
-      }
-
-  seeking-skips : (base cost : ℕ) → Skips p entry budget base cost → (d begin steps : ℕ) → begin + d ≤ length sub → ((i : ℕ) → begin ≤ i → i < begin + d → takes sub (has (drop base p)) i ≡ false) → Seeking p sub r₀ w₀ area₀ entry budget r w area begin steps
-      → Seeking p sub r₀ w₀ area₀ entry budget r w area (begin + d) (steps + d * cost)
-  seeking-skips base cost k zero begin steps l e g = let z : begin + 0 ≡ begin = omega arith in let y : steps + 0 * cost ≡ steps = omega arith in rw (z, y) g
-  seeking-skips base cost k (suc d) begin steps l e g =
-      let z : begin + 1 + d ≡ begin + suc d = omega arith in
-      let y : steps + cost + d * cost ≡ steps + suc d * cost = omega arith in
-      let n = seeking-pass begin steps cost g (omega arith) (k .few) (λ x st. k .tells sub r (length w) r (trace sub x begin) begin (begins p sub x entry begin budget (length w) r st bytes (rw (g .same) clear) (omega arith) (omega (arith, g .wide))) (e begin (omega arith) (omega arith))) in
-      rw (z, y) at (seeking-skips base cost k d (begin + 1) (steps + cost) (omega arith) (λ i m o. e i (omega arith) (omega arith)) n)
-
-  pub seeking-from : (base cost begin from steps : ℕ) → (cost ≡ 0) ⊎ Skips p entry budget base cost → Passed p sub base cost begin from → Seeking p sub r₀ w₀ area₀ entry budget r w area begin steps
-      → Seeking p sub r₀ w₀ area₀ entry budget r w area from (steps + (from - begin) * cost)
-  seeking-from base cost begin from steps (inl e) x g =
-      let z = x .none e in
-      let y : steps + (from - begin) * cost ≡ steps = rw e (omega arith) in
-      rw (y, z) g
-  seeking-from base cost begin from steps (inr k) x g =
-      let z : begin + (from - begin) ≡ from = omega (arith, x .on) in
-      rw z at (seeking-skips base cost k (from - begin) begin steps (omega (arith, x .on, x .inside)) (λ i l h. x .missed i l (omega (arith, x .on))) g)
+-- what an opening says of a start is what its walk finds
+pub seeking-from : {p sub r₀ w₀ area₀ : List ℕ} {entry budget : ℕ} {r w area : List ℕ} (bytes : Bytes sub) → Clear r₀ → 8 * budget ≤ length w₀ → budget < 4294967296
+    → (o : Opening) → Opens p entry budget o → (begin from steps : ℕ) → 1 ≤ begin → Passed (o .set) (o .any) sub (o .cost) begin from → Seeking p sub r₀ w₀ area₀ entry budget r w area begin steps
+    → Seeking p sub r₀ w₀ area₀ entry budget r w area from (steps + (from - begin) * o .cost)
+seeking-from {p} {sub} {r₀} {w₀} {area₀} {entry} {budget} {r} {w} {area} bytes clear room small o opens begin from steps later passed g =
+    passes (λ i s. Seeking p sub r₀ w₀ area₀ entry budget r w area i s) (o .cost) passed steps (each opens) g
+  where
+    each : Opens p entry budget o → (i s : ℕ) → begin ≤ i → i < from → i < length sub → Outside (o .set) (o .any) sub i → Seeking p sub r₀ w₀ area₀ entry budget r w area i s → Seeking p sub r₀ w₀ area₀ entry budget r w area (i + 1) (s + o .cost)
+    each (inl e) i s l h u out x = absurd (omega (arith, passed .none e))
+    each (inr k) i s l h u out x = seeking-pass i s (o .cost) x (omega arith) small (k .few) (λ y st. k .tells sub r (length w) r (trace sub y i) i bytes (begins p sub y entry i budget (length w) r st bytes (rw (x .same) clear) (omega arith) (omega (arith, x .wide))) (omega arith) out)

@@ -1,6 +1,7 @@
 -- The starts of a listing, one after another: what a start begins with, and what is told behind it.
 use mathlib.Core.Path.{_≡_, refl, sym, _∙_}
 use mathlib.Core.List.{List, [], _++_, append-nil}
+use mathlib.Core.Logic.{inl, inr}
 use Prim.Native.Nat.{ℕ, suc, _+_, _-_, _*_, _^_, _≤_, _<_}
 use native.Mathlib.Nat.{le-refl}
 use native.Mathlib.Numerals.{add-one}
@@ -11,15 +12,20 @@ use Rattle.syntax.specs.Tree.{Rule}
 use Rattle.semantics.specs.Walk.{trace}
 use Rattle.semantics.specs.Answers.{Ending, complete, full, exhaustedAt}
 use Rattle.semantics.specs.Calls.{joined, room, listOutcome}
-use Rattle.semantics.specs.Laws.Loops.{list-begin, list-next, list-last}
+use Rattle.semantics.specs.Laws.Loops.{list-begin, list-quiet, list-next, list-last}
 use Rattle.machine.specs.Moves.{Bytes, Now, go}
+use Rattle.machine.specs.Ready.{nothing, until}
 use Rattle.machine.specs.Theorem.{Stands, Clear, begins}
+use Rattle.machine.specs.Laws.Loop.{until-nothing}
+use Rattle.openings.specs.declared.Opening.{Opening}
+use Rattle.openings.specs.Openings.{Outside, Opens, Passed}
 use Rattle.matcher.specs.declared.listing.Ends.{Ends}
 use Rattle.matcher.specs.declared.listing.Ends.the-variants.{Done, Full, Spent}
 use Rattle.matcher.specs.declared.listing.Listing.{Listing}
 use Rattle.matcher.specs.declared.listing.Listing.the-variants.{Complete, Full as NoneLeft, Exhausted}
 use Rattle.matcher.specs.Listing.{listingOf, Lists, Course, Going, Tells, Through, Listed, allListed, noneLeft, cutShort, Between}
 use Rattle.matcher.specs.Laws.Areas.{over-none}
+use Rattle.matcher.proofs.Passing.{passes}
 
 -- before the first start
 pub between-first : (sub : List ℕ) (x : Rule) (budget : ℕ) (area : List ℕ) → Between sub x budget area area 0 0 0
@@ -133,3 +139,41 @@ module _ {code sub : List ℕ} {entry budget : ℕ} {regs₀ work₀ results₀ 
       pub turn-spent : (n : ℕ) → o ≡ Spent n → (x : Rule) → Stands code x entry → Lists sub x budget results₀ results′ (Exhausted start n (steps + budget))
       unfolding listingOf listOutcome
       turn-spent n q x h = told (is-cut (rw q at (listed x h))) refl
+
+-- Starts that are passed --------------------------------------------------------
+
+-- one start, whose walk finds nothing
+between-pass : {sub : List ℕ} {x : Rule} {budget : ℕ} {first area : List ℕ} {start rows steps : ℕ} → Between sub x budget first area start rows steps → (used : ℕ) → start < length sub → until budget 0 (trace sub x start) ≡ nothing used
+    → Between sub x budget first area (start + 1) rows (steps + used)
+between-pass {sub} {x} {budget} {first} {area} {start} {rows} {steps} b used l e =
+    let z = until-nothing (trace sub x start) budget 0 used e in
+    let k : length (trace sub x start) ≡ used = omega (arith, z .1) in
+    let y : length sub - start ≡ suc (length sub - suc start) = omega arith in
+    let q = list-quiet sub x budget (room first) (b .old) [] steps start (length sub - start) budget (trace sub x start) [] (z .0) (z .2) (rw (append-nil (trace sub x start)) (b .listed)) in
+    let n = list-next sub x budget (room first) (b .old) [] (steps + used) start (length sub - suc start) (budget - used) (rw (y, k) at q) in
+    record { old = b .old; listed = rw (add-one start) (rw (append-nil (b .old)) at n); holds = b .holds }
+
+turning-pass : {code sub : List ℕ} {entry budget : ℕ} {regs₀ work₀ results₀ regs work results : List ℕ} {start rows steps : ℕ} → Turning code sub entry budget regs₀ work₀ results₀ regs work results start rows steps
+    → (used : ℕ) → used ≤ budget → start < length sub → ((x : Rule) → Stands code x entry → until budget 0 (trace sub x start) ≡ nothing used) → Turning code sub entry budget regs₀ work₀ results₀ regs work results (start + 1) rows (steps + used)
+turning-pass t used few l e = record {
+  bytes = t .bytes;
+  short = t .short;
+  cheap = t .cheap;
+  clear = t .clear;
+  same = t .same;
+  wide = t .wide;
+  fits = t .fits;
+  long = t .long;
+  inside = omega arith;
+  small = omega (arith, t .small, t .cheap);
+  between = λ x h. between-pass (t .between x h) used l (e x h);
+}
+
+pub turning-from : {code sub : List ℕ} {entry budget : ℕ} {regs₀ work₀ results₀ regs work results : List ℕ} {rows : ℕ} (o : Opening) → Opens code entry budget o → (begin from steps : ℕ) → 1 ≤ begin → Passed (o .set) (o .any) sub (o .cost) begin from
+    → Turning code sub entry budget regs₀ work₀ results₀ regs work results begin rows steps → Turning code sub entry budget regs₀ work₀ results₀ regs work results from rows (steps + (from - begin) * o .cost)
+turning-from {code} {sub} {entry} {budget} {regs₀} {work₀} {results₀} {regs} {work} {results} {rows} o opens begin from steps later passed t =
+    passes (λ i s. Turning code sub entry budget regs₀ work₀ results₀ regs work results i rows s) (o .cost) passed steps (each opens) t
+  where
+    each : Opens code entry budget o → (i s : ℕ) → begin ≤ i → i < from → i < length sub → Outside (o .set) (o .any) sub i → Turning code sub entry budget regs₀ work₀ results₀ regs work results i rows s → Turning code sub entry budget regs₀ work₀ results₀ regs work results (i + 1) rows (s + o .cost)
+    each (inl e) i s l h u out x = absurd (omega (arith, passed .none e))
+    each (inr k) i s l h u out x = turning-pass x (o .cost) (k .few) u (λ y st. k .tells sub regs (length work) regs (trace sub y i) i (x .bytes) (begins code sub y entry i budget (length work) regs st (x .bytes) (x .clear) (x .inside) (omega (arith, x .fits))) (omega arith) out)

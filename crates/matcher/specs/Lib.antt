@@ -1,6 +1,5 @@
 -- What the public calls promise.
 pub mod Inputs
-pub mod Openings
 pub mod Outcomes
 pub mod Listing
 pub mod Fitness

@@ -9,10 +9,12 @@ use crate::refusals::WORK_PER_STEP;
 use crate::refusals::unfit;
 use crate::rows::REGISTERS;
 use crate::rows::UNSET;
+use crate::skipping::pass_starts;
 use index::ROW_LENGTH;
 use index::write_row;
 use machine::Machine;
 use machine::Stop;
+use openings::find_opening;
 use reader::Compilation;
 use reader::compile;
 use syntax::Refusal;
@@ -169,6 +171,10 @@ fn list_starts(
     requires { ⌜ ((x : Rule) × Stands (now code) x entry) ⌝ }
     ensures { λ r. ⌜ ((x : Rule) → Stands (now (code .entry)) x entry → Lists (now (sub .entry)) x budget (now (results .entry)) (now (results .exit)) r) ⌝ }
 {
+    let open = find_opening(code, entry, budget, sub.len());
+    let cost = open.cost;
+    let any = open.any;
+    let set = open.set;
     let last = sub.len() as u32;
     let mut start: u32 = 0;
     let mut rows: usize = 0;
@@ -189,11 +195,12 @@ fn list_starts(
         ) {
             Ends::Done(n, used) => {
                 rows = n;
-                steps += used as u64;
                 if start == last {
-                    return Listing::Complete(rows, steps);
+                    return Listing::Complete(rows, steps + used as u64);
                 }
-                start += 1;
+                let on = pass_starts(&set, any, cost, sub, start + 1, steps + used as u64);
+                start = on.start;
+                steps = on.steps;
             }
             Ends::Full(n, used) => return Listing::Full(n, steps + used as u64),
             Ends::Spent(n) => return Listing::Exhausted(start, n, steps + budget as u64),

@@ -6,12 +6,12 @@ use crate::refusals::WORK_PER_STEP;
 use crate::refusals::unfit;
 use crate::rows::REGISTERS;
 use crate::rows::UNSET;
-use crate::skipping::find_opening;
-use crate::skipping::skip_starts;
+use crate::skipping::pass_starts;
 use index::write_row;
 use machine::Stop;
 use machine::run_to_end;
 use machine::start;
+use openings::find_opening;
 use reader::Compilation;
 use reader::compile;
 use syntax::Refusal;
@@ -48,15 +48,13 @@ fn search(
     requires { ⌜ Clear (now regs) ⌝ }
     ensures { λ r. ⌜ Finds (now (code .entry)) (now (subject .entry)) (now (results .entry)) (now (results .exit)) entry budget r ⌝ }
 {
+    let open = find_opening(code, entry, budget, subject.len());
+    let cost = open.cost;
+    let any = open.any;
+    let set = open.set;
     let mut begin: u32 = 0;
     let mut steps: u64 = 0;
-    let open = find_opening(code, entry, budget);
-    let base = open.base;
-    let cost = open.cost;
     while begin as usize <= subject.len() {
-        let from = skip_starts(code, subject, base, cost, begin);
-        steps += ((from - begin) as u64) * (cost as u64);
-        begin = from;
         let m = start(entry, begin);
         match run_to_end(code, subject, regs, work, m, budget) {
             Stop::End(used, e) => {
@@ -64,13 +62,14 @@ fn search(
                 return Outcome::Matched(steps + used as u64);
             }
             Stop::Nothing(used) => {
-                steps += used as u64;
+                let on = pass_starts(&set, any, cost, subject, begin + 1, steps + used as u64);
+                begin = on.start;
+                steps = on.steps;
             }
             Stop::Spent => {
                 return Outcome::Exhausted(begin, steps + budget as u64);
             }
         }
-        begin += 1;
     }
     Outcome::NotMatched(steps)
 }

@@ -1,8 +1,7 @@
 -- `search` meets its contract. The loop's invariant: what is left of the starts answers what all of them do, and everything lent but the
--- work area is as it was. The measure is the starts that are left.
+-- work area is as it was. A start that found nothing leads to the next one that may begin. The measure is the starts that are left.
 use mathlib.Core.Path.{_∙_, ap}
 use mathlib.Core.List.{List}
-use mathlib.Core.Logic.{inl, inr, ⊎-elim}
 use Prim.Native.Nat.{ℕ, suc, _-_}
 use native.Mathlib.Omega.{arith}
 use borrow.Author.Needs.{needs}
@@ -11,61 +10,27 @@ use lib.ListN.{length}
 use Rattle.syntax.specs.Limits.{subjectLimit, ruleAreaNeed, spansLength, registers}
 use Rattle.semantics.specs.Calls.{workAreaNeed}
 use Rattle.machine.specs.Theorem.{enough-room}
-use Rattle.matcher.proofs.Passing.{entry-fits}
 use Rattle.matcher.proofs.Seeking.{Seeking, seeking-start, seeking-none, seeking-ready, seeking-end, seeking-spent, seeking-on, seeking-from}
 use Rattle.matcher.proofs.matching.search.Statement.{statement}
 use Rattle.matcher.proofs.matching.search.Tie as tie
 
 abbrev Inv-loop : tie.InvT-loop
-Inv-loop code subject regs₀ work₀ results₀ entry budget begin₀ steps₀ base cost regs work results begin steps =
+Inv-loop code subject regs₀ work₀ results₀ entry budget cost any set begin₀ steps₀ regs work results begin steps =
     Seeking code subject regs₀ work₀ results₀ entry budget regs work results begin steps
 
 abbrev μ-loop : tie.MeasureT-loop
-μ-loop code subject regs₀ work₀ results₀ entry budget begin₀ steps₀ base cost regs work results begin steps =
+μ-loop code subject regs₀ work₀ results₀ entry budget cost any set begin₀ steps₀ regs work results begin steps =
     suc (length subject) - begin
 
 find-opening-requires : tie.Need-find-opening-requires Inv-loop μ-loop
 unfolding ruleAreaNeed
-find-opening-requires c κs = (omega (arith, c .before .before .before .before .before .pre .0 .code-size), entry-fits _ _ _ (c .before .before .before .before .before .pre .0 .stands))
+find-opening-requires c κs = omega (arith, c .before .before .before .before .before .pre .0 .code-size)
 
 loop-holds : tie.Need-loop-holds Inv-loop μ-loop
-loop-holds c = let a = c .before .before .before .before .before .before .args in seeking-start (now (a .code)) (now (a .subject)) (now (a .regs)) (now (a .work)) (now (a .results)) (a .entry) (a .budget)
+loop-holds c = let a = c .before .before .before .before .before .before .before .args in seeking-start (now (a .code)) (now (a .subject)) (now (a .regs)) (now (a .work)) (now (a .results)) (a .entry) (a .budget)
 
 cast-loop : tie.Need-cast-loop Inv-loop μ-loop
 cast-loop c = search needs
-
-skip-starts-requires : tie.Need-skip-starts-requires Inv-loop μ-loop
-unfolding subjectLimit
-skip-starts-requires c κs = (⊎-elim (λ e. inl e) (λ k. inr (k .fits)) (c .before .before .find-opening .ensures), (c .loop-test .taken, omega (arith, c .before .before .before .before .before .before .before .before .pre .0 .subject-fits)))
-
-sub-steps : tie.Need-sub-steps Inv-loop μ-loop
-sub-steps c = omega (arith, c .skip-starts .ensures .on)
-
-cast-steps : tie.Need-cast-steps Inv-loop μ-loop
-cast-steps c = search needs
-
-cast-steps-2 : tie.Need-cast-steps-2 Inv-loop μ-loop
-cast-steps-2 c = search needs
-
-mul-steps : tie.Need-mul-steps Inv-loop μ-loop
-unfolding workAreaNeed subjectLimit
-mul-steps c =
-    let l = c .before .before .loop in
-    let s = c .before .before .before .before .before .before .before .before .before in
-    let b = c .before .before .before .before .before .before .before .shared-slice-known2 in
-    let room = enough-room (s .args .budget) (length (now (s .args .work))) (s .pre .0 .work-fits) in
-    let g = seeking-from (λ i. omega (arith, b .given i)) (s .pre .1) room (omega arith) _ _ _ _ _ (c .before .before .before .find-opening .ensures) (c .skip-starts .ensures) (l .inv) in
-    omega (arith, g .small, c .skip-starts .ensures .inside, s .pre .0 .subject-fits)
-
-add-steps : tie.Need-add-steps Inv-loop μ-loop
-unfolding workAreaNeed subjectLimit
-add-steps c =
-    let l = c .before .before .loop in
-    let s = c .before .before .before .before .before .before .before .before .before in
-    let b = c .before .before .before .before .before .before .before .shared-slice-known2 in
-    let room = enough-room (s .args .budget) (length (now (s .args .work))) (s .pre .0 .work-fits) in
-    let g = seeking-from (λ i. omega (arith, b .given i)) (s .pre .1) room (omega arith) _ _ _ _ _ (c .before .before .before .find-opening .ensures) (c .skip-starts .ensures) (l .inv) in
-    omega (arith, g .small, c .skip-starts .ensures .inside, s .pre .0 .subject-fits)
 
 start-requires : tie.Need-start-requires Inv-loop μ-loop
 start-requires c κs = search needs
@@ -73,13 +38,12 @@ start-requires c κs = search needs
 run-to-end-requires : tie.Need-run-to-end-requires Inv-loop μ-loop
 unfolding workAreaNeed subjectLimit ruleAreaNeed
 run-to-end-requires c κs =
-    let l = c .before .before .before .before .before .loop in
+    let l = c .before .before .before .before .loop in
     let s = c .before .before .before .before .before .before .before .before .before .before .before .before in
     let b = c .before .before .before .before .before .before .before .before .before .before .shared-slice-known2 in
     let room = enough-room (s .args .budget) (length (now (s .args .work))) (s .pre .0 .work-fits) in
-    let g = seeking-from (λ i. omega (arith, b .given i)) (s .pre .1) room (omega arith) _ _ _ _ _ (c .before .before .before .before .before .before .find-opening .ensures) (c .before .before .before .skip-starts .ensures) (l .inv) in
     let t = c .before .before .start in
-    ((omega (arith, ap (λ (r : List ℕ). length r) (l .inv .same), s .pre .1 .size), omega arith, omega arith), (_, _, seeking-ready g (λ i. omega (arith, b .given i)) (s .pre .1) room (c .before .before .before .skip-starts .ensures .inside) (t .result) (t .ensures) (s .pre .0 .tree) (s .pre .0 .stands)))
+    ((omega (arith, ap (λ (r : List ℕ). length r) (l .inv .same), s .pre .1 .size), omega (arith, s .pre .0 .subject-fits), omega (arith, s .pre .0 .code-size)), (_, _, seeking-ready (l .inv) (λ i. omega (arith, b .given i)) (s .pre .1) room (c .before .before .before .loop-test .taken) (t .result) (t .ensures) (s .pre .0 .tree) (s .pre .0 .stands)))
 
 enum-known-used : tie.Need-enum-known-used Inv-loop μ-loop
 enum-known-used c = search needs
@@ -87,113 +51,109 @@ enum-known-used c = search needs
 write-row-requires : tie.Need-write-row-requires Inv-loop μ-loop
 unfolding spansLength registers
 write-row-requires c κs =
-    let l = c .before .before .before .before .before .before .before .before .before .before .before .before .before .before .before .loop in
+    let l = c .before .before .before .before .before .before .before .before .before .before .before .before .before .before .loop in
     let u = c .before .before .before .before .before .before .before .before .before .run-to-end in
     let s = c .before .before .before .before .before .before .before .before .before .before .before .before .before .before .before .before .before .before .before .before .before .before in
     (omega (arith, ap (λ (r : List ℕ). length r) (l .inv .kept), s .pre .0 .results-fit), omega (arith, u .kept .1 .1 .0, ap (λ (r : List ℕ). length r) (l .inv .same), s .pre .1 .size))
 
-cast-t35 : tie.Need-cast-t35 Inv-loop μ-loop
-cast-t35 c = search needs
+cast-t33 : tie.Need-cast-t33 Inv-loop μ-loop
+cast-t33 c = search needs
 
-add-t36 : tie.Need-add-t36 Inv-loop μ-loop
-unfolding workAreaNeed subjectLimit
-add-t36 c =
-    let l = c .before .before .before .before .before .before .before .before .before .before .before .before .before .before .before .before .before .before .loop in
+add-t34 : tie.Need-add-t34 Inv-loop μ-loop
+unfolding subjectLimit
+add-t34 c =
+    let l = c .before .before .before .before .before .before .before .before .before .before .before .before .before .before .before .before .before .loop in
     let s = c .before .before .before .before .before .before .before .before .before .before .before .before .before .before .before .before .before .before .before .before .before .before .before .before .before in
-    let b = c .before .before .before .before .before .before .before .before .before .before .before .before .before .before .before .before .before .before .before .before .before .before .before .shared-slice-known2 in
-    let room = enough-room (s .args .budget) (length (now (s .args .work))) (s .pre .0 .work-fits) in
-    let g = seeking-from (λ i. omega (arith, b .given i)) (s .pre .1) room (omega arith) _ _ _ _ _ (c .before .before .before .before .before .before .before .before .before .before .before .before .before .before .before .before .before .before .before .find-opening .ensures) (c .before .before .before .before .before .before .before .before .before .before .before .before .before .before .before .before .skip-starts .ensures) (l .inv) in
-    omega (arith, g .small, c .before .before .before .before .before .before .before .before .before .before .before .before .before .before .before .before .skip-starts .ensures .inside, s .pre .0 .subject-fits)
+    omega (arith, l .inv .small, c .before .before .before .before .before .before .before .before .before .before .before .before .before .before .before .before .loop-test .taken, s .pre .0 .subject-fits)
 
 same-length : tie.Need-same-length Inv-loop μ-loop
-same-length c = c .before .before .before .before .before .before .before .before .before .before .before .before .run-to-end .kept .1 .1 .0 ∙ ap (λ (r : List ℕ). length r) (c .before .before .before .before .before .before .before .before .before .before .before .before .before .before .before .before .before .before .loop .inv .same)
+same-length c = c .before .before .before .before .before .before .before .before .before .before .before .before .run-to-end .kept .1 .1 .0 ∙ ap (λ (r : List ℕ). length r) (c .before .before .before .before .before .before .before .before .before .before .before .before .before .before .before .before .before .loop .inv .same)
 
 same-length-2 : tie.Need-same-length-2 Inv-loop μ-loop
-same-length-2 c = c .before .before .before .before .before .before .before .before .before .before .before .before .run-to-end .kept .1 .1 .1 .0 ∙ c .before .before .before .before .before .before .before .before .before .before .before .before .before .before .before .before .before .before .loop .inv .wide
+same-length-2 c = c .before .before .before .before .before .before .before .before .before .before .before .before .run-to-end .kept .1 .1 .1 .0 ∙ c .before .before .before .before .before .before .before .before .before .before .before .before .before .before .before .before .before .loop .inv .wide
 
 same-length-3 : tie.Need-same-length-3 Inv-loop μ-loop
-same-length-3 c = c .before .before .write-row .kept .0 ∙ ap (λ (r : List ℕ). length r) (c .before .before .before .before .before .before .before .before .before .before .before .before .before .before .before .before .before .before .loop .inv .kept)
+same-length-3 c = c .before .before .write-row .kept .0 ∙ ap (λ (r : List ℕ). length r) (c .before .before .before .before .before .before .before .before .before .before .before .before .before .before .before .before .before .loop .inv .kept)
 
 returns : tie.Need-returns Inv-loop μ-loop
 unfolding workAreaNeed spansLength registers
 returns c =
-    let l = c .before .before .before .before .before .before .before .before .before .before .before .before .before .before .before .before .before .before .loop in
+    let l = c .before .before .before .before .before .before .before .before .before .before .before .before .before .before .before .before .before .loop in
     let s = c .before .before .before .before .before .before .before .before .before .before .before .before .before .before .before .before .before .before .before .before .before .before .before .before .before in
     let b = c .before .before .before .before .before .before .before .before .before .before .before .before .before .before .before .before .before .before .before .before .before .before .before .shared-slice-known2 in
     let room = enough-room (s .args .budget) (length (now (s .args .work))) (s .pre .0 .work-fits) in
-    let g = seeking-from (λ i. omega (arith, b .given i)) (s .pre .1) room (omega arith) _ _ _ _ _ (c .before .before .before .before .before .before .before .before .before .before .before .before .before .before .before .before .before .before .before .find-opening .ensures) (c .before .before .before .before .before .before .before .before .before .before .before .before .before .before .before .before .skip-starts .ensures) (l .inv) in
     let u = c .before .before .before .before .before .before .before .before .before .before .before .before .run-to-end in
     let t = c .before .before .before .before .before .before .before .before .before .before .before .before .before .before .before .start in
-    seeking-end g (λ i. omega (arith, b .given i)) (s .pre .1) room (c .before .before .before .before .before .before .before .before .before .before .before .before .before .before .before .before .skip-starts .ensures .inside) (t .result) (t .ensures) (u .ensures) _ _ (c .before .before .before .before .before .before .used .given .1) (c .before .before .write-row .ensures) (omega (arith, u .kept .1 .1 .0, ap (λ (r : List ℕ). length r) (l .inv .same), s .pre .1 .size))
+    seeking-end (l .inv) (λ i. omega (arith, b .given i)) (s .pre .1) room (c .before .before .before .before .before .before .before .before .before .before .before .before .before .before .before .before .loop-test .taken) (t .result) (t .ensures) (u .ensures) _ _ (c .before .before .before .before .before .before .used .given .1) (c .before .before .write-row .ensures) (omega (arith, u .kept .1 .1 .0, ap (λ (r : List ℕ). length r) (l .inv .same), s .pre .1 .size))
 
 enum-known-used-2 : tie.Need-enum-known-used-2 Inv-loop μ-loop
 enum-known-used-2 c = search needs
 
-cast-steps-3 : tie.Need-cast-steps-3 Inv-loop μ-loop
-cast-steps-3 c = search needs
-
-add-steps-2 : tie.Need-add-steps-2 Inv-loop μ-loop
-unfolding workAreaNeed subjectLimit
-add-steps-2 c =
-    let l = c .before .before .before .before .before .before .before .before .before .before .before .before .before .loop in
-    let s = c .before .before .before .before .before .before .before .before .before .before .before .before .before .before .before .before .before .before .before .before in
-    let b = c .before .before .before .before .before .before .before .before .before .before .before .before .before .before .before .before .before .before .shared-slice-known2 in
-    let room = enough-room (s .args .budget) (length (now (s .args .work))) (s .pre .0 .work-fits) in
-    let g = seeking-from (λ i. omega (arith, b .given i)) (s .pre .1) room (omega arith) _ _ _ _ _ (c .before .before .before .before .before .before .before .before .before .before .before .before .before .before .find-opening .ensures) (c .before .before .before .before .before .before .before .before .before .before .before .skip-starts .ensures) (l .inv) in
-    omega (arith, g .small, c .before .before .before .before .before .before .before .before .before .before .before .skip-starts .ensures .inside, s .pre .0 .subject-fits)
-
-enum-told : tie.Need-enum-told Inv-loop μ-loop
-enum-told c = search needs
-
-add-t39 : tie.Need-add-t39 Inv-loop μ-loop
-unfolding workAreaNeed subjectLimit
-add-t39 c =
-    let l = c .before .before .before .before .before .before .before .before .before .before .before .before .loop in
-    let s = c .before .before .before .before .before .before .before .before .before .before .before .before .before .before .before .before .before .before .before in
-    let b = c .before .before .before .before .before .before .before .before .before .before .before .before .before .before .before .before .before .shared-slice-known2 in
-    let room = enough-room (s .args .budget) (length (now (s .args .work))) (s .pre .0 .work-fits) in
-    let g = seeking-from (λ i. omega (arith, b .given i)) (s .pre .1) room (omega arith) _ _ _ _ _ (c .before .before .before .before .before .before .before .before .before .before .before .before .before .find-opening .ensures) (c .before .before .before .before .before .before .before .before .before .before .skip-starts .ensures) (l .inv) in
-    omega (arith, g .small, c .before .before .before .before .before .before .before .before .before .before .skip-starts .ensures .inside, s .pre .0 .subject-fits)
-
-same-length-4 : tie.Need-same-length-4 Inv-loop μ-loop
-same-length-4 c = c .before .before .before .before .before .before .run-to-end .kept .1 .1 .0 ∙ ap (λ (r : List ℕ). length r) (c .before .before .before .before .before .before .before .before .before .before .before .before .loop .inv .same)
-
-same-length-5 : tie.Need-same-length-5 Inv-loop μ-loop
-same-length-5 c = c .before .before .before .before .before .before .run-to-end .kept .1 .1 .1 .0 ∙ c .before .before .before .before .before .before .before .before .before .before .before .before .loop .inv .wide
-
-same-length-6 : tie.Need-same-length-6 Inv-loop μ-loop
-same-length-6 c = ap (λ (r : List ℕ). length r) (c .before .before .before .before .before .before .before .before .before .before .before .before .loop .inv .kept)
-
-returns-2 : tie.Need-returns-2 Inv-loop μ-loop
-unfolding workAreaNeed
-returns-2 c =
-    let l = c .before .before .before .before .before .before .before .before .before .before .before .before .loop in
-    let s = c .before .before .before .before .before .before .before .before .before .before .before .before .before .before .before .before .before .before .before in
-    let b = c .before .before .before .before .before .before .before .before .before .before .before .before .before .before .before .before .before .shared-slice-known2 in
-    let room = enough-room (s .args .budget) (length (now (s .args .work))) (s .pre .0 .work-fits) in
-    let g = seeking-from (λ i. omega (arith, b .given i)) (s .pre .1) room (omega arith) _ _ _ _ _ (c .before .before .before .before .before .before .before .before .before .before .before .before .before .find-opening .ensures) (c .before .before .before .before .before .before .before .before .before .before .skip-starts .ensures) (l .inv) in
-    let u = c .before .before .before .before .before .before .run-to-end in
-    let t = c .before .before .before .before .before .before .before .before .before .start in
-    seeking-spent g (λ i. omega (arith, b .given i)) (s .pre .1) room (c .before .before .before .before .before .before .before .before .before .before .skip-starts .ensures .inside) (t .result) (t .ensures) (u .ensures) (c .enum-told .given .1)
-
-add-begin : tie.Need-add-begin Inv-loop μ-loop
+add-pass-starts : tie.Need-add-pass-starts Inv-loop μ-loop
 unfolding subjectLimit
-add-begin c = omega (arith, c .before .before .before .before .before .before .before .before .before .before .before .skip-starts .ensures .inside, c .before .before .before .before .before .before .before .before .before .before .before .before .before .before .before .before .before .before .before .before .pre .0 .subject-fits)
+add-pass-starts c = omega (arith, c .before .before .before .before .before .before .before .before .before .before .before .before .loop-test .taken, c .before .before .before .before .before .before .before .before .before .before .before .before .before .before .before .before .before .before .before .before .before .pre .0 .subject-fits)
+
+cast-pass-starts : tie.Need-cast-pass-starts Inv-loop μ-loop
+cast-pass-starts c = search needs
+
+add-pass-starts-2 : tie.Need-add-pass-starts-2 Inv-loop μ-loop
+unfolding subjectLimit
+add-pass-starts-2 c =
+    let l = c .before .before .before .before .before .before .before .before .before .before .before .before .before .loop in
+    let s = c .before .before .before .before .before .before .before .before .before .before .before .before .before .before .before .before .before .before .before .before .before in
+    omega (arith, l .inv .small, c .before .before .before .before .before .before .before .before .before .before .before .before .loop-test .taken, s .pre .0 .subject-fits)
+
+pass-starts-requires : tie.Need-pass-starts-requires Inv-loop μ-loop
+unfolding subjectLimit
+pass-starts-requires c κs =
+    let l = c .before .before .before .before .before .before .before .before .before .before .before .before .before .loop in
+    let s = c .before .before .before .before .before .before .before .before .before .before .before .before .before .before .before .before .before .before .before .before .before in
+    (omega (arith, c .before .before .before .before .before .before .before .before .before .before .before .before .loop-test .taken), s .pre .0 .subject-fits, omega (arith, l .inv .small, c .before .before .before .before .before .before .before .before .before .before .before .before .loop-test .taken, s .pre .0 .subject-fits))
 
 loop-less : tie.Need-loop-less Inv-loop μ-loop
-loop-less c = omega (arith, c .before .before .before .before .before .before .before .before .before .before .before .before .loop-test .taken, c .before .before .before .before .before .before .before .before .before .before .before .skip-starts .ensures .on, c .before .before .before .before .before .before .before .before .before .before .before .skip-starts .ensures .inside)
+loop-less c = omega (arith, c .pass-starts .ensures .0 .on, c .before .before .before .before .before .before .before .before .before .before .before .before .before .loop-test .taken)
 
 loop-again : tie.Need-loop-again Inv-loop μ-loop
 unfolding workAreaNeed
 loop-again c =
-    let l = c .before .before .before .before .before .before .before .before .before .before .before .before .before .loop in
-    let s = c .before .before .before .before .before .before .before .before .before .before .before .before .before .before .before .before .before .before .before .before in
-    let b = c .before .before .before .before .before .before .before .before .before .before .before .before .before .before .before .before .before .before .shared-slice-known2 in
+    let l = c .before .before .before .before .before .before .before .before .before .before .before .before .before .before .loop in
+    let s = c .before .before .before .before .before .before .before .before .before .before .before .before .before .before .before .before .before .before .before .before .before .before in
+    let b = c .before .before .before .before .before .before .before .before .before .before .before .before .before .before .before .before .before .before .before .before .shared-slice-known2 in
     let room = enough-room (s .args .budget) (length (now (s .args .work))) (s .pre .0 .work-fits) in
-    let g = seeking-from (λ i. omega (arith, b .given i)) (s .pre .1) room (omega arith) _ _ _ _ _ (c .before .before .before .before .before .before .before .before .before .before .before .before .before .before .find-opening .ensures) (c .before .before .before .before .before .before .before .before .before .before .before .skip-starts .ensures) (l .inv) in
-    let u = c .before .before .before .before .before .before .before .run-to-end in
-    let t = c .before .before .before .before .before .before .before .before .before .before .start in
-    seeking-on g (λ i. omega (arith, b .given i)) (s .pre .1) room (c .before .before .before .before .before .before .before .before .before .before .before .skip-starts .ensures .inside) (t .result) (t .ensures) (u .ensures) _ (c .before .used2 .given .1) (omega arith) (u .kept .1 .1 .1 .0) (s .pre .0 .tree) (s .pre .0 .stands)
+    let u = c .before .before .before .before .before .before .before .before .before .run-to-end in
+    let t = c .before .before .before .before .before .before .before .before .before .before .before .before .start in
+    let g = seeking-on (l .inv) (λ i. omega (arith, b .given i)) (s .pre .1) room (c .before .before .before .before .before .before .before .before .before .before .before .before .before .loop-test .taken) (t .result) (t .ensures) (u .ensures) _ (c .before .before .before .used2 .given .1) (omega arith) (u .kept .1 .1 .1 .0) (s .pre .0 .tree) (s .pre .0 .stands) in
+    rw (c .pass-starts .ensures .1) (seeking-from (λ i. omega (arith, b .given i)) (s .pre .1) room (omega arith) (c .before .before .before .before .before .before .before .before .before .before .before .before .before .before .before .before .find-opening .result) (c .before .before .before .before .before .before .before .before .before .before .before .before .before .before .before .before .find-opening .ensures) _ _ _ (omega arith) (c .pass-starts .ensures .0) g)
+
+enum-told : tie.Need-enum-told Inv-loop μ-loop
+enum-told c = search needs
+
+add-t40 : tie.Need-add-t40 Inv-loop μ-loop
+unfolding subjectLimit
+add-t40 c =
+    let l = c .before .before .before .before .before .before .before .before .before .before .before .loop in
+    let s = c .before .before .before .before .before .before .before .before .before .before .before .before .before .before .before .before .before .before .before in
+    omega (arith, l .inv .small, c .before .before .before .before .before .before .before .before .before .before .loop-test .taken, s .pre .0 .subject-fits)
+
+same-length-4 : tie.Need-same-length-4 Inv-loop μ-loop
+same-length-4 c = c .before .before .before .before .before .before .run-to-end .kept .1 .1 .0 ∙ ap (λ (r : List ℕ). length r) (c .before .before .before .before .before .before .before .before .before .before .before .loop .inv .same)
+
+same-length-5 : tie.Need-same-length-5 Inv-loop μ-loop
+same-length-5 c = c .before .before .before .before .before .before .run-to-end .kept .1 .1 .1 .0 ∙ c .before .before .before .before .before .before .before .before .before .before .before .loop .inv .wide
+
+same-length-6 : tie.Need-same-length-6 Inv-loop μ-loop
+same-length-6 c = ap (λ (r : List ℕ). length r) (c .before .before .before .before .before .before .before .before .before .before .before .loop .inv .kept)
+
+returns-2 : tie.Need-returns-2 Inv-loop μ-loop
+unfolding workAreaNeed
+returns-2 c =
+    let l = c .before .before .before .before .before .before .before .before .before .before .before .loop in
+    let s = c .before .before .before .before .before .before .before .before .before .before .before .before .before .before .before .before .before .before .before in
+    let b = c .before .before .before .before .before .before .before .before .before .before .before .before .before .before .before .before .before .shared-slice-known2 in
+    let room = enough-room (s .args .budget) (length (now (s .args .work))) (s .pre .0 .work-fits) in
+    let u = c .before .before .before .before .before .before .run-to-end in
+    let t = c .before .before .before .before .before .before .before .before .before .start in
+    seeking-spent (l .inv) (λ i. omega (arith, b .given i)) (s .pre .1) room (c .before .before .before .before .before .before .before .before .before .before .loop-test .taken) (t .result) (t .ensures) (u .ensures) (c .enum-told .given .1)
 
 same-length-7 : tie.Need-same-length-7 Inv-loop μ-loop
 same-length-7 c = ap (λ (r : List ℕ). length r) (c .before .loop .inv .same)
@@ -205,7 +165,7 @@ same-length-9 : tie.Need-same-length-9 Inv-loop μ-loop
 same-length-9 c = ap (λ (r : List ℕ). length r) (c .before .loop .inv .kept)
 
 returns-3 : tie.Need-returns-3 Inv-loop μ-loop
-returns-3 c = seeking-none (c .before .loop .inv) (c .loop-test .left)
+returns-3 c = seeking-none (c .before .loop .inv) (omega (arith, c .loop-test .left))
 
 pub search-spec : {M : Type 1} → statement M
 search-spec =
@@ -216,34 +176,29 @@ search-spec =
     find-opening-requires
     loop-holds
     cast-loop
-    skip-starts-requires
-    sub-steps
-    cast-steps
-    cast-steps-2
-    mul-steps
-    add-steps
     start-requires
     run-to-end-requires
     enum-known-used
     write-row-requires
-    cast-t35
-    add-t36
+    cast-t33
+    add-t34
     same-length
     same-length-2
     same-length-3
     returns
     enum-known-used-2
-    cast-steps-3
-    add-steps-2
+    add-pass-starts
+    cast-pass-starts
+    add-pass-starts-2
+    pass-starts-requires
+    loop-less
+    loop-again
     enum-told
-    add-t39
+    add-t40
     same-length-4
     same-length-5
     same-length-6
     returns-2
-    add-begin
-    loop-less
-    loop-again
     same-length-7
     same-length-8
     same-length-9
