@@ -1,5 +1,4 @@
 // The zero-width assertions.
-use charset::Named;
 ghost use mathlib.Core.Path.{_≡_};
 ghost use Prim.Native.Nat.{_<_, _^_};
 ghost use Rattle.syntax.specs.declared.Assertion.the-variants.{LineStart, LastLineEnd, LineEnd, WordBoundary};
@@ -32,14 +31,29 @@ fn byte_before(sub: &[u8], at: usize) -> u32
     NO_BYTE
 }
 
-// Whether there is a byte, and it is a word byte.
+// Whether there is a byte, and it is a word byte: a digit, a letter or `_`. The table of the named sets would be made anew at each use.
 fn is_word(b: u32) -> bool
     ensures { λ r. ⌜ r ≡ isWord b ⌝ }
 {
-    if b < NO_BYTE {
-        return charset::in_named(Named::Word, b as u8);
+    if b < b'0' as u32 {
+        return false;
     }
-    false
+    if b <= b'9' as u32 {
+        return true;
+    }
+    if b < b'A' as u32 {
+        return false;
+    }
+    if b <= b'Z' as u32 {
+        return true;
+    }
+    if b == b'_' as u32 {
+        return true;
+    }
+    if b < b'a' as u32 {
+        return false;
+    }
+    b <= b'z' as u32
 }
 
 fn at_line_start(sub: &[u8], at: usize) -> bool
