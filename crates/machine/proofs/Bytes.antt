@@ -1,8 +1,9 @@
 -- Runs, in the form in which the code makes them: how many bytes one takes, what it costs, and where it leads. Assumes nothing.
 use mathlib.Core.Path.{_≡_, refl, ap, _∙_}
+use mathlib.Core.Logic.{_⊎_, inl, inr, ⊎-elim}
 use mathlib.Core.List.{List}
 use mathlib.Core.Bool.{Bool, true, false}
-use Prim.Native.Nat.{ℕ, zero, suc, _+_, _*_, _-_, _≤_, _<_, _^_, min}
+use Prim.Native.Nat.{ℕ, zero, suc, _+_, _*_, _-_, _/_, _≤_, _<_, _^_, min}
 use native.Mathlib.Omega.{arith}
 use native.Mathlib.Numerals.{add-one}
 use lib.ListN.{length, getD, drop}
@@ -16,8 +17,8 @@ use Rattle.semantics.specs.Walk.{Trace}
 use Rattle.machine.specs.declared.Machine.{Machine}
 use Rattle.machine.specs.Code.{Program, pickMost, mostOf, repeatAt}
 use Rattle.machine.specs.Moves.{Stack, go, takes, oneMore, extent, allowance, strides, stopped, below, endsOf, fall, ran, bytesOf}
-use Rattle.machine.specs.Words.{stackOf, ranOn}
-use Rattle.machine.specs.Laws.Extent.{extent-none, extent-on, takes-inside}
+use Rattle.machine.specs.Words.{stackOf, ranOn, Measured}
+use Rattle.machine.specs.Laws.Extent.{takes-inside, extent-none, extent-on, extent-cut}
 use Rattle.machine.proofs.Tests.{byte-in}
 
 -- How many bytes ----------------------------------------------------------------
@@ -76,20 +77,27 @@ module _ (sub : List ℕ) (f : ℕ → Bool) where
       by true e = let z = eqb-true m unset e in extent-same m (length sub - at) at (omega arith) (omega arith)
       by false e = let z : m - 0 ≡ m = omega arith in rw z
 
-pub bytes-are : (p : Program) (sub : List ℕ) (pc at : ℕ) → length sub < 2 ^ 32
-    → extent sub (has (drop (getD p (pc + 6) 0 + 3) p)) (min (at + getD p (pc + 3) 0) (length sub) - at) at ≡ bytesOf p sub (repeatAt p (pc + 2)) 0 at
+  -- what is found within `few` bytes, of which there are less than m, or more than the steps that are left pay for
+  measured : (m left few k at : ℕ) → length sub < 2 ^ 32 → few ≡ min m (left / 2 + 1) → k ≡ extent sub f few at
+      → (k ≡ extent sub f (allowance (mostOf m) 0 (length sub - at)) at) ⊎ ((k ≤ extent sub f (allowance (mostOf m) 0 (length sub - at)) at) × (left < 2 * k + 1))
+  measured m left few k at h e x = rw (← allowed-is m at h) (by (leb m (left / 2 + 1)) refl)
+    where
+      by : (b : Bool) → leb m (left / 2 + 1) ≡ b → (k ≡ extent sub f m at) ⊎ ((k ≤ extent sub f m at) × (left < 2 * k + 1))
+      by true l = let z : few ≡ m = omega (arith, leb-true m (left / 2 + 1) l) in inl (rw z at x)
+      by false l =
+          let z : few ≡ left / 2 + 1 = omega (arith, leb-false m (left / 2 + 1) l) in
+          ⊎-elim (λ w. inl (x ∙ w)) (λ w. inr (omega (arith, w .0, w .1), omega (arith, w .0))) (extent-cut sub f few m at (omega (arith, leb-false m (left / 2 + 1) l)))
+
+pub run-ends : (p : Program) (sub : List ℕ) (pc at left few stop end : ℕ) → length sub < 2 ^ 32 → at < 2 ^ 32 → few ≡ min (getD p (pc + 3) 0) (left / 2 + 1) → stop ≡ min (at + few) (length sub)
+    → end ≡ at + extent sub (has (drop (getD p (pc + 6) 0 + 3) p)) (stop - at) at → Measured p sub pc at left (end - at) × (at + (end - at) < 2 ^ 32)
 unfolding bytesOf repeatAt
-bytes-are p sub pc at h =
+run-ends p sub pc at left few stop end h l e x y =
+    let f = has (drop (getD p (pc + 6) 0 + 3) p) in
     let e₀ : pc + 2 + 1 ≡ pc + 3 = omega arith in
     let e₁ : pc + 2 + 4 ≡ pc + 6 = omega arith in
-    rw (e₀, e₁) (nearest sub _ (getD p (pc + 3) 0) at ∙ allowed-is sub _ (getD p (pc + 3) 0) at h)
-
-pub run-ends : (p : Program) (sub : List ℕ) (pc at stop end : ℕ) → length sub < 2 ^ 32 → at < 2 ^ 32 → stop ≡ min (at + getD p (pc + 3) 0) (length sub) → end ≡ at + extent sub (has (drop (getD p (pc + 6) 0 + 3) p)) (stop - at) at
-    → (end - at ≡ bytesOf p sub (repeatAt p (pc + 2)) 0 at) × (at + (end - at) < 2 ^ 32)
-run-ends p sub pc at stop end h l e x =
-    let low = extent-low sub (has (drop (getD p (pc + 6) 0 + 3) p)) (stop - at) at in
-    let z : end - at ≡ extent sub (has (drop (getD p (pc + 6) 0 + 3) p)) (stop - at) at = omega arith in
-    (z ∙ rw e (bytes-are p sub pc at h), omega arith)
+    let low = extent-low sub f (stop - at) at in
+    let z : end - at ≡ extent sub f (stop - at) at = omega arith in
+    (rw (e₀, e₁) (measured sub f (getD p (pc + 3) 0) left few (end - at) at h e (z ∙ rw x (nearest sub f few at))), omega arith)
 
 -- Steps -----------------------------------------------------------------------------
 
@@ -118,10 +126,21 @@ module _ (p : Program) (pc k at : ℕ) (regs : List ℕ) (st : Stack) where
   unfolding ran repeatAt endsOf fall
   ran-enough h = let e : pc + 2 + 5 ≡ pc + 7 = omega arith in rw (le-ltb k (getD p (pc + 2) 0) h, e)
 
-module _ (p sub regs work : List ℕ) (m : Machine) (k : ℕ) (e : k ≡ bytesOf p sub (repeatAt p (m .pc + 2)) 0 (m .at)) where
-  pub steps-are : (n : ℕ) → ((place at : ℕ) → n ≡ suc (length (strides k (stopped (isFull (mostOf (getD p (m .pc + 3) 0)) k) place at)))) → n ≡ suc (length (ranOn p sub regs work m .more))
-  unfolding ran repeatAt
-  steps-are n h = let e₀ : m .pc + 2 + 1 ≡ m .pc + 3 = omega arith in rw (← e, e₀) (h _ _)
+module _ (p sub regs work : List ℕ) (m : Machine) (left k : ℕ) where
+  -- `n` is what a run of k bytes costs
+  module _ (n : ℕ) (steps : (place at : ℕ) → n ≡ suc (length (strides k (stopped (isFull (mostOf (getD p (m .pc + 3) 0)) k) place at)))) where
+    pub steps-are : k ≡ bytesOf p sub (repeatAt p (m .pc + 2)) 0 (m .at) → n ≡ suc (length (ranOn p sub regs work m .more))
+    unfolding ran repeatAt
+    steps-are e = let e₀ : m .pc + 2 + 1 ≡ m .pc + 3 = omega arith in rw (← e, e₀) (steps _ _)
 
-  pub after-is : ran p (repeatAt p (m .pc + 2)) k (m .at) regs (stackOf work (m .height)) .after ≡ ranOn p sub regs work m .after
-  after-is = rw (← e)
+    -- the steps are enough only if no byte was left out
+    pub measured-all : Measured p sub (m .pc) (m .at) left k → n ≤ left → k ≡ bytesOf p sub (repeatAt p (m .pc + 2)) 0 (m .at)
+    measured-all x h = ⊎-elim (λ e. e) (λ w. absurd (omega (arith, w .1, steps 0 0, length-strides k (stopped (isFull (mostOf (getD p (m .pc + 3) 0)) k) 0 0)))) x
+
+    -- and if they are not, they are too few for all the bytes too
+    pub measured-long : Measured p sub (m .pc) (m .at) left k → left < n → left < suc (length (ranOn p sub regs work m .more))
+    unfolding ran
+    measured-long x h = ⊎-elim (λ e. rw (steps-are e) at h) (λ w. rw length-strides (omega (arith, w .0, w .1))) x
+
+  pub after-is : k ≡ bytesOf p sub (repeatAt p (m .pc + 2)) 0 (m .at) → ran p (repeatAt p (m .pc + 2)) k (m .at) regs (stackOf work (m .height)) .after ≡ ranOn p sub regs work m .after
+  after-is e = rw (← e)

@@ -1,5 +1,6 @@
 -- What the code's numbers stand for: the work area holds the stack, and a `Machine` tells where the machine stands.
 use mathlib.Core.Path.{_≡_}
+use mathlib.Core.Logic.{_⊎_}
 use mathlib.Core.List.{List, [], _∷_}
 use mathlib.Core.Bool.{Bool, true, false, _&&_}
 use Prim.Native.Nat.{ℕ, zero, suc, _+_, _*_, _≤_, _<_}
@@ -46,6 +47,10 @@ movedOn p sub regs work m = move p sub (configurationOf regs work m) .after
 -- the same, where the node is of a known kind
 abbrev pub carried : ℕ → (p sub regs work : List ℕ) → Machine → Now
 carried kind p sub regs work m = carryOut p sub (decodeAs kind p (m .pc)) (m .at) regs (stackOf work (m .height)) .after
+
+-- k is how many bytes the run at pc takes; or it is fewer, and these take more steps than are left
+abbrev pub Measured : (p sub : List ℕ) → (pc at left k : ℕ) → Type 0
+Measured p sub pc at left k = (k ≡ bytesOf p sub (repeatAt p (pc + 2)) 0 at) ⊎ ((k ≤ bytesOf p sub (repeatAt p (pc + 2)) 0 at) × (left < 2 * k + 1))
 
 -- the move of a run
 abbrev pub ranOn : (p sub regs work : List ℕ) → Machine → Move

@@ -11,8 +11,8 @@ ghost use Rattle.charset.specs.Class.{has};
 ghost use Rattle.syntax.specs.Limits.{registers};
 ghost use Rattle.semantics.specs.Repeats.{isFull};
 ghost use Rattle.machine.specs.Code.{mostOf, repeatAt};
-ghost use Rattle.machine.specs.Moves.{extent, strides, stopped, ran, bytesOf};
-ghost use Rattle.machine.specs.Words.{stackOf, nowOf, RanBy};
+ghost use Rattle.machine.specs.Moves.{extent, strides, stopped, ran};
+ghost use Rattle.machine.specs.Words.{stackOf, nowOf, Measured, RanBy};
 ghost use Rattle.machine.specs.Ready.{StackFits};
 
 // How a run went: made, with the steps that it took; or too long for the steps that are left.
@@ -45,15 +45,16 @@ fn bytes_end(code: &[u32], sub: &[u8], base: usize, at: usize, stop: usize) -> u
     i
 }
 
-// How many bytes the run at `pc` takes from `at` on.
-fn run_length(code: &[u32], sub: &[u8], pc: usize, at: u32) -> u32
+// How many bytes the run at `pc` takes from `at` on; or fewer, if these already take more steps than are left.
+fn run_length(code: &[u32], sub: &[u8], pc: usize, at: u32, left: u32) -> u32
     requires { ⌜ (pc + 8 ≤ length (now code)) × (getD (now code) (pc + 6) 0 + 11 ≤ length (now code)) × (length (now sub) < 2 ^ 32) ⌝ }
-    ensures { λ r. ⌜ (r ≡ bytesOf (now (code .entry)) (now (sub .entry)) (repeatAt (now (code .entry)) (pc + 2)) 0 at) × (at + r < 2 ^ 32) ⌝ }
+    ensures { λ r. ⌜ Measured (now (code .entry)) (now (sub .entry)) pc at left r × (at + r < 2 ^ 32) ⌝ }
 {
     let most = code[pc + 3] as usize;
     let body = code[pc + 6] as usize;
     let from = at as usize;
-    let stop = nearer(from + most, sub.len());
+    let few = nearer(most, left as usize / 2 + 1);
+    let stop = nearer(from + few, sub.len());
     let end = bytes_end(code, sub, body + 3, from, stop);
     (end - from) as u32
 }
@@ -105,7 +106,7 @@ pub fn take_run(
     ensures { λ r. ⌜ RanBy (now (code .entry)) (now (sub .entry)) (now (regs .entry)) (now (work .entry)) m left (now (regs .exit)) (now (work .exit)) r ⌝ }
 {
     let pc = m.pc as usize;
-    let k = run_length(code, sub, pc, m.at);
+    let k = run_length(code, sub, pc, m.at, left);
     let steps = run_steps(code[pc + 3], k);
     if (left as u64) < steps {
         return Ran::TooLong;

@@ -1,5 +1,6 @@
 -- A greedy repeat of one byte item, as the walk has it, round by round; and how many bytes a run takes.
-use mathlib.Core.Path.{_≡_, refl}
+use mathlib.Core.Path.{_≡_, refl, ap}
+use mathlib.Core.Logic.{_⊎_, inl, inr}
 use mathlib.Core.List.{List, [], _∷_, _++_, append-nil}
 use mathlib.Core.Bool.{Bool, true, false, _&&_}
 use Prim.Native.Nat.{ℕ, zero, suc, _-_, _≤_, _<_}
@@ -66,6 +67,19 @@ module _ (sub : List ℕ) (f : ℕ → Bool) where
   unfolding allowance isFull
   extent-more (AtMost m) n at e t = let z : m - n ≡ suc (m - suc n) = omega (arith, leb-false m n e) in rw z (extent-on (m - suc n) at t)
   extent-more Unlimited n at e t = let z : length sub - at ≡ suc (length sub - suc at) = omega (arith, takes-inside sub f at t) in rw z (extent-on (length sub - suc at) at t)
+
+  -- with a smaller limit: as many, or as many as that limit allows
+  pub extent-cut : (less limit at : ℕ) → less ≤ limit → (extent sub f less at ≡ extent sub f limit at) ⊎ ((extent sub f less at ≡ less) × (less ≤ extent sub f limit at))
+  unfolding extent oneMore
+  extent-cut zero limit at h = inr (refl, omega arith)
+  extent-cut (suc less) zero at h = absurd (omega arith)
+  extent-cut (suc less) (suc limit) at h = by (takes sub f at) (extent-cut less limit (suc at) (omega arith))
+    where
+      by : (b : Bool) → (extent sub f less (suc at) ≡ extent sub f limit (suc at)) ⊎ ((extent sub f less (suc at) ≡ less) × (less ≤ extent sub f limit (suc at)))
+          → (oneMore b (extent sub f less (suc at)) ≡ oneMore b (extent sub f limit (suc at))) ⊎ ((oneMore b (extent sub f less (suc at)) ≡ suc less) × (suc less ≤ oneMore b (extent sub f limit (suc at))))
+      by true (inl e) = inl (ap suc e)
+      by true (inr e) = inr (ap suc (e .0), omega (arith, e .1))
+      by false e = inl refl
 
 -- The walk ------------------------------------------------------------------------
 

@@ -1,4 +1,5 @@
--- `run_length` meets its contract: the bytes end at the subject's end or behind the most rounds, whichever is nearer.
+-- `run_length` meets its contract: the bytes end at the subject's end, behind the most rounds, or where the steps that are left are too few,
+-- whichever is nearest.
 use Prim.Native.Nat.{_+_, _-_}
 use native.Mathlib.Omega.{arith}
 use lib.ListN.{getD, drop}
@@ -34,10 +35,16 @@ cast-body : tie.Need-cast-body
 cast-body c = search needs
 
 add-nearer : tie.Need-add-nearer
-add-nearer c = omega (arith, c .before .shared-slice-known3 .given (c .before .before .before .before .args .pc + 3))
+add-nearer c = search needs
 
 nearer-requires : tie.Need-nearer-requires
 nearer-requires c κs = search needs
+
+add-nearer-2 : tie.Need-add-nearer-2
+add-nearer-2 c = search needs
+
+nearer-requires-2 : tie.Need-nearer-requires-2
+nearer-requires-2 c κs = search needs
 
 add-bytes-end : tie.Need-add-bytes-end
 add-bytes-end c = search needs
@@ -50,13 +57,13 @@ sub-result c = search needs
 
 cast-result : tie.Need-cast-result
 cast-result c =
-    let s = c .before .before .before .before .before .before in
-    omega (arith, c .bytes-end .ensures, extent-low (now (s .args .sub)) (has (drop (getD (now (s .args .code)) (s .args .pc + 6) 0 + 3) (now (s .args .code)))) (c .before .nearer .result - s .args .at) (s .args .at))
+    let s = c .before .before .before .before .before .before .before in
+    omega (arith, c .bytes-end .ensures, extent-low (now (s .args .sub)) (has (drop (getD (now (s .args .code)) (s .args .pc + 6) 0 + 3) (now (s .args .code)))) (c .before .nearer2 .result - s .args .at) (s .args .at))
 
 returns : tie.Need-returns
 returns c =
-    let s = c .before .before .before .before .before .before in
-    run-ends (now (s .args .code)) (now (s .args .sub)) (s .args .pc) (s .args .at) (c .before .nearer .result) (c .bytes-end .result) (omega arith) (omega arith) (c .before .nearer .ensures) (c .bytes-end .ensures)
+    let s = c .before .before .before .before .before .before .before in
+    run-ends (now (s .args .code)) (now (s .args .sub)) (s .args .pc) (s .args .at) (s .args .left) (c .before .before .nearer .result) (c .before .nearer2 .result) (c .bytes-end .result) (omega arith) (omega arith) (c .before .before .nearer .ensures) (c .before .nearer2 .ensures) (c .bytes-end .ensures)
 
 pub run-length-spec : {M : Type 1} → statement M
 run-length-spec =
@@ -72,6 +79,8 @@ run-length-spec =
     cast-body
     add-nearer
     nearer-requires
+    add-nearer-2
+    nearer-requires-2
     add-bytes-end
     bytes-end-requires
     sub-result

@@ -1,8 +1,8 @@
--- `take_run` meets its contract: the steps are too few, or the run is made.
+-- `take_run` meets its contract: the steps are too few, for the bytes that were looked at and so for all of them, or the run is made.
 use mathlib.Core.Path.{_∙_}
 use native.Mathlib.Omega.{arith}
 use denote.Ref.{now}
-use Rattle.machine.proofs.Bytes.{steps-are, after-is}
+use Rattle.machine.proofs.Bytes.{steps-are, measured-all, measured-long, after-is}
 use borrow.Author.Needs.{needs}
 use Rattle.machine.proofs.runs.take_run.Statement.{statement}
 use Rattle.machine.proofs.runs.take_run.Tie as tie
@@ -28,7 +28,7 @@ run-steps-requires c κs = search needs
 returns : tie.Need-returns
 returns c =
     let s = c .before .before .before .before .before .before .before .before .before in
-    omega (arith, c .if1 .taken, steps-are (now (s .args .code)) (now (s .args .sub)) (now (s .args .regs)) (now (s .args .work)) (s .args .m) (c .before .before .before .run-length .result) (c .before .before .before .run-length .ensures .0) (c .before .run-steps .result) (c .before .run-steps .ensures))
+    measured-long (now (s .args .code)) (now (s .args .sub)) (now (s .args .regs)) (now (s .args .work)) (s .args .m) (s .args .left) (c .before .before .before .run-length .result) (c .before .run-steps .result) (c .before .run-steps .ensures) (c .before .before .before .run-length .ensures .0) (c .if1 .taken)
 
 finish-run-requires : tie.Need-finish-run-requires
 finish-run-requires c κs = search needs
@@ -45,7 +45,8 @@ same-length-2 c = search needs
 returns-2 : tie.Need-returns-2
 returns-2 c =
     let s = c .before .before .before .before .before .before .before .before .before .before .before .before .before .before .before .before in
-    (steps-are (now (s .args .code)) (now (s .args .sub)) (now (s .args .regs)) (now (s .args .work)) (s .args .m) (c .before .before .before .before .before .before .before .before .before .before .run-length .result) (c .before .before .before .before .before .before .before .before .before .before .run-length .ensures .0) (c .before .before .before .before .before .before .before .before .run-steps .result) (c .before .before .before .before .before .before .before .before .run-steps .ensures), omega arith, c .before .before .before .before .finish-run .ensures ∙ after-is (now (s .args .code)) (now (s .args .sub)) (now (s .args .regs)) (now (s .args .work)) (s .args .m) (c .before .before .before .before .before .before .before .before .before .before .run-length .result) (c .before .before .before .before .before .before .before .before .before .before .run-length .ensures .0))
+    let e = measured-all (now (s .args .code)) (now (s .args .sub)) (now (s .args .regs)) (now (s .args .work)) (s .args .m) (s .args .left) (c .before .before .before .before .before .before .before .before .before .before .run-length .result) (c .before .before .before .before .before .before .before .before .run-steps .result) (c .before .before .before .before .before .before .before .before .run-steps .ensures) (c .before .before .before .before .before .before .before .before .before .before .run-length .ensures .0) (c .before .before .before .before .before .before .before .if1 .left) in
+    (steps-are (now (s .args .code)) (now (s .args .sub)) (now (s .args .regs)) (now (s .args .work)) (s .args .m) (s .args .left) (c .before .before .before .before .before .before .before .before .before .before .run-length .result) (c .before .before .before .before .before .before .before .before .run-steps .result) (c .before .before .before .before .before .before .before .before .run-steps .ensures) e, omega arith, c .before .before .before .before .finish-run .ensures ∙ after-is (now (s .args .code)) (now (s .args .sub)) (now (s .args .regs)) (now (s .args .work)) (s .args .m) (s .args .left) (c .before .before .before .before .before .before .before .before .before .before .run-length .result) e)
 
 pub take-run-spec : {M : Type 1} → statement M
 take-run-spec =
