@@ -28,7 +28,7 @@ module _ (sub : List ℕ) (f : ℕ → Bool) where
   unfolding takes
   takes-here i h = rw (lt-ltb i (length sub) h, byte-in sub i h)
 
-  takes-past : (i : ℕ) → length sub ≤ i → takes sub f i ≡ false
+  pub takes-past : (i : ℕ) → length sub ≤ i → takes sub f i ≡ false
   unfolding takes
   takes-past i h = rw (le-ltb i (length sub) h)
 

@@ -3,4 +3,6 @@ pub mod Frames
 pub mod Tests
 pub mod Decisions
 pub mod Bytes
+pub mod Branching
+pub mod Stepping
 pub mod Walking

@@ -1,5 +1,5 @@
--- One move as the code makes it, and the invariant of the loop that runs to the next end. Assumes nothing.
-use mathlib.Core.Path.{_≡_, refl, ap, _∙_}
+-- The invariant of the loop that runs to the next end. Assumes nothing.
+use mathlib.Core.Path.{_≡_, refl, _∙_}
 use mathlib.Core.List.{List, _∷_}
 use mathlib.Core.Bool.{true, false}
 use Prim.Native.Nat.{ℕ, suc, _+_, _*_, _-_, _≤_, _<_}
@@ -14,28 +14,14 @@ use Rattle.machine.specs.declared.runs.Ran.{Ran}
 use Rattle.machine.specs.declared.runs.Ran.the-variants.{Made, TooLong}
 use Rattle.machine.specs.Code.{repeatAt, decode, Fits}
 use Rattle.machine.specs.Moves.{Configuration, idle, busy, bytesOf, carryOut, move}
-use Rattle.machine.specs.Words.{stackOf, configurationOf, nowOf, movedOn, carried, ranOn, RanBy}
-use Rattle.machine.specs.Ready.{until, StackFits, Ready, Reached, Agrees, atEnd, allTried, outOfSteps}
-use Rattle.machine.specs.Laws.Stack.{length-stackOf}
-use Rattle.machine.specs.Laws.Loop.{Running, running-start, running-idle, running-out, running-run, running-cut, running-on, running-end, quiet-ran, fits-now}
-
-pub moved-as : (p sub regs work : List ℕ) (m : Machine) (n : ℕ) → getD p (m .pc) 0 ≡ n → movedOn p sub regs work m ≡ carried n p sub regs work m
-unfolding move decode
-moved-as p sub regs work m n e = ap (λ (k : ℕ). carried k p sub regs work m) e
+use Rattle.machine.specs.Words.{stackOf, configurationOf, nowOf, ranOn, RanBy}
+use Rattle.machine.specs.Ready.{until, Leads, StackFits, Ready, Reached, Agrees, atEnd, allTried, outOfSteps}
+use Rattle.machine.specs.Laws.Loop.{Running, running-start, running-idle, running-out, running-run, running-cut, running-led, running-end, quiet-ran}
+use Rattle.machine.proofs.Stepping.{running-fits, running-stack, running-low}
 
 pub moved-run : (p sub regs work : List ℕ) (m : Machine) → getD p (m .pc) 0 ≡ 10 → move p sub (configurationOf regs work m) ≡ ranOn p sub regs work m
 unfolding move decode carryOut
 moved-run p sub regs work m e = rw e
-
--- the only kind that is left
-pub only-loop : (n : ℕ) → n ≤ 8 → (n ≡ 0 → ⊥) → (n ≡ 1 → ⊥) → (n ≡ 2 → ⊥) → (n ≡ 3 → ⊥) → (n ≡ 4 → ⊥) → (n ≡ 5 → ⊥) → (n ≡ 6 → ⊥) → (n ≡ 7 → ⊥) → n ≡ 8
-only-loop n h a b c d e f g i = high n h (low n a b c d) e f g i
-  where
-    low : (n : ℕ) → (n ≡ 0 → ⊥) → (n ≡ 1 → ⊥) → (n ≡ 2 → ⊥) → (n ≡ 3 → ⊥) → 4 ≤ n
-    low n a b c d = omega arith
-
-    high : (n : ℕ) → n ≤ 8 → 4 ≤ n → (n ≡ 4 → ⊥) → (n ≡ 5 → ⊥) → (n ≡ 6 → ⊥) → (n ≡ 7 → ⊥) → n ≡ 8
-    high n h l e f g i = omega arith
 
 -- A run that begins with the registers regs₀ and the work area work₀, at m₀.
 module _ (p sub regs₀ work₀ : List ℕ) (m₀ : Machine) (budget : ℕ) where
@@ -65,21 +51,35 @@ module _ {p sub regs₀ work₀ : List ℕ} {m₀ : Machine} {budget : ℕ} {reg
       let y : Running p sub (length work₀) budget first t used (idle regs) = rw e at (g .runs first t x) in
       rw (running-idle p sub (length work₀) budget first t used regs y) (allTried (g .few) (y .ready .back))
 
+  at-work : Running p sub (length work₀) budget (g .some .0) (g .some .1) used (nowOf regs work m)
+  at-work = g .runs (g .some .0) (g .some .1) (g .some .2)
+
+  pub walking-ready : (first : List ℕ) × (t : Trace) × Ready p sub (length work) (budget - used) first (nowOf regs work m) t
+  walking-ready = (g .some .0, at-work .rest, rw (g .wide) (at-work .ready))
+
+  -- nodes in a row
+  pub walking-on : (regs′ work′ : List ℕ) (m′ : Machine) (n : ℕ) → n ≤ budget - used → Leads p sub (nowOf regs work m) n (nowOf regs′ work′ m′) → length regs′ ≡ length regs → length work′ ≡ length work
+      → Walking p sub regs₀ work₀ m₀ budget regs′ work′ (used + n) m′
+  walking-on regs′ work′ m′ n h l s s′ = record {
+    size = s ∙ g .size;
+    wide = s′ ∙ g .wide;
+    few = omega (arith, g .few);
+    some = g .some;
+    runs = λ first t x. running-led p sub (length work₀) budget first t used n _ _ l (omega (arith, g .few)) (g .runs first t x);
+  }
+
   module _ (live : m .live ≡ true) where
     running : (first : List ℕ) (t : Trace) → ReadyAtFirst p sub regs₀ work₀ m₀ budget first t → Running p sub (length work₀) budget first t used (busy here)
     running first t x = rw live at (g .runs first t x)
 
-    at-work : Running p sub (length work₀) budget (g .some .0) (g .some .1) used (busy here)
-    at-work = running (g .some .0) (g .some .1) (g .some .2)
-
     pub walking-fits : Fits p (m .pc)
-    walking-fits = fits-now p sub here (at-work .rest) (at-work .ready .emits)
+    walking-fits = running-fits regs work m live at-work
 
     pub walking-stack : StackFits p (stackOf work (m .height))
-    walking-stack = at-work .ready .fits
+    walking-stack = running-stack regs work m live at-work
 
     pub walking-low : 4 * m .height + 8 * (budget - used) ≤ length work₀
-    walking-low = omega (arith, at-work .ready .low, length-stackOf work (m .height))
+    walking-low = running-low regs work m live at-work
 
     pub walking-out : used ≡ budget → Promised p sub regs₀ work₀ m₀ budget Spent regs work
     walking-out h first t x = rw (running-out p sub (length work₀) budget first t used here (running first t x) h) outOfSteps
@@ -89,16 +89,6 @@ module _ {p sub regs₀ work₀ : List ℕ} {m₀ : Machine} {budget : ℕ} {reg
         let e = running-end p sub (length work₀) budget first t used here (running first t x) h k k′ in
         let x : Reached p sub (length work₀) budget first (used + 1) (e .met) (e .rest) m regs work = record { few = omega arith; at = e .at; spans = e .spans; low = omega (arith, walking-low); fits = walking-stack; ready = e .ready } in
         rw (e .until-is) (atEnd {used = used + 1} {s = e .met} {rest = e .rest} {m = m} x)
-
-    pub walking-on : (regs′ work′ : List ℕ) (m′ : Machine) → used < budget → getD p (m .pc) 0 ≤ 8 → nowOf regs′ work′ m′ ≡ movedOn p sub regs work m → length regs′ ≡ length regs → length work′ ≡ length work
-        → Walking p sub regs₀ work₀ m₀ budget regs′ work′ (used + 1) m′
-    walking-on regs′ work′ m′ h k e s s′ = record {
-      size = s ∙ g .size;
-      wide = s′ ∙ g .wide;
-      few = omega arith;
-      some = g .some;
-      runs = λ first t x. rw e (running-on p sub (length work₀) budget first t used here (running first t x) h k);
-    }
 
     module _ (is : getD p (m .pc) 0 ≡ 10) where
       quiet-run : Quiet (move p sub here .first ∷ move p sub here .more)

@@ -7,4 +7,5 @@ pub mod Extent
 pub mod Walk
 pub mod Stack
 pub mod Loop
+pub mod Branches
 pub mod Skips

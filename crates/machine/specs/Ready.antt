@@ -2,7 +2,7 @@
 use mathlib.Core.Path.{_≡_}
 use mathlib.Core.List.{List, [], _∷_}
 use Prim.Native.Nat.{ℕ, zero, suc, _+_, _*_, _-_, _≤_}
-use lib.ListN.{length, take}
+use lib.ListN.{length, getD, take}
 use Rattle.syntax.specs.Limits.{spansLength, registers}
 use Rattle.semantics.specs.States.{State}
 use Rattle.semantics.specs.Walk.{step, miss, end, Trace}
@@ -10,7 +10,7 @@ use Rattle.machine.specs.declared.Machine.{Machine}
 use Rattle.machine.specs.declared.Stop.{Stop}
 use Rattle.machine.specs.declared.Stop.the-variants.{End, Nothing, Spent}
 use Rattle.machine.specs.Code.{Program, RepeatFits}
-use Rattle.machine.specs.Moves.{Frame, explore, again, undo, stretch, Stack, Now, idle, busy, set2, fall, Emits}
+use Rattle.machine.specs.Moves.{Frame, explore, again, undo, stretch, Stack, Configuration, Now, idle, busy, set2, fall, move, Emits}
 use Rattle.machine.specs.Words.{stackOf}
 
 -- The next end of a trace -----------------------------------------------------
@@ -28,6 +28,13 @@ until zero used (e ∷ t) = spent
 until (suc left) used (step ∷ t) = until left (suc used) t
 until (suc left) used (miss place at ∷ t) = until left (suc used) t
 until (suc left) used (end s ∷ t) = ended (suc used) s t
+
+-- Nodes in a row ----------------------------------------------------------------
+
+-- n nodes, each of them neither a run nor an end, lead from here to there: each is one step
+pub data Leads (p sub : List ℕ) (here : Now) : (n : ℕ) → (there : Now) → Type 0 where
+  stay : Leads p sub here 0 here
+  onward : {n : ℕ} {c : Configuration} → Leads p sub here n (busy c) → getD p (c .pc) 0 ≤ 8 → Leads p sub here (suc n) (move p sub c .after)
 
 -- The stack -------------------------------------------------------------------
 

@@ -7,6 +7,7 @@ ghost use Rattle.machine.specs.Moves.{go};
 ghost use Rattle.machine.specs.Words.{nowOf};
 
 mod assertions;
+mod branches;
 mod nodes;
 mod references;
 mod repeats;

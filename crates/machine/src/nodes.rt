@@ -1,11 +1,9 @@
-// One function for each kind of node but a repeat's: it carries the node out, or falls back.
+// One function for each kind of node but a repeat's and a branch that is not the last: it carries the node out, or falls back.
 use crate::Machine;
 use crate::assertions::assertion_holds;
 use crate::references::span_length;
 use crate::references::stands_again;
-use crate::stack::EXPLORE;
 use crate::stack::fall_back;
-use crate::stack::push;
 use crate::stack::save_and_write;
 ghost use mathlib.Core.Path.{_≡_};
 ghost use mathlib.Core.List.{List};
@@ -129,23 +127,6 @@ pub fn close_group(code: &[u32], regs: &mut [u32], work: &mut [u32], m: Machine)
     let h = save_and_write(regs, work, m.height, slot, from, m.at);
     Machine {
         pc: next,
-        at: m.at,
-        height: h,
-        live: true,
-    }
-}
-
-// A branch begins, and the one after it is kept for later.
-pub fn begin_branch(code: &[u32], work: &mut [u32], m: Machine) -> Machine
-    requires { ⌜ (m .pc + 3 ≤ length (now code)) × (4 * m .height + 4 ≤ length (now work)) ⌝ }
-    ensures { λ r. ⌜ ((sub regs : List ℕ) → nowOf regs (now (work .exit)) r ≡ carried 5 (now (code .entry)) sub regs (now (work .entry)) m) ⌝ }
-{
-    let pc = m.pc as usize;
-    let body = code[pc + 1];
-    let other = code[pc + 2];
-    let h = push(work, m.height, EXPLORE, other, m.at, 0);
-    Machine {
-        pc: body,
         at: m.at,
         height: h,
         live: true,

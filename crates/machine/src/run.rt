@@ -1,7 +1,9 @@
-// One step, and running to the next end.
+// One step, many of them, and running to the next end.
 use crate::Machine;
 use crate::Stop;
-use crate::nodes::begin_branch;
+use crate::branches::BRANCH;
+use crate::branches::Walked;
+use crate::branches::take_branch;
 use crate::nodes::begin_last_branch;
 use crate::nodes::close_group;
 use crate::nodes::open_group;
@@ -14,18 +16,19 @@ use crate::runs::Ran;
 use crate::runs::take_run;
 ghost use mathlib.Core.Path.{_≡_};
 ghost use mathlib.Core.List.{List};
+ghost use mathlib.Core.Bool.{true};
 ghost use Prim.Native.Nat.{ℕ, _+_, _*_, _≤_, _<_, _^_};
 ghost use lib.ListN.{length, getD};
 ghost use Rattle.syntax.specs.Limits.{registers};
 ghost use Rattle.semantics.specs.Walk.{Trace};
 ghost use Rattle.machine.specs.Code.{Fits};
 ghost use Rattle.machine.specs.Words.{stackOf, nowOf, movedOn};
-ghost use Rattle.machine.specs.Ready.{until, StackFits, Ready, Agrees};
+ghost use Rattle.machine.specs.Ready.{until, Leads, StackFits, Ready, Agrees};
 
 // The kind of a run.
 const RUN: u32 = 10;
 
-// One node that is no end and no run; `kind` is its first number.
+// One node that is no end, no run and no branch but the last; `kind` is its first number.
 fn step(
     code: &[u32],
     sub: &[u8],
@@ -34,7 +37,7 @@ fn step(
     kind: u32,
     m: Machine,
 ) -> Machine
-    requires { ⌜ (kind ≡ getD (now code) (m .pc) 0) × (kind ≤ 8) × (length (now regs) ≡ registers) × (4 * m .height + 8 ≤ length (now work)) × (length (now sub) < 2 ^ 32) × (length (now code) < 2 ^ 32) ⌝ }
+    requires { ⌜ (kind ≡ getD (now code) (m .pc) 0) × (kind ≤ 8) × (kind ≡ 5 → ⊥) × (length (now regs) ≡ registers) × (4 * m .height + 8 ≤ length (now work)) × (length (now sub) < 2 ^ 32) × (length (now code) < 2 ^ 32) ⌝ }
     requires { ⌜ Fits (now code) (m .pc) ⌝ }
     requires { ⌜ StackFits (now code) (stackOf (now work) (m .height)) ⌝ }
     ensures { λ r. ⌜ nowOf (now (regs .exit)) (now (work .exit)) r ≡ movedOn (now (code .entry)) (now (sub .entry)) (now (regs .entry)) (now (work .entry)) m ⌝ }
@@ -45,10 +48,56 @@ fn step(
         2 => test_reference(code, sub, regs, work, m),
         3 => open_group(code, regs, work, m),
         4 => close_group(code, regs, work, m),
-        5 => begin_branch(code, work, m),
         6 => begin_last_branch(code, m),
         7 => enter_repeat(code, regs, work, m),
         _ => end_round(code, regs, work, m),
+    }
+}
+
+// Walks on until it comes to a run or an end, the steps are used or nothing is left. It is a loop of its own, apart from runs and ends, so that
+// the compiler keeps in registers what each step needs.
+fn walk(
+    code: &[u32],
+    sub: &[u8],
+    regs: &mut [u32],
+    work: &mut [u32],
+    m: Machine,
+    left: u32,
+) -> Walked
+    requires { ⌜ (m .live ≡ true) × (getD (now code) (m .pc) 0 ≤ 8) × (1 ≤ left) × (length (now regs) ≡ registers) × (length (now sub) < 2 ^ 32) × (length (now code) < 2 ^ 32) ⌝ }
+    requires { ⌜ ((first : List ℕ) × (t : Trace) × Ready (now code) (now sub) (length (now work)) left first (nowOf (now regs) (now work) m) t) ⌝ }
+    ensures { λ r. ⌜ (1 ≤ r .used) × (r .used ≤ left) × Leads (now (code .entry)) (now (sub .entry)) (nowOf (now (regs .entry)) (now (work .entry)) m) (r .used) (nowOf (now (regs .exit)) (now (work .exit)) (r .head)) ⌝ }
+{
+    let mut used: u32 = 0;
+    let mut head = m;
+    while head.live {
+        if used == left {
+            return Walked {
+                used: used,
+                head: head,
+            };
+        }
+        let pc = head.pc as usize;
+        let kind = code[pc];
+        if 8 < kind {
+            return Walked {
+                used: used,
+                head: head,
+            };
+        }
+        if kind == BRANCH {
+            let b = take_branch(code, sub, work, head, left - used);
+            used += b.used;
+            head = b.head;
+            continue;
+        }
+        used += 1;
+        let next = step(code, sub, regs, work, kind, head);
+        head = next;
+    }
+    Walked {
+        used: used,
+        head: head,
     }
 }
 
@@ -85,9 +134,9 @@ pub fn run_to_end(
             head = made;
             continue;
         }
-        used += 1;
-        let next = step(code, sub, regs, work, kind, head);
-        head = next;
+        let w = walk(code, sub, regs, work, head, budget - used);
+        used += w.used;
+        head = w.head;
     }
     Stop::Nothing(used)
 }

@@ -16,11 +16,12 @@ use Rattle.syntax.specs.Sets.{Class, inClass}
 use Rattle.syntax.specs.Tree.{byteIn, item}
 use Rattle.syntax.specs.WellFormed.{BoundsFit}
 use Rattle.semantics.specs.States.{again, goOn, State, chose, moved}
-use Rattle.semantics.specs.Items.{goes, when, try}
+use Rattle.semantics.specs.Items.{fails, goes, when, try}
 use Rattle.semantics.specs.Repeats.{isFull, allowed, decision}
 use Rattle.semantics.specs.Walk.{step, miss, Trace, Go, _▹_, done, tried, decide, rounds, walk}
 use Rattle.semantics.specs.Laws.Traces.{bind-append, bind-done}
-use Rattle.machine.specs.Moves.{Bytes, takes, oneMore, extent, allowance}
+use Rattle.machine.specs.Code.{inSet}
+use Rattle.machine.specs.Moves.{Bytes, tested, takes, oneMore, extent, allowance}
 
 pub byte-small : (sub : List ℕ) → Bytes sub → (i : ℕ) → i < length sub → byte sub i < 256
 unfolding byte
@@ -40,6 +41,26 @@ takes-inside sub f at e = by (ltb at (length sub)) refl e
     by : (b : Bool) → ltb at (length sub) ≡ b → (b && f (byte sub at)) ≡ true → at < length sub
     by true x y = ltb-true at (length sub) x
     by false x y = absurd (clash (cc))
+
+-- an item of one byte, tried
+module _ (sub : List ℕ) (f : ℕ → Bool) (s : State) where
+  pub tested-none : takes sub f (s .at) ≡ false → tested sub (inSet f) s ≡ fails
+  unfolding tested takes when
+  tested-none e = by (ltb (s .at) (length sub)) (f (byte sub (s .at))) e
+    where
+      by : (a b : Bool) → (a && b) ≡ false → when a (when b (goes (moved (suc (s .at)) s))) ≡ fails
+      by true true e = absurd (clash (cc))
+      by true false e = refl
+      by false b e = refl
+
+  pub tested-one : takes sub f (s .at) ≡ true → tested sub (inSet f) s ≡ goes (moved (suc (s .at)) s)
+  unfolding tested takes when
+  tested-one e = by (ltb (s .at) (length sub)) (f (byte sub (s .at))) e
+    where
+      by : (a b : Bool) → (a && b) ≡ true → when a (when b (goes (moved (suc (s .at)) s))) ≡ goes (moved (suc (s .at)) s)
+      by true true e = refl
+      by true false e = absurd (clash (cc))
+      by false b e = absurd (clash (cc))
 
 -- a repeat that owes rounds is not full
 pub owed-room : (least : ℕ) (most : Most) (n : ℕ) → BoundsFit least most → n < least → isFull most n ≡ false

@@ -14,7 +14,7 @@ use Rattle.semantics.specs.Walk.{Event, step, miss, end, Trace}
 use Rattle.semantics.specs.Laws.Loops.{Quiet}
 use Rattle.machine.specs.Code.{Program, Repeat, Instruction, ends, decodeAs, decode, Fits}
 use Rattle.machine.specs.Moves.{Stack, Configuration, Now, idle, busy, Move, emitting, state, shown, strides, stopped, fall, tried, ran, carryOut, move, Emits}
-use Rattle.machine.specs.Ready.{ended, nothing, spent, until, Ready}
+use Rattle.machine.specs.Ready.{ended, nothing, spent, until, Leads, stay, onward, Ready}
 use Rattle.machine.specs.Laws.Stack.{fall-leaves, move-leaves}
 
 clash : _≡_ {A = ℕ} 0 1 → ⊥
@@ -174,6 +174,12 @@ module _ (p : Program) (sub : List ℕ) where
   decode-end (suc (suc (suc (suc (suc (suc (suc (suc (suc (suc zero)))))))))) pc h x = absurd (x refl)
   decode-end (suc (suc (suc (suc (suc (suc (suc (suc (suc (suc (suc n))))))))))) pc h x = refl
 
+  -- Nodes in a row ---------------------------------------------------------------------
+
+  pub leads-join : {a b c : Now} {n k : ℕ} → Leads p sub a n b → Leads p sub b k c → Leads p sub a (n + k) c
+  leads-join {n = n} l stay = let z : n + 0 ≡ n = omega arith in rw z l
+  leads-join {n = n} l (onward {n = j} {c = d} r e) = let z : n + suc j ≡ suc (n + j) = omega arith in rw z (onward (leads-join l r) e)
+
   -- The run ---------------------------------------------------------------------------
 
   module _ (room budget : ℕ) (first : List ℕ) (t₀ : Trace) where
@@ -265,3 +271,13 @@ module _ (p : Program) (sub : List ℕ) where
                 spans = sym (ap (λ (j : State). j .spans) e);
                 ready = record { emits = subst (λ (j : Move). Emits p sub (j .more) (j .after) v) m (x .2); fits = w .fits; low = omega (arith, w .low, g .ready .low); back = w .back ∙ g .ready .back };
               }
+
+    -- nodes in a row
+    pub running-led : (used n : ℕ) (now there : Now) → Leads p sub now n there → used + n ≤ budget → Running used now → Running (used + n) there
+    running-led used n now there stay h g = let z : used + 0 ≡ used = omega arith in rw z g
+    running-led used n now there (onward {n = k} {c = c} l e) h g =
+        let z : used + suc k ≡ used + k + 1 = omega arith in
+        rw z (running-on (used + k) c (running-led used k now (busy c) l (omega arith) g) (omega arith) e)
+
+    pub ready-led : {n : ℕ} {now there : Now} → Ready p sub room budget first now t₀ → Leads p sub now n there → n ≤ budget → Running n there
+    ready-led {n} {now} {there} x l h = let z : 0 + n ≡ n = omega arith in rw z at (running-led 0 n now there l (omega arith) (running-start now x))

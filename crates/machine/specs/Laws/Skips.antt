@@ -2,24 +2,20 @@
 -- walk makes so many steps and reaches no end. It is seen from the machine's first move alone, whatever the rule.
 use mathlib.Core.Path.{_≡_, refl}
 use mathlib.Core.List.{List, [], _∷_}
-use mathlib.Core.Bool.{Bool, true, false, _&&_}
+use mathlib.Core.Bool.{false}
 use Prim.Native.Nat.{ℕ, suc, _+_, _≤_}
 use native.Mathlib.Omega.{arith}
 use lib.ListN.{length, getD, drop}
-use lib.Dec.{ltb}
 use borrow.Author.Tests.{lt-ltb}
 use Rattle.charset.specs.Class.{has}
-use Rattle.syntax.specs.Read.{byte}
-use Rattle.semantics.specs.Items.{fails, goes, when}
 use Rattle.semantics.specs.Repeats.{isFull}
-use Rattle.semantics.specs.States.{State, moved}
 use Rattle.semantics.specs.Walk.{step, miss, Trace}
 use Rattle.semantics.specs.Laws.Loops.{Quiet}
-use Rattle.machine.specs.Code.{Program, inSet, repeatAt}
-use Rattle.machine.specs.Moves.{Configuration, Move, idle, busy, state, go, tested, takes, strides, stopped, endsOf, fall, tried, ran, bytesOf, carryOut, move}
+use Rattle.machine.specs.Code.{Program, repeatAt}
+use Rattle.machine.specs.Moves.{Configuration, Move, idle, busy, state, go, takes, strides, stopped, endsOf, fall, tried, ran, bytesOf, carryOut, move}
 use Rattle.machine.specs.Ready.{nothing, until, Ready}
 use Rattle.machine.specs.Laws.Code.{decode-at}
-use Rattle.machine.specs.Laws.Extent.{extent-none}
+use Rattle.machine.specs.Laws.Extent.{tested-none, extent-none}
 use Rattle.machine.specs.Laws.Loop.{Running, running-start, running-idle, running-run}
 
 module _ (p : Program) (sub : List ℕ) where
@@ -32,20 +28,11 @@ module _ (p : Program) (sub : List ℕ) where
       let g′ : Running p sub room budget first t (suc (length (m .more))) (idle regs) = rw (e, a, z) at g in
       running-idle p sub room budget first t (suc (length (m .more))) regs g′
 
-  tested-none : (f : ℕ → Bool) (s : State) → takes sub f (s .at) ≡ false → tested sub (inSet f) s ≡ fails
-  unfolding tested takes when
-  tested-none f s e = by (ltb (s .at) (length sub)) (f (byte sub (s .at))) e
-    where
-      by : (a b : Bool) → (a && b) ≡ false → when a (when b (goes (moved (suc (s .at)) s))) ≡ fails
-      by true true e = let z : _≡_ {A = ℕ} 0 1 = cc in absurd (omega arith)
-      by true false e = refl
-      by false b e = refl
-
   module _ (entry begin : ℕ) (regs : List ℕ) (room budget : ℕ) (first : List ℕ) (t : Trace) (x : Ready p sub room budget first (go entry begin regs []) t) where
     -- a byte item: one step
     pub skip-byte : getD p entry 0 ≡ 0 → takes sub (has (drop (entry + 3) p)) begin ≡ false → 1 ≤ budget → until budget 0 t ≡ nothing 1
     unfolding move carryOut tried fall
-    skip-byte is e h = gives-up _ (record { first = miss (getD p (entry + 2) 0) begin; more = []; after = idle regs }) regs room budget first t (rw (decode-at p entry 0 is, tested-none (has (drop (entry + 3) p)) (state begin regs) e)) refl tt (omega arith) x
+    skip-byte is e h = gives-up _ (record { first = miss (getD p (entry + 2) 0) begin; more = []; after = idle regs }) regs room budget first t (rw (decode-at p entry 0 is, tested-none sub (has (drop (entry + 3) p)) (state begin regs) e)) refl tt (omega arith) x
 
     -- a run that owes a round: two
     pub skip-run : getD p entry 0 ≡ 10 → 1 ≤ getD p (entry + 2) 0 → takes sub (has (drop (getD p (entry + 6) 0 + 3) p)) begin ≡ false → isFull (repeatAt p (entry + 2) .most) 0 ≡ false → 2 ≤ budget → until budget 0 t ≡ nothing 2

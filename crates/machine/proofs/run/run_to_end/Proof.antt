@@ -1,12 +1,12 @@
 -- `run_to_end` meets its contract. The loop's invariant: the machine is ready for the steps that are left, and what it finds from here on is what
 -- it finds from the start. The measure is the steps that are left.
-use mathlib.Core.Path.{refl, _∙_}
+use mathlib.Core.Path.{_∙_}
 use Prim.Native.Nat.{_-_}
 use native.Mathlib.Omega.{arith}
 use denote.Ref.{now}
 use borrow.Author.Needs.{needs}
 use Rattle.machine.specs.Laws.Code.{fits-at}
-use Rattle.machine.proofs.Walking.{Walking, walking-start, walking-none, walking-fits, walking-stack, walking-low, walking-out, walking-end, walking-on, walking-cut, made-some, made-few, walking-run}
+use Rattle.machine.proofs.Walking.{Walking, walking-start, walking-none, walking-fits, walking-stack, walking-low, walking-ready, walking-out, walking-end, walking-on, walking-cut, made-some, made-few, walking-run}
 use Rattle.machine.proofs.run.run_to_end.Statement.{statement}
 use Rattle.machine.proofs.run.run_to_end.Tie as tie
 
@@ -86,21 +86,25 @@ loop-less c = omega (arith, c .before .before .before .before .before .before .b
 loop-again : tie.Need-loop-again Inv-loop μ-loop
 loop-again c = walking-run (c .before .before .before .before .before .before .before .before .before .before .before .before .before .before .before .before .loop .inv) (c .before .before .before .before .before .before .before .before .before .before .before .before .before .before .before .loop-test .taken) (c .before .before .before .before .before .before .before .before .before .before .if3 .left) _ _ _ (c .before .before .before .before .before .before .before .take-run .ensures) _ _ (c .before .n .given .1) (c .before .before .before .before .before .before .before .take-run .kept .1 .1 .0) (c .before .before .before .before .before .before .before .take-run .kept .1 .1 .1 .0)
 
-add-used-2 : tie.Need-add-used-2 Inv-loop μ-loop
-add-used-2 c = omega (arith, c .before .before .before .before .before .loop .inv .few)
+sub-walk : tie.Need-sub-walk Inv-loop μ-loop
+sub-walk c = omega (arith, c .before .before .before .before .before .before .before .loop .inv .few)
 
-step-requires : tie.Need-step-requires Inv-loop μ-loop
-step-requires c κs =
+walk-requires : tie.Need-walk-requires Inv-loop μ-loop
+walk-requires c κs =
     let s = c .before .before .before .before .before .before .before .before .before .before .before .before in
     let g = c .before .before .before .before .before .before .before .loop .inv in
-    let t = c .before .before .before .before .before .before .loop-test .taken in
-    ((refl, c .before .before .if2 .left, omega (arith, s .pre .0 .0, g .size), omega (arith, walking-low g t, g .wide, g .few, c .before .before .before .before .before .if1 .left), s .pre .0 .1, s .pre .0 .2), (walking-fits g t, walking-stack g t))
+    ((c .before .before .before .before .before .before .loop-test .taken, c .before .before .if2 .left, omega (arith, g .few, c .before .before .before .before .before .if1 .left), g .size ∙ s .pre .0 .0, s .pre .0 .1, s .pre .0 .2), walking-ready g)
+
+add-used-2 : tie.Need-add-used-2 Inv-loop μ-loop
+add-used-2 c = omega (arith, c .before .before .before .before .before .before .before .before .before .before .before .before .before .loop .inv .few, c .before .before .before .before .before .walk .ensures .1)
 
 loop-less-2 : tie.Need-loop-less-2 Inv-loop μ-loop
-loop-less-2 c = omega (arith, c .before .before .before .before .before .before .before .before .before .before .before .before .loop .inv .few)
+loop-less-2 c = omega (arith, c .before .before .before .before .before .before .before .before .before .before .before .before .before .before .loop .inv .few, c .before .before .before .before .before .before .walk .ensures .0, c .before .before .before .before .before .before .walk .ensures .1)
 
 loop-again-2 : tie.Need-loop-again-2 Inv-loop μ-loop
-loop-again-2 c = walking-on (c .before .before .before .before .before .before .before .before .before .before .before .before .loop .inv) (c .before .before .before .before .before .before .before .before .before .before .before .loop-test .taken) _ _ _ (omega (arith, c .before .before .before .before .before .before .before .before .before .before .before .before .loop .inv .few, c .before .before .before .before .before .before .before .before .before .before .if1 .left)) (c .before .before .before .before .before .before .before .if2 .left) (c .before .before .before .before .step .ensures) (c .before .before .before .before .step .kept .1 .1 .0) (c .before .before .before .before .step .kept .1 .1 .1 .0)
+loop-again-2 c =
+    let r = c .before .before .before .before .before .before .walk in
+    walking-on (c .before .before .before .before .before .before .before .before .before .before .before .before .before .before .loop .inv) (r .last .1 .1 .0) (r .last .1 .1 .1 .0) (r .result .head) (r .result .used) (r .ensures .1) (r .ensures .2) (r .kept .1 .1 .0) (r .kept .1 .1 .1 .0)
 
 same-length-7 : tie.Need-same-length-7 Inv-loop μ-loop
 same-length-7 c = c .before .loop .inv .size
@@ -138,8 +142,9 @@ run-to-end-spec =
     add-used
     loop-less
     loop-again
+    sub-walk
+    walk-requires
     add-used-2
-    step-requires
     loop-less-2
     loop-again-2
     same-length-7

@@ -4,7 +4,7 @@ use native.Mathlib.Omega.{arith}
 use denote.Ref.{now}
 use borrow.Author.Needs.{needs}
 use Rattle.machine.specs.Laws.Code.{spans-in-registers, fits-at}
-use Rattle.machine.proofs.Walking.{moved-as, only-loop}
+use Rattle.machine.proofs.Stepping.{moved-as, only-loop}
 use Rattle.machine.proofs.run.step.Statement.{statement}
 use Rattle.machine.proofs.run.step.Tie as tie
 
@@ -38,28 +38,22 @@ close-group-requires c κs =
     let f = fits-at (now (s .args .code)) (s .args .m .pc) 4 (sym (s .pre .0 .0) ∙ c .before .before .match .keys5) (s .pre .1 .0) in
     omega (arith, f .0, f .1, f .2, s .pre .0, spans-in-registers)
 
-begin-branch-requires : tie.Need-begin-branch-requires
-begin-branch-requires c κs =
-    let s = c .before .before .before .before .before .before in
-    let f = fits-at (now (s .args .code)) (s .args .m .pc) 5 (sym (s .pre .0 .0) ∙ c .before .match .keys6) (s .pre .1 .0) in
-    omega (arith, f, s .pre .0, spans-in-registers)
-
 begin-last-branch-requires : tie.Need-begin-last-branch-requires
 begin-last-branch-requires c κs =
     let s = c .before .before .before .before .before in
-    let f = fits-at (now (s .args .code)) (s .args .m .pc) 6 (sym (s .pre .0 .0) ∙ c .match .keys7) (s .pre .1 .0) in
+    let f = fits-at (now (s .args .code)) (s .args .m .pc) 6 (sym (s .pre .0 .0) ∙ c .match .keys6) (s .pre .1 .0) in
     omega (arith, f, s .pre .0, spans-in-registers)
 
 enter-repeat-requires : tie.Need-enter-repeat-requires
 enter-repeat-requires c κs =
     let s = c .before .before .before .before .before .before .before in
-    let f = fits-at (now (s .args .code)) (s .args .m .pc) 7 (sym (s .pre .0 .0) ∙ c .before .before .match .keys8) (s .pre .1 .0) in
+    let f = fits-at (now (s .args .code)) (s .args .m .pc) 7 (sym (s .pre .0 .0) ∙ c .before .before .match .keys7) (s .pre .1 .0) in
     omega (arith, f .0, f .1, s .pre .0, spans-in-registers)
 
 end-round-requires : tie.Need-end-round-requires
 end-round-requires c κs =
     let s = c .before .before .before .before .before .before .before in
-    let f = fits-at (now (s .args .code)) (s .args .m .pc) 8 (sym (s .pre .0 .0) ∙ (let n = c .before .before .match .rest in only-loop _ (s .pre .0 .1) (n .0 .0 .0 .0 .0 .0 .0 .1) (n .0 .0 .0 .0 .0 .0 .1) (n .0 .0 .0 .0 .0 .1) (n .0 .0 .0 .0 .1) (n .0 .0 .0 .1) (n .0 .0 .1) (n .0 .1) (n .1))) (s .pre .1 .0) in
+    let f = fits-at (now (s .args .code)) (s .args .m .pc) 8 (sym (s .pre .0 .0) ∙ (let n = c .before .before .match .rest in only-loop _ (s .pre .0 .1) (n .0 .0 .0 .0 .0 .0 .1) (n .0 .0 .0 .0 .0 .1) (n .0 .0 .0 .0 .1) (n .0 .0 .0 .1) (n .0 .0 .1) (s .pre .0 .2) (n .0 .1) (n .1))) (s .pre .1 .0) in
     omega (arith, f .0, f .1, s .pre .0, spans-in-registers)
 
 same-length : tie.Need-same-length
@@ -117,40 +111,32 @@ returns-5 c =
     let s = c .before .before .before .before .before .before .before .before .before .before .before .before in
     c .before .before .before .before .close-group .ensures (now (s .args .sub)) ∙ sym (moved-as (now (s .args .code)) (now (s .args .sub)) (now (s .args .regs)) (now (s .args .work)) (s .args .m) 4 (sym (s .pre .0 .0) ∙ c .before .before .before .before .before .before .before .match .keys5))
 
-same-length-11 : tie.Need-same-length-11
-same-length-11 c = search needs
-
 returns-6 : tie.Need-returns-6
 returns-6 c =
-    let s = c .before .before .before .before .before .before .before .before .before in
-    c .before .before .begin-branch .ensures (now (s .args .sub)) (now (s .args .regs)) ∙ sym (moved-as (now (s .args .code)) (now (s .args .sub)) (now (s .args .regs)) (now (s .args .work)) (s .args .m) 5 (sym (s .pre .0 .0) ∙ c .before .before .before .before .match .keys6))
-
-returns-7 : tie.Need-returns-7
-returns-7 c =
     let s = c .before .before .before .before .before .before in
-    c .begin-last-branch .ensures (now (s .args .sub)) (now (s .args .regs)) (now (s .args .work)) ∙ sym (moved-as (now (s .args .code)) (now (s .args .sub)) (now (s .args .regs)) (now (s .args .work)) (s .args .m) 6 (sym (s .pre .0 .0) ∙ c .before .match .keys7))
+    c .begin-last-branch .ensures (now (s .args .sub)) (now (s .args .regs)) (now (s .args .work)) ∙ sym (moved-as (now (s .args .code)) (now (s .args .sub)) (now (s .args .regs)) (now (s .args .work)) (s .args .m) 6 (sym (s .pre .0 .0) ∙ c .before .match .keys6))
+
+same-length-11 : tie.Need-same-length-11
+same-length-11 c = search needs
 
 same-length-12 : tie.Need-same-length-12
 same-length-12 c = search needs
 
+returns-7 : tie.Need-returns-7
+returns-7 c =
+    let s = c .before .before .before .before .before .before .before .before .before .before .before .before in
+    c .before .before .before .before .enter-repeat .ensures (now (s .args .sub)) ∙ sym (moved-as (now (s .args .code)) (now (s .args .sub)) (now (s .args .regs)) (now (s .args .work)) (s .args .m) 7 (sym (s .pre .0 .0) ∙ c .before .before .before .before .before .before .before .match .keys7))
+
 same-length-13 : tie.Need-same-length-13
 same-length-13 c = search needs
-
-returns-8 : tie.Need-returns-8
-returns-8 c =
-    let s = c .before .before .before .before .before .before .before .before .before .before .before .before in
-    c .before .before .before .before .enter-repeat .ensures (now (s .args .sub)) ∙ sym (moved-as (now (s .args .code)) (now (s .args .sub)) (now (s .args .regs)) (now (s .args .work)) (s .args .m) 7 (sym (s .pre .0 .0) ∙ c .before .before .before .before .before .before .before .match .keys8))
 
 same-length-14 : tie.Need-same-length-14
 same-length-14 c = search needs
 
-same-length-15 : tie.Need-same-length-15
-same-length-15 c = search needs
-
-returns-9 : tie.Need-returns-9
-returns-9 c =
+returns-8 : tie.Need-returns-8
+returns-8 c =
     let s = c .before .before .before .before .before .before .before .before .before .before .before .before in
-    c .before .before .before .before .end-round .ensures (now (s .args .sub)) ∙ sym (moved-as (now (s .args .code)) (now (s .args .sub)) (now (s .args .regs)) (now (s .args .work)) (s .args .m) 8 (sym (s .pre .0 .0) ∙ (let n = c .before .before .before .before .before .before .before .match .rest in only-loop _ (s .pre .0 .1) (n .0 .0 .0 .0 .0 .0 .0 .1) (n .0 .0 .0 .0 .0 .0 .1) (n .0 .0 .0 .0 .0 .1) (n .0 .0 .0 .0 .1) (n .0 .0 .0 .1) (n .0 .0 .1) (n .0 .1) (n .1))))
+    c .before .before .before .before .end-round .ensures (now (s .args .sub)) ∙ sym (moved-as (now (s .args .code)) (now (s .args .sub)) (now (s .args .regs)) (now (s .args .work)) (s .args .m) 8 (sym (s .pre .0 .0) ∙ (let n = c .before .before .before .before .before .before .before .match .rest in only-loop _ (s .pre .0 .1) (n .0 .0 .0 .0 .0 .0 .1) (n .0 .0 .0 .0 .0 .1) (n .0 .0 .0 .0 .1) (n .0 .0 .0 .1) (n .0 .0 .1) (s .pre .0 .2) (n .0 .1) (n .1))))
 
 pub step-spec : {M : Type 1} → statement M
 step-spec =
@@ -161,7 +147,6 @@ step-spec =
     test-reference-requires
     open-group-requires
     close-group-requires
-    begin-branch-requires
     begin-last-branch-requires
     enter-repeat-requires
     end-round-requires
@@ -180,12 +165,10 @@ step-spec =
     same-length-9
     same-length-10
     returns-5
-    same-length-11
     returns-6
-    returns-7
+    same-length-11
     same-length-12
+    returns-7
     same-length-13
-    returns-8
     same-length-14
-    same-length-15
-    returns-9)
+    returns-8)
