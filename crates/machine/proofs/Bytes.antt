@@ -1,4 +1,4 @@
--- Runs, in the form in which the code makes them: how many bytes one takes, what it costs, and where it leads. Assumes nothing.
+-- Runs, in the form in which the code makes them: how many bytes one takes, and what it costs. Assumes nothing.
 use mathlib.Core.Path.{_≡_, refl, ap, _∙_}
 use mathlib.Core.Logic.{_⊎_, inl, inr, ⊎-elim}
 use mathlib.Core.List.{List}
@@ -7,17 +7,17 @@ use Prim.Native.Nat.{ℕ, zero, suc, _+_, _*_, _-_, _/_, _≤_, _<_, _^_, min}
 use native.Mathlib.Omega.{arith}
 use native.Mathlib.Numerals.{add-one}
 use lib.ListN.{length, getD, drop}
-use lib.Dec.{leb, eqb}
-use borrow.Author.Tests.{lt-ltb, le-ltb, leb-true, leb-false, eqb-true}
+use lib.Dec.{ltb, leb, eqb}
+use borrow.Author.Tests.{lt-ltb, le-ltb, ltb-true, ltb-false, leb-true, leb-false, eqb-true}
 use Rattle.charset.specs.Class.{has}
 use Rattle.syntax.specs.declared.Most.{Most}
 use Rattle.syntax.specs.Limits.{unset}
 use Rattle.semantics.specs.Repeats.{isFull}
 use Rattle.semantics.specs.Walk.{Trace}
-use Rattle.machine.specs.declared.Machine.{Machine}
 use Rattle.machine.specs.Code.{Program, pickMost, mostOf, repeatAt}
-use Rattle.machine.specs.Moves.{Stack, go, takes, oneMore, extent, allowance, strides, stopped, below, endsOf, fall, ran, bytesOf}
-use Rattle.machine.specs.Words.{stackOf, ranOn, Measured}
+use Rattle.machine.specs.Moves.{takes, oneMore, extent, allowance, strides, stopped, bytesOf}
+use Rattle.machine.specs.Words.{Measured}
+use Rattle.machine.specs.Ready.{Missed}
 use Rattle.machine.specs.Laws.Extent.{takes-inside, extent-none, extent-on, extent-cut}
 use Rattle.machine.proofs.Tests.{byte-in}
 
@@ -44,6 +44,14 @@ module _ (sub : List ℕ) (f : ℕ → Bool) where
   pub turn-past : (i stop : ℕ) → stop ≤ i → i + extent sub f (stop - i) i ≡ i
   unfolding extent
   turn-past i stop h = let z : stop - i ≡ 0 = omega arith in rw z (omega arith)
+
+  -- one position more, downwards, where no byte of the set stands
+  pub missed-more : (high n : ℕ) → Missed sub f high n → takes sub f (high - n) ≡ false → Missed sub f high (n + 1)
+  missed-more high n m e j h = by (ltb j n) refl
+    where
+      by : (b : Bool) → ltb j n ≡ b → takes sub f (high - j) ≡ false
+      by true x = m j (ltb-true j n x)
+      by false x = let z : j ≡ n = omega (arith, ltb-false j n x) in rw z e
 
   -- bounds beyond the subject do not matter
   extent-same : (a b at : ℕ) → length sub - at ≤ a → length sub - at ≤ b → extent sub f a at ≡ extent sub f b at
@@ -101,7 +109,7 @@ run-ends p sub pc at left few stop end h l e x y =
 
 -- Steps -----------------------------------------------------------------------------
 
-length-strides : (k : ℕ) (t : Trace) → length (strides k t) ≡ 2 * k + length t
+pub length-strides : (k : ℕ) (t : Trace) → length (strides k t) ≡ 2 * k + length t
 unfolding strides
 length-strides zero t = omega arith
 length-strides (suc k) t = omega (arith, length-strides k t)
@@ -114,33 +122,3 @@ module _ (most : Most) (k place at : ℕ) where
   pub steps-missed : isFull most k ≡ false → 2 * k + 1 + 1 ≡ suc (length (strides k (stopped (isFull most k) place at)))
   unfolding stopped
   steps-missed e = rw (e, length-strides k) (omega arith)
-
--- Where it leads ----------------------------------------------------------------------
-
-module _ (p : Program) (pc k at : ℕ) (regs : List ℕ) (st : Stack) where
-  pub ran-few : k < getD p (pc + 2) 0 → ran p (repeatAt p (pc + 2)) k at regs st .after ≡ fall p regs st
-  unfolding ran repeatAt endsOf
-  ran-few h = rw (lt-ltb k (getD p (pc + 2) 0) h)
-
-  pub ran-enough : getD p (pc + 2) 0 ≤ k → ran p (repeatAt p (pc + 2)) k at regs st .after ≡ go (getD p (pc + 7) 0) (at + k) regs (below (getD p (pc + 7) 0) (at + k) (at + getD p (pc + 2) 0) st)
-  unfolding ran repeatAt endsOf fall
-  ran-enough h = let e : pc + 2 + 5 ≡ pc + 7 = omega arith in rw (le-ltb k (getD p (pc + 2) 0) h, e)
-
-module _ (p sub regs work : List ℕ) (m : Machine) (left k : ℕ) where
-  -- `n` is what a run of k bytes costs
-  module _ (n : ℕ) (steps : (place at : ℕ) → n ≡ suc (length (strides k (stopped (isFull (mostOf (getD p (m .pc + 3) 0)) k) place at)))) where
-    pub steps-are : k ≡ bytesOf p sub (repeatAt p (m .pc + 2)) 0 (m .at) → n ≡ suc (length (ranOn p sub regs work m .more))
-    unfolding ran repeatAt
-    steps-are e = let e₀ : m .pc + 2 + 1 ≡ m .pc + 3 = omega arith in rw (← e, e₀) (steps _ _)
-
-    -- the steps are enough only if no byte was left out
-    pub measured-all : Measured p sub (m .pc) (m .at) left k → n ≤ left → k ≡ bytesOf p sub (repeatAt p (m .pc + 2)) 0 (m .at)
-    measured-all x h = ⊎-elim (λ e. e) (λ w. absurd (omega (arith, w .1, steps 0 0, length-strides k (stopped (isFull (mostOf (getD p (m .pc + 3) 0)) k) 0 0)))) x
-
-    -- and if they are not, they are too few for all the bytes too
-    pub measured-long : Measured p sub (m .pc) (m .at) left k → left < n → left < suc (length (ranOn p sub regs work m .more))
-    unfolding ran
-    measured-long x h = ⊎-elim (λ e. rw (steps-are e) at h) (λ w. rw length-strides (omega (arith, w .0, w .1))) x
-
-  pub after-is : k ≡ bytesOf p sub (repeatAt p (m .pc + 2)) 0 (m .at) → ran p (repeatAt p (m .pc + 2)) k (m .at) regs (stackOf work (m .height)) .after ≡ ranOn p sub regs work m .after
-  after-is e = rw (← e)

@@ -5,4 +5,5 @@ pub mod Decisions
 pub mod Bytes
 pub mod Branching
 pub mod Stepping
+pub mod Leaving
 pub mod Walking

@@ -1,27 +1,22 @@
 -- The invariant of the loop that runs to the next end. Assumes nothing.
 use mathlib.Core.Path.{_≡_, refl, _∙_}
-use mathlib.Core.List.{List, _∷_}
+use mathlib.Core.List.{List}
 use mathlib.Core.Bool.{true, false}
-use Prim.Native.Nat.{ℕ, suc, _+_, _*_, _-_, _≤_, _<_}
+use Prim.Native.Nat.{ℕ, _+_, _*_, _-_, _≤_, _<_}
 use native.Mathlib.Omega.{arith}
 use lib.ListN.{length, getD}
 use Rattle.semantics.specs.Walk.{Trace}
-use Rattle.semantics.specs.Laws.Loops.{Quiet}
 use Rattle.machine.specs.declared.Machine.{Machine}
 use Rattle.machine.specs.declared.Stop.{Stop}
 use Rattle.machine.specs.declared.Stop.the-variants.{End, Nothing, Spent}
 use Rattle.machine.specs.declared.runs.Ran.{Ran}
 use Rattle.machine.specs.declared.runs.Ran.the-variants.{Made, TooLong}
-use Rattle.machine.specs.Code.{repeatAt, decode, Fits}
-use Rattle.machine.specs.Moves.{Configuration, idle, busy, bytesOf, carryOut, move}
-use Rattle.machine.specs.Words.{stackOf, configurationOf, nowOf, ranOn, RanBy}
-use Rattle.machine.specs.Ready.{until, Leads, StackFits, Ready, Reached, Agrees, atEnd, allTried, outOfSteps}
-use Rattle.machine.specs.Laws.Loop.{Running, running-start, running-idle, running-out, running-run, running-cut, running-led, running-end, quiet-ran}
+use Rattle.machine.specs.Code.{Fits}
+use Rattle.machine.specs.Moves.{Configuration, idle, busy}
+use Rattle.machine.specs.Words.{stackOf, configurationOf, nowOf}
+use Rattle.machine.specs.Ready.{until, Leads, RanBy, StackFits, Ready, Reached, Agrees, atEnd, allTried, outOfSteps}
+use Rattle.machine.specs.Laws.Loop.{Running, running-start, running-idle, running-out, running-end, running-led, running-led-cut}
 use Rattle.machine.proofs.Stepping.{running-fits, running-stack, running-low}
-
-pub moved-run : (p sub regs work : List ℕ) (m : Machine) → getD p (m .pc) 0 ≡ 10 → move p sub (configurationOf regs work m) ≡ ranOn p sub regs work m
-unfolding move decode carryOut
-moved-run p sub regs work m e = rw e
 
 -- A run that begins with the registers regs₀ and the work area work₀, at m₀.
 module _ (p sub regs₀ work₀ : List ℕ) (m₀ : Machine) (budget : ℕ) where
@@ -68,6 +63,21 @@ module _ {p sub regs₀ work₀ : List ℕ} {m₀ : Machine} {budget : ℕ} {reg
     runs = λ first t x. running-led p sub (length work₀) budget first t used n _ _ l (omega (arith, g .few)) (g .runs first t x);
   }
 
+  module _ (regs′ work′ : List ℕ) (r : Ran) (x : RanBy p sub (nowOf regs work m) (budget - used) regs′ work′ r) where
+    -- a run that the steps are not enough for
+    pub walking-cut : r ≡ TooLong → Promised p sub regs₀ work₀ m₀ budget Spent regs′ work′
+    walking-cut e first t y =
+        let w : RanBy p sub (nowOf regs work m) (budget - used) regs′ work′ TooLong = rw e at x in
+        rw (running-led-cut p sub (length work₀) budget first t used (w .0) _ (w .1) (w .3) (g .few) (omega (arith, w .2)) (g .runs first t y)) outOfSteps
+
+    -- a run that is made
+    module _ (n : ℕ) (m′ : Machine) (e : r ≡ Made n m′) where
+      pub made : RanBy p sub (nowOf regs work m) (budget - used) regs′ work′ (Made n m′)
+      made = rw e at x
+
+      pub walking-run : length regs′ ≡ length regs → length work′ ≡ length work → Walking p sub regs₀ work₀ m₀ budget regs′ work′ (used + n) m′
+      walking-run s s′ = walking-on regs′ work′ m′ n (made .1) (made .2) s s′
+
   module _ (live : m .live ≡ true) where
     running : (first : List ℕ) (t : Trace) → ReadyAtFirst p sub regs₀ work₀ m₀ budget first t → Running p sub (length work₀) budget first t used (busy here)
     running first t x = rw live at (g .runs first t x)
@@ -75,10 +85,10 @@ module _ {p sub regs₀ work₀ : List ℕ} {m₀ : Machine} {budget : ℕ} {reg
     pub walking-fits : Fits p (m .pc)
     walking-fits = running-fits regs work m live at-work
 
-    pub walking-stack : StackFits p (stackOf work (m .height))
+    walking-stack : StackFits p (stackOf work (m .height))
     walking-stack = running-stack regs work m live at-work
 
-    pub walking-low : 4 * m .height + 8 * (budget - used) ≤ length work₀
+    walking-low : 4 * m .height + 8 * (budget - used) ≤ length work₀
     walking-low = running-low regs work m live at-work
 
     pub walking-out : used ≡ budget → Promised p sub regs₀ work₀ m₀ budget Spent regs work
@@ -89,34 +99,3 @@ module _ {p sub regs₀ work₀ : List ℕ} {m₀ : Machine} {budget : ℕ} {reg
         let e = running-end p sub (length work₀) budget first t used here (running first t x) h k k′ in
         let x : Reached p sub (length work₀) budget first (used + 1) (e .met) (e .rest) m regs work = record { few = omega arith; at = e .at; spans = e .spans; low = omega (arith, walking-low); fits = walking-stack; ready = e .ready } in
         rw (e .until-is) (atEnd {used = used + 1} {s = e .met} {rest = e .rest} {m = m} x)
-
-    module _ (is : getD p (m .pc) 0 ≡ 10) where
-      quiet-run : Quiet (move p sub here .first ∷ move p sub here .more)
-      quiet-run = rw (moved-run p sub regs work m is) (quiet-ran p sub (repeatAt p (m .pc + 2)) (bytesOf p sub (repeatAt p (m .pc + 2)) 0 (m .at)) (m .at) regs (stackOf work (m .height)))
-
-      module _ (regs′ work′ : List ℕ) (r : Ran) (x : RanBy p sub regs work m (budget - used) regs′ work′ r) where
-        -- a run that the steps are not enough for
-        pub walking-cut : r ≡ TooLong → Promised p sub regs₀ work₀ m₀ budget Spent regs′ work′
-        walking-cut e first t y =
-            let h : budget - used < suc (length (ranOn p sub regs work m .more)) = rw e at x in
-            rw (running-cut p sub (length work₀) budget first t used here (running first t y) quiet-run (g .few) (rw (moved-run p sub regs work m is) (omega (arith, g .few)))) outOfSteps
-
-        -- a run that is made
-        module _ (n : ℕ) (m′ : Machine) (e : r ≡ Made n m′) where
-          made : RanBy p sub regs work m (budget - used) regs′ work′ (Made n m′)
-          made = rw e at x
-
-          pub made-some : 1 ≤ n
-          made-some = omega (arith, made .0)
-
-          pub made-few : n ≤ budget - used
-          made-few = made .1
-
-          pub walking-run : length regs′ ≡ length regs → length work′ ≡ length work → Walking p sub regs₀ work₀ m₀ budget regs′ work′ (used + n) m′
-          walking-run s s′ = record {
-            size = s ∙ g .size;
-            wide = s′ ∙ g .wide;
-            few = omega (arith, g .few, made-few);
-            some = g .some;
-            runs = λ first t y. rw (made .2, made .0) (rw (moved-run p sub regs work m is) at (running-run p sub (length work₀) budget first t used here (running first t y) quiet-run (rw (moved-run p sub regs work m is) (omega (arith, g .few, made .0, made .1)))));
-          }

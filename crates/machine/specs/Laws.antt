@@ -8,4 +8,4 @@ pub mod Walk
 pub mod Stack
 pub mod Loop
 pub mod Branches
-pub mod Skips
+pub mod Ends

@@ -1,7 +1,8 @@
 -- Running to the next end: when the machine can, and what it then finds, in terms of the trace.
 use mathlib.Core.Path.{_≡_}
 use mathlib.Core.List.{List, [], _∷_}
-use Prim.Native.Nat.{ℕ, zero, suc, _+_, _*_, _-_, _≤_}
+use mathlib.Core.Bool.{Bool, false}
+use Prim.Native.Nat.{ℕ, zero, suc, _+_, _*_, _-_, _≤_, _<_}
 use lib.ListN.{length, getD, take}
 use Rattle.syntax.specs.Limits.{spansLength, registers}
 use Rattle.semantics.specs.States.{State}
@@ -9,9 +10,11 @@ use Rattle.semantics.specs.Walk.{step, miss, end, Trace}
 use Rattle.machine.specs.declared.Machine.{Machine}
 use Rattle.machine.specs.declared.Stop.{Stop}
 use Rattle.machine.specs.declared.Stop.the-variants.{End, Nothing, Spent}
+use Rattle.machine.specs.declared.runs.Ran.{Ran}
+use Rattle.machine.specs.declared.runs.Ran.the-variants.{Made, TooLong}
 use Rattle.machine.specs.Code.{Program, RepeatFits}
-use Rattle.machine.specs.Moves.{Frame, explore, again, undo, stretch, Stack, Configuration, Now, idle, busy, set2, fall, move, Emits}
-use Rattle.machine.specs.Words.{stackOf}
+use Rattle.machine.specs.Moves.{Frame, explore, again, undo, stretch, Stack, Configuration, Now, idle, busy, set2, go, takes, fall, move, Emits}
+use Rattle.machine.specs.Words.{stackOf, nowOf}
 
 -- The next end of a trace -----------------------------------------------------
 
@@ -31,10 +34,28 @@ until (suc left) used (end s ∷ t) = ended (suc used) s t
 
 -- Nodes in a row ----------------------------------------------------------------
 
--- n nodes, each of them neither a run nor an end, lead from here to there: each is one step
+-- nodes, none of them an end, lead from here to there in n steps: a run takes one for each of its events, any other node takes one
 pub data Leads (p sub : List ℕ) (here : Now) : (n : ℕ) → (there : Now) → Type 0 where
   stay : Leads p sub here 0 here
   onward : {n : ℕ} {c : Configuration} → Leads p sub here n (busy c) → getD p (c .pc) 0 ≤ 8 → Leads p sub here (suc n) (move p sub c .after)
+  along : {n : ℕ} {c : Configuration} → Leads p sub here n (busy c) → getD p (c .pc) 0 ≡ 10 → Leads p sub here (n + suc (length (move p sub c .more))) (move p sub c .after)
+
+-- more steps than are left lead on, with no end among them
+abbrev pub Overruns : (p sub : List ℕ) → (here : Now) → (left : ℕ) → Type 0
+Overruns p sub here left = (n : ℕ) × (there : Now) × (left < n) × Leads p sub here n there
+
+-- How a run went: some of the steps that are left lead to where the machine stands, with these registers and this work area; or they are too few.
+abbrev pub RanBy : (p sub : List ℕ) → (here : Now) → (left : ℕ) → (regs work : List ℕ) → Ran → Type 0
+RanBy p sub here left regs work (Made n m) = (1 ≤ n) × (n ≤ left) × Leads p sub here n (nowOf regs work m)
+RanBy p sub here left regs work TooLong = Overruns p sub here left
+
+-- no byte of a set stands at n positions from `high` down
+abbrev pub Missed : (sub : List ℕ) → (ℕ → Bool) → (high n : ℕ) → Type 0
+Missed sub f high n = (j : ℕ) → j < n → takes sub f (high - j) ≡ false
+
+-- where no byte of a set stands, a node fails in so many steps
+abbrev pub Asks : (p sub : List ℕ) → (pc cost : ℕ) → (ℕ → Bool) → Type 0
+Asks p sub pc cost f = (at : ℕ) (regs : List ℕ) (st : Stack) → takes sub f at ≡ false → Leads p sub (go pc at regs st) cost (fall p regs st)
 
 -- The stack -------------------------------------------------------------------
 

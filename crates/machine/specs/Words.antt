@@ -9,10 +9,8 @@ use lib.Dec.{ltb, leb}
 use Rattle.syntax.specs.Limits.{unset}
 use Rattle.semantics.specs.Items.{sameAt}
 use Rattle.machine.specs.declared.Machine.{Machine}
-use Rattle.machine.specs.declared.runs.Ran.{Ran}
-use Rattle.machine.specs.declared.runs.Ran.the-variants.{Made, TooLong}
 use Rattle.machine.specs.Code.{repeatAt, decodeAs}
-use Rattle.machine.specs.Moves.{Frame, explore, again, undo, stretch, Stack, Configuration, Now, idle, busy, Move, ran, bytesOf, carryOut, move}
+use Rattle.machine.specs.Moves.{Frame, explore, again, undo, stretch, Stack, Configuration, Now, idle, busy, bytesOf, carryOut, move}
 
 -- A frame takes four numbers, the first of which is its kind. An undo frame has its register between the two values: side by side, they would
 -- be read as one word of 64 bits just after they were written as two of 32, and that stalls.
@@ -51,15 +49,6 @@ carried kind p sub regs work m = carryOut p sub (decodeAs kind p (m .pc)) (m .at
 -- k is how many bytes the run at pc takes; or it is fewer, and these take more steps than are left
 abbrev pub Measured : (p sub : List ℕ) → (pc at left k : ℕ) → Type 0
 Measured p sub pc at left k = (k ≡ bytesOf p sub (repeatAt p (pc + 2)) 0 at) ⊎ ((k ≤ bytesOf p sub (repeatAt p (pc + 2)) 0 at) × (left < 2 * k + 1))
-
--- the move of a run
-abbrev pub ranOn : (p sub regs work : List ℕ) → Machine → Move
-ranOn p sub regs work m = ran p (repeatAt p (m .pc + 2)) (bytesOf p sub (repeatAt p (m .pc + 2)) 0 (m .at)) (m .at) regs (stackOf work (m .height))
-
--- it is made, and leaves these registers and this work area; or it takes more than the steps that are left
-abbrev pub RanBy : (p sub regs work : List ℕ) → Machine → (left : ℕ) → (regs′ work′ : List ℕ) → Ran → Type 0
-RanBy p sub regs work m left regs′ work′ (Made n r) = (n ≡ suc (length (ranOn p sub regs work m .more))) × (n ≤ left) × (nowOf regs′ work′ r ≡ ranOn p sub regs work m .after)
-RanBy p sub regs work m left regs′ work′ TooLong = left < suc (length (ranOn p sub regs work m .more))
 
 -- whether a span from `from` on is set and its n bytes stand at a position too
 abbrev pub refers : List ℕ → (from n at : ℕ) → Bool

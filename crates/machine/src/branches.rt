@@ -13,7 +13,7 @@ ghost use Rattle.machine.specs.Words.{stackOf, nowOf};
 ghost use Rattle.machine.specs.Ready.{Leads, Ready};
 
 // The kinds of a byte item and of a branch that is not the last.
-const BYTE: u32 = 0;
+pub const BYTE: u32 = 0;
 
 pub const BRANCH: u32 = 5;
 

@@ -12,6 +12,7 @@ use crate::nodes::test_assertion;
 use crate::nodes::test_reference;
 use crate::repeats::end_round;
 use crate::repeats::enter_repeat;
+use crate::runs::RUN;
 use crate::runs::Ran;
 use crate::runs::take_run;
 ghost use mathlib.Core.Path.{_≡_};
@@ -24,9 +25,6 @@ ghost use Rattle.semantics.specs.Walk.{Trace};
 ghost use Rattle.machine.specs.Code.{Fits};
 ghost use Rattle.machine.specs.Words.{stackOf, nowOf, movedOn};
 ghost use Rattle.machine.specs.Ready.{until, Leads, StackFits, Ready, Agrees};
-
-// The kind of a run.
-const RUN: u32 = 10;
 
 // One node that is no end, no run and no branch but the last; `kind` is its first number.
 fn step(

@@ -1,21 +1,27 @@
-// Runs: a greedy repeat of one byte item takes its bytes in one loop.
+// Runs: a greedy repeat of one byte item takes its bytes in one loop, and goes on from the first end behind them at which the next node can.
 use crate::Machine;
+use crate::branches::BYTE;
 use crate::repeats::is_full;
 use crate::stack::fall_back;
 use crate::stack::go_down;
 ghost use mathlib.Core.Path.{_≡_};
 ghost use mathlib.Core.List.{List};
+ghost use mathlib.Core.Bool.{true, false};
 ghost use Prim.Native.Nat.{ℕ, suc, _+_, _-_, _*_, _≤_, _<_, _^_, min};
 ghost use lib.ListN.{length, getD, drop};
 ghost use Rattle.charset.specs.Class.{has};
 ghost use Rattle.syntax.specs.Limits.{registers};
 ghost use Rattle.semantics.specs.Repeats.{isFull};
-ghost use Rattle.machine.specs.Code.{mostOf, repeatAt};
-ghost use Rattle.machine.specs.Moves.{extent, strides, stopped, ran};
-ghost use Rattle.machine.specs.Words.{stackOf, nowOf, Measured, RanBy};
-ghost use Rattle.machine.specs.Ready.{StackFits};
+ghost use Rattle.semantics.specs.Walk.{Trace};
+ghost use Rattle.machine.specs.Code.{mostOf, Fits};
+ghost use Rattle.machine.specs.Moves.{Now, go, extent, strides, stopped, below};
+ghost use Rattle.machine.specs.Words.{stackOf, nowOf, Measured};
+ghost use Rattle.machine.specs.Ready.{Leads, RanBy, Missed, Asks, StackFits, Ready};
 
-// How a run went: made, with the steps that it took; or too long for the steps that are left.
+// The kind of a run.
+pub const RUN: u32 = 10;
+
+// How a run went: made, with the steps that it and the ends passed over took; or too long for the steps that are left.
 pub enum Ran {
     Made(u32, Machine),
     TooLong,
@@ -70,29 +76,99 @@ fn run_steps(most: u32, k: u32) -> u64
     n + 1
 }
 
-// A run of `k` bytes is made: it goes on behind them, or falls back if they are too few.
-fn finish_run(
-    code: &[u32],
-    regs: &mut [u32],
-    work: &mut [u32],
-    pc: usize,
-    k: u32,
-    at: u32,
-    height: usize,
-) -> Machine
-    requires { ⌜ (pc + 8 ≤ length (now code)) × (at + k < 2 ^ 32) × (length (now regs) ≡ registers) × (4 * height + 4 ≤ length (now work)) ⌝ }
-    requires { ⌜ StackFits (now code) (stackOf (now work) height) ⌝ }
-    ensures { λ m. ⌜ nowOf (now (regs .exit)) (now (work .exit)) m ≡ ran (now (code .entry)) (repeatAt (now (code .entry)) (pc + 2)) k at (now (regs .entry)) (stackOf (now (work .entry)) height) .after ⌝ }
-{
-    let least = code[pc + 2];
-    let next = code[pc + 7];
-    if k < least {
-        return fall_back(code, regs, work, height);
-    }
-    go_down(work, next, at + k, at + least, height)
+// The node at which a run goes on fails in `cost` steps where the byte is not in the set at `base`; or it is not known to, with no cost.
+struct Gate {
+    cost: u32,
+    base: usize,
 }
 
-// A run, if the steps that are left are enough for it.
+// A byte item asks for a byte, and so does a run that owes a round: its decision is a step more.
+fn gate_of(code: &[u32], pc: usize) -> Gate
+    requires { ⌜ Fits (now code) pc × (length (now code) < 2 ^ 32) ⌝ }
+    ensures { λ r. ⌜ (r .cost ≤ 2) × (1 ≤ r .cost → (r .base + 8 ≤ length (now (code .entry))) × ((sub : List ℕ) → Asks (now (code .entry)) sub pc (r .cost) (has (drop (r .base) (now (code .entry)))))) ⌝ }
+{
+    let kind = code[pc];
+    if kind == BYTE {
+        return Gate {
+            cost: 1,
+            base: pc + 3,
+        };
+    }
+    if kind == RUN {
+        if 0 < code[pc + 2] {
+            if 0 < code[pc + 3] {
+                let body = code[pc + 6] as usize;
+                return Gate {
+                    cost: 2,
+                    base: body + 3,
+                };
+            }
+        }
+    }
+    Gate { cost: 0, base: 0 }
+}
+
+// At how many positions from `high` down, of at most so many, no byte of the set at `base` stands.
+fn missed_ends(code: &[u32], sub: &[u8], base: usize, high: usize, most: usize) -> usize
+    requires { ⌜ (base + 8 ≤ length (now code)) × (most ≤ high + 1) ⌝ }
+    ensures { λ r. ⌜ (r ≤ most) × Missed (now (sub .entry)) (has (drop base (now (code .entry)))) high r ⌝ }
+{
+    let mut n: usize = 0;
+    while n < most {
+        let i = high - n;
+        if i < sub.len() {
+            if charset::contains(code, base, sub[i]) {
+                return n;
+            }
+        }
+        n += 1;
+    }
+    n
+}
+
+// A run's own steps are made, and it goes on at `next` from each end from `high` down to `low`. Those where `next` fails at once are passed over
+// here, before a frame is written for the ends that are left; no further than the steps that are left pay for.
+fn leave_run(
+    code: &[u32],
+    sub: &[u8],
+    regs: &mut [u32],
+    work: &mut [u32],
+    next: u32,
+    high: u32,
+    low: u32,
+    height: usize,
+    steps: u32,
+    left: u32,
+) -> Ran
+    requires { ⌜ (low ≤ high) × (1 ≤ steps) × (steps ≤ left) × (length (now code) < 2 ^ 32) × (length (now regs) ≡ registers) × (4 * height + 4 ≤ length (now work)) ⌝ }
+    requires { ⌜ Fits (now code) next ⌝ }
+    requires { ⌜ StackFits (now code) (stackOf (now work) height) ⌝ }
+    ensures { λ r. ⌜ ((here : Now) → Leads (now (code .entry)) (now (sub .entry)) here steps (go next high (now (regs .entry)) (below next high low (stackOf (now (work .entry)) height)))
+        → RanBy (now (code .entry)) (now (sub .entry)) here left (now (regs .exit)) (now (work .exit)) r) ⌝ }
+{
+    let gate = gate_of(code, next as usize);
+    let cost = gate.cost;
+    if cost == 0 {
+        let made = go_down(work, next, high, low, height);
+        return Ran::Made(steps, made);
+    }
+    let ends = (high - low) as usize + 1;
+    let most = nearer(ends, (left - steps) as usize + 1);
+    let base = gate.base;
+    let n = missed_ends(code, sub, base, high as usize, most);
+    let all = steps as u64 + (n as u64) * (cost as u64);
+    if (left as u64) < all {
+        return Ran::TooLong;
+    }
+    if n < ends {
+        let made = go_down(work, next, high - n as u32, low, height);
+        return Ran::Made(all as u32, made);
+    }
+    let fallen = fall_back(code, regs, work, height);
+    Ran::Made(all as u32, fallen)
+}
+
+// A run, if the steps that are left are enough for it: it goes on behind its bytes, or falls back if they are too few.
 pub fn take_run(
     code: &[u32],
     sub: &[u8],
@@ -101,9 +177,9 @@ pub fn take_run(
     m: Machine,
     left: u32,
 ) -> Ran
-    requires { ⌜ (m .pc + 8 ≤ length (now code)) × (getD (now code) (m .pc + 6) 0 + 11 ≤ length (now code)) × (length (now sub) < 2 ^ 32) × (length (now code) < 2 ^ 32) × (length (now regs) ≡ registers) × (4 * m .height + 4 ≤ length (now work)) ⌝ }
-    requires { ⌜ StackFits (now code) (stackOf (now work) (m .height)) ⌝ }
-    ensures { λ r. ⌜ RanBy (now (code .entry)) (now (sub .entry)) (now (regs .entry)) (now (work .entry)) m left (now (regs .exit)) (now (work .exit)) r ⌝ }
+    requires { ⌜ (getD (now code) (m .pc) 0 ≡ 10) × (m .live ≡ true) × (1 ≤ left) × (length (now sub) < 2 ^ 32) × (length (now code) < 2 ^ 32) × (length (now regs) ≡ registers) ⌝ }
+    requires { ⌜ ((first : List ℕ) × (t : Trace) × Ready (now code) (now sub) (length (now work)) left first (nowOf (now regs) (now work) m) t) ⌝ }
+    ensures { λ r. ⌜ RanBy (now (code .entry)) (now (sub .entry)) (nowOf (now (regs .entry)) (now (work .entry)) m) left (now (regs .exit)) (now (work .exit)) r ⌝ }
 {
     let pc = m.pc as usize;
     let k = run_length(code, sub, pc, m.at, left);
@@ -111,6 +187,22 @@ pub fn take_run(
     if (left as u64) < steps {
         return Ran::TooLong;
     }
-    let next = finish_run(code, regs, work, pc, k, m.at, m.height);
-    Ran::Made(steps as u32, next)
+    let least = code[pc + 2];
+    if k < least {
+        let fallen = fall_back(code, regs, work, m.height);
+        return Ran::Made(steps as u32, fallen);
+    }
+    let next = code[pc + 7];
+    leave_run(
+        code,
+        sub,
+        regs,
+        work,
+        next,
+        m.at + k,
+        m.at + least,
+        m.height,
+        steps as u32,
+        left,
+    )
 }

@@ -17,7 +17,7 @@ use Rattle.machine.specs.Laws.Code.{decode-at}
 use Rattle.machine.specs.Laws.Extent.{tested-none, tested-one}
 
 module _ (p : Program) (sub : List ℕ) where
-  leads-on : {here : Now} {n kind : ℕ} {c : Configuration} {m : Move} → Leads p sub here n (busy c) → getD p (c .pc) 0 ≡ kind → kind ≤ 8 → move p sub c ≡ m → Leads p sub here (n + 1) (m .after)
+  pub leads-on : {here : Now} {n kind : ℕ} {c : Configuration} {m : Move} → Leads p sub here n (busy c) → getD p (c .pc) 0 ≡ kind → kind ≤ 8 → move p sub c ≡ m → Leads p sub here (n + 1) (m .after)
   leads-on {n = n} l is h e = rw (add-one n, ← e) (onward l (omega (arith, is)))
 
   module _ (pc at : ℕ) (regs : List ℕ) (st : Stack) where
@@ -29,7 +29,7 @@ module _ (p : Program) (sub : List ℕ) where
     move-branch is = rw (decode-at p pc 5 is)
 
     module _ (is : getD p pc 0 ≡ 0) where
-      move-miss : takes sub (has (drop (pc + 3) p)) at ≡ false → move p sub here ≡ emitting (miss (getD p (pc + 2) 0) at) (fall p regs st)
+      pub move-miss : takes sub (has (drop (pc + 3) p)) at ≡ false → move p sub here ≡ emitting (miss (getD p (pc + 2) 0) at) (fall p regs st)
       unfolding move carryOut tried
       move-miss e = rw (decode-at p pc 0 is, tested-none sub (has (drop (pc + 3) p)) (state at regs) e)
 

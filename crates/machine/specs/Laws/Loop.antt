@@ -1,24 +1,34 @@
 -- Running to the next end: each move takes its run of events off the trace, and keeps the machine ready for the steps that are left.
 use mathlib.Core.Path.{_≡_, refl, ap, sym, _∙_, subst}
+use mathlib.Core.Logic.{_⊎_, inl, inr, ⊎-elim}
 use mathlib.Core.List.{List, [], _∷_, _++_}
 use mathlib.Core.Bool.{Bool, true, false}
 use Prim.Native.Nat.{ℕ, zero, suc, _+_, _-_, _≤_, _<_}
 use native.Mathlib.Omega.{arith}
 use native.Mathlib.Numerals.{add-one}
 use lib.ListN.{length, getD, take}
+use lib.Dec.{ltb}
+use borrow.Author.Tests.{ltb-true, ltb-false}
 use Rattle.syntax.specs.Limits.{spansLength}
 use Rattle.semantics.specs.States.{State}
 use Rattle.semantics.specs.Items.{Tried, fails, goes}
 use Rattle.semantics.specs.Repeats.{isFull}
 use Rattle.semantics.specs.Walk.{Event, step, miss, end, Trace}
 use Rattle.semantics.specs.Laws.Loops.{Quiet}
-use Rattle.machine.specs.Code.{Program, Repeat, Instruction, ends, decodeAs, decode, Fits}
-use Rattle.machine.specs.Moves.{Stack, Configuration, Now, idle, busy, Move, emitting, state, shown, strides, stopped, fall, tried, ran, carryOut, move, Emits}
-use Rattle.machine.specs.Ready.{ended, nothing, spent, until, Leads, stay, onward, Ready}
+use Rattle.machine.specs.Code.{Program, Repeat, Instruction, ends, repeatAt, decodeAs, decode, Fits}
+use Rattle.machine.specs.Moves.{Stack, Configuration, Now, idle, busy, Move, emitting, state, shown, strides, stopped, fall, tried, ran, bytesOf, carryOut, move, Emits}
+use Rattle.machine.specs.Ready.{ended, nothing, spent, until, Leads, stay, onward, along, Ready}
 use Rattle.machine.specs.Laws.Stack.{fall-leaves, move-leaves}
 
 clash : _≡_ {A = ℕ} 0 1 → ⊥
 clash e = omega arith
+
+pub before-or : (a b : ℕ) → (a < b) ⊎ (b ≤ a)
+before-or a b = by (ltb a b) refl
+  where
+    by : (x : Bool) → ltb a b ≡ x → (a < b) ⊎ (b ≤ a)
+    by true e = inl (ltb-true a b e)
+    by false e = inr (ltb-false a b e)
 
 -- Runs of events ----------------------------------------------------------------
 
@@ -160,6 +170,14 @@ module _ (p : Program) (sub : List ℕ) where
   unfolding ran
   quiet-ran q k at regs st = quiet-strides k _ (quiet-stopped (isFull (q .most) k) _ _)
 
+  -- a run's move
+  pub move-run : (c : Configuration) → getD p (c .pc) 0 ≡ 10 → move p sub c ≡ ran p (repeatAt p (c .pc + 2)) (bytesOf p sub (repeatAt p (c .pc + 2)) 0 (c .at)) (c .at) (c .regs) (c .stack)
+  unfolding move decode carryOut
+  move-run c e = rw e
+
+  quiet-run : (c : Configuration) → getD p (c .pc) 0 ≡ 10 → Quiet (move p sub c .first ∷ move p sub c .more)
+  quiet-run c e = rw (move-run c e) (quiet-ran (repeatAt p (c .pc + 2)) (bytesOf p sub (repeatAt p (c .pc + 2)) 0 (c .at)) (c .at) (c .regs) (c .stack))
+
   decode-end : (n pc : ℕ) → 8 < n → (n ≡ 10 → ⊥) → decodeAs n p pc ≡ ends
   decode-end zero pc h x = absurd (omega arith)
   decode-end (suc zero) pc h x = absurd (omega arith)
@@ -176,9 +194,16 @@ module _ (p : Program) (sub : List ℕ) where
 
   -- Nodes in a row ---------------------------------------------------------------------
 
+  pub leads-run : (c : Configuration) (m : Move) → getD p (c .pc) 0 ≡ 10 → move p sub c ≡ m → Leads p sub (busy c) (suc (length (m .more))) (m .after)
+  leads-run c m is e =
+      let l : Leads p sub (busy c) (0 + suc (length (move p sub c .more))) (move p sub c .after) = along stay is in
+      let z : 0 + suc (length (m .more)) ≡ suc (length (m .more)) = omega arith in
+      rw (e, z) at l
+
   pub leads-join : {a b c : Now} {n k : ℕ} → Leads p sub a n b → Leads p sub b k c → Leads p sub a (n + k) c
   leads-join {n = n} l stay = let z : n + 0 ≡ n = omega arith in rw z l
   leads-join {n = n} l (onward {n = j} {c = d} r e) = let z : n + suc j ≡ suc (n + j) = omega arith in rw z (onward (leads-join l r) e)
+  leads-join {n = n} l (along {n = j} {c = d} r e) = let z : n + (j + suc (length (move p sub d .more))) ≡ n + j + suc (length (move p sub d .more)) = omega arith in rw z (along (leads-join l r) e)
 
   -- The run ---------------------------------------------------------------------------
 
@@ -278,6 +303,17 @@ module _ (p : Program) (sub : List ℕ) where
     running-led used n now there (onward {n = k} {c = c} l e) h g =
         let z : used + suc k ≡ used + k + 1 = omega arith in
         rw z (running-on (used + k) c (running-led used k now (busy c) l (omega arith) g) (omega arith) e)
+    running-led used n now there (along {n = k} {c = c} l e) h g =
+        let z : used + (k + suc (length (move p sub c .more))) ≡ used + k + suc (length (move p sub c .more)) = omega arith in
+        rw z (running-run (used + k) c (running-led used k now (busy c) l (omega arith) g) (quiet-run c e) (omega arith))
+
+    -- the budget ends among them
+    pub running-led-cut : (used n : ℕ) (now there : Now) → Leads p sub now n there → used ≤ budget → budget < used + n → Running used now → until budget 0 t₀ ≡ spent
+    running-led-cut used n now there stay b h g = absurd (omega arith)
+    running-led-cut used n now there (onward {n = k} {c = c} l e) b h g =
+        ⊎-elim (λ x. running-led-cut used k now (busy c) l b x g) (λ x. running-out (used + k) c (running-led used k now (busy c) l x g) (omega arith)) (before-or budget (used + k))
+    running-led-cut used n now there (along {n = k} {c = c} l e) b h g =
+        ⊎-elim (λ x. running-led-cut used k now (busy c) l b x g) (λ x. running-cut (used + k) c (running-led used k now (busy c) l x g) (quiet-run c e) x (omega arith)) (before-or budget (used + k))
 
     pub ready-led : {n : ℕ} {now there : Now} → Ready p sub room budget first now t₀ → Leads p sub now n there → n ≤ budget → Running n there
     ready-led {n} {now} {there} x l h = let z : 0 + n ≡ n = omega arith in rw z at (running-led 0 n now there l (omega arith) (running-start now x))

@@ -5,8 +5,7 @@ use Prim.Native.Nat.{_-_}
 use native.Mathlib.Omega.{arith}
 use denote.Ref.{now}
 use borrow.Author.Needs.{needs}
-use Rattle.machine.specs.Laws.Code.{fits-at}
-use Rattle.machine.proofs.Walking.{Walking, walking-start, walking-none, walking-fits, walking-stack, walking-low, walking-ready, walking-out, walking-end, walking-on, walking-cut, made-some, made-few, walking-run}
+use Rattle.machine.proofs.Walking.{Walking, walking-start, walking-none, walking-fits, walking-ready, walking-out, walking-end, walking-on, walking-cut, made, walking-run}
 use Rattle.machine.proofs.run.run_to_end.Statement.{statement}
 use Rattle.machine.proofs.run.run_to_end.Tie as tie
 
@@ -59,8 +58,7 @@ take-run-requires c κs =
     let s = c .before .before .before .before .before .before .before .before .before .before .before .before .before in
     let g = c .before .before .before .before .before .before .before .before .loop .inv in
     let t = c .before .before .before .before .before .before .before .loop-test .taken in
-    let f = fits-at (now (s .args .code)) (c .before .before .before .before .before .before .before .before .loop .head .pc) 10 (c .before .before .if3 .left) (walking-fits g t) in
-    ((f .0, f .1, s .pre .0 .1, s .pre .0 .2, omega (arith, s .pre .0 .0, g .size), omega (arith, walking-low g t, g .wide, g .few, c .before .before .before .before .before .before .if1 .left)), walking-stack g t)
+    ((c .before .before .if3 .left, t, omega (arith, g .few, c .before .before .before .before .before .before .if1 .left), s .pre .0 .1, s .pre .0 .2, g .size ∙ s .pre .0 .0), walking-ready g)
 
 enum-known-n : tie.Need-enum-known-n Inv-loop μ-loop
 enum-known-n c = search needs
@@ -75,16 +73,22 @@ same-length-6 : tie.Need-same-length-6 Inv-loop μ-loop
 same-length-6 c = c .before .before .before .before .before .before .take-run .kept .1 .1 .1 .0 ∙ c .before .before .before .before .before .before .before .before .before .before .before .before .before .before .before .loop .inv .wide
 
 returns-3 : tie.Need-returns-3 Inv-loop μ-loop
-returns-3 c = walking-cut (c .before .before .before .before .before .before .before .before .before .before .before .before .before .before .before .loop .inv) (c .before .before .before .before .before .before .before .before .before .before .before .before .before .before .loop-test .taken) (c .before .before .before .before .before .before .before .before .before .if3 .left) _ _ _ (c .before .before .before .before .before .before .take-run .ensures) (c .enum-told .given .1)
+returns-3 c = walking-cut (c .before .before .before .before .before .before .before .before .before .before .before .before .before .before .before .loop .inv) _ _ _ (c .before .before .before .before .before .before .take-run .ensures) (c .enum-told .given .1)
 
 add-used : tie.Need-add-used Inv-loop μ-loop
-add-used c = omega (arith, c .before .before .before .before .before .before .before .before .before .before .before .before .before .before .before .before .loop .inv .few, made-few (c .before .before .before .before .before .before .before .before .before .before .before .before .before .before .before .before .loop .inv) (c .before .before .before .before .before .before .before .before .before .before .before .before .before .before .before .loop-test .taken) (c .before .before .before .before .before .before .before .before .before .before .if3 .left) _ _ _ (c .before .before .before .before .before .before .before .take-run .ensures) _ _ (c .before .n .given .1))
+add-used c =
+    let r = made (c .before .before .before .before .before .before .before .before .before .before .before .before .before .before .before .before .loop .inv) _ _ _ (c .before .before .before .before .before .before .before .take-run .ensures) _ _ (c .before .n .given .1) in
+    omega (arith, c .before .before .before .before .before .before .before .before .before .before .before .before .before .before .before .before .loop .inv .few, r .1)
 
 loop-less : tie.Need-loop-less Inv-loop μ-loop
-loop-less c = omega (arith, c .before .before .before .before .before .before .before .before .before .before .before .before .before .before .before .before .loop .inv .few, made-few (c .before .before .before .before .before .before .before .before .before .before .before .before .before .before .before .before .loop .inv) (c .before .before .before .before .before .before .before .before .before .before .before .before .before .before .before .loop-test .taken) (c .before .before .before .before .before .before .before .before .before .before .if3 .left) _ _ _ (c .before .before .before .before .before .before .before .take-run .ensures) _ _ (c .before .n .given .1), made-some (c .before .before .before .before .before .before .before .before .before .before .before .before .before .before .before .before .loop .inv) (c .before .before .before .before .before .before .before .before .before .before .before .before .before .before .before .loop-test .taken) (c .before .before .before .before .before .before .before .before .before .before .if3 .left) _ _ _ (c .before .before .before .before .before .before .before .take-run .ensures) _ _ (c .before .n .given .1))
+loop-less c =
+    let r = made (c .before .before .before .before .before .before .before .before .before .before .before .before .before .before .before .before .loop .inv) _ _ _ (c .before .before .before .before .before .before .before .take-run .ensures) _ _ (c .before .n .given .1) in
+    omega (arith, c .before .before .before .before .before .before .before .before .before .before .before .before .before .before .before .before .loop .inv .few, r .0, r .1)
 
 loop-again : tie.Need-loop-again Inv-loop μ-loop
-loop-again c = walking-run (c .before .before .before .before .before .before .before .before .before .before .before .before .before .before .before .before .loop .inv) (c .before .before .before .before .before .before .before .before .before .before .before .before .before .before .before .loop-test .taken) (c .before .before .before .before .before .before .before .before .before .before .if3 .left) _ _ _ (c .before .before .before .before .before .before .before .take-run .ensures) _ _ (c .before .n .given .1) (c .before .before .before .before .before .before .before .take-run .kept .1 .1 .0) (c .before .before .before .before .before .before .before .take-run .kept .1 .1 .1 .0)
+loop-again c =
+    let k = c .before .before .before .before .before .before .before .take-run .kept in
+    walking-run (c .before .before .before .before .before .before .before .before .before .before .before .before .before .before .before .before .loop .inv) _ _ _ (c .before .before .before .before .before .before .before .take-run .ensures) _ _ (c .before .n .given .1) (k .1 .1 .0) (k .1 .1 .1 .0)
 
 sub-walk : tie.Need-sub-walk Inv-loop μ-loop
 sub-walk c = omega (arith, c .before .before .before .before .before .before .before .loop .inv .few)
