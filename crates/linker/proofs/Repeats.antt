@@ -1,7 +1,7 @@
 -- Repeats: the body is linked in the region below the node, and goes on at the loop; then the node's own numbers are written.
 use mathlib.Core.Path.{_≡_, sym, _∙_}
 use mathlib.Core.List.{List}
-use mathlib.Core.Logic.{_⊎_, inl, inr}
+use mathlib.Core.Logic.{inl, inr}
 use Prim.Native.Nat.{ℕ, _+_, _≤_, _<_}
 use native.Mathlib.Omega.{arith}
 use lib.ListN.{getD, length}
@@ -11,7 +11,7 @@ use Rattle.syntax.specs.declared.Most.{Most}
 use Rattle.syntax.specs.Limits.{registers, ruleAreaNeed}
 use Rattle.syntax.specs.Reading.{unresolved}
 use Rattle.syntax.specs.Tree.{byteIn, assert, reference, Rule, empty, item, seq, alt, group, repeat}
-use Rattle.syntax.specs.Compiled.{greedWord, OneByte, RunOf, Entered, Compiled}
+use Rattle.syntax.specs.Compiled.{greedWord, OneByte, RunOf, Compiled}
 use Rattle.linker.specs.Nodes.{beforeOf, Plain, Part, Chain, Inside}
 use Rattle.linker.specs.Linking.{Fits, Stands, Made, Links}
 use Rattle.linker.specs.Stores.{ByteWithin, IsOneByte, EntryKind, RepeatClosed}

@@ -2,9 +2,8 @@
 -- walk is a law of the loops in semantics, at the place in the trace that the run tells.
 use mathlib.Core.Path.{_≡_, refl, sym, _∙_, subst}
 use mathlib.Core.List.{List, [], _∷_, _++_, append-nil}
-use mathlib.Core.Logic.{_⊎_, inl, inr}
-use mathlib.Core.Bool.{false}
-use Prim.Native.Nat.{ℕ, zero, suc, _+_, _*_, _-_, _≤_, _<_}
+use mathlib.Core.Logic.{inl, inr}
+use Prim.Native.Nat.{ℕ, suc, _+_, _*_, _-_, _≤_, _<_}
 use native.Mathlib.Omega.{arith}
 use native.Mathlib.Numerals.{add-one}
 use lib.ListN.{length, take, drop}
@@ -18,8 +17,7 @@ use Rattle.semantics.specs.Laws.Loops.{MatchAt, match-begin, match-quiet, match
 use Rattle.machine.specs.declared.Machine.{Machine}
 use Rattle.machine.specs.declared.Stop.{Stop}
 use Rattle.machine.specs.declared.Stop.the-variants.{End, Nothing, Spent}
-use Rattle.charset.specs.Class.{has}
-use Rattle.machine.specs.Moves.{Bytes, Now, go, takes}
+use Rattle.machine.specs.Moves.{Bytes, Now, go}
 use Rattle.machine.specs.Words.{nowOf}
 use Rattle.machine.specs.Ready.{ended, nothing, spent, until, Ready, Agrees}
 use Rattle.machine.specs.Theorem.{Stands, Clear, begins, at-end, at-nothing, at-spent}

@@ -6,23 +6,18 @@ use mathlib.Core.Bool.{Bool, true, false, _||_}
 use Prim.Native.Nat.{ℕ, zero, suc, _+_, _-_, _≤_, _<_}
 use lib.ListN.{length, getD, drop, set}
 use Rattle.charset.specs.Class.{has}
-use Rattle.semantics.specs.Walk.{Trace}
-use Rattle.machine.specs.Moves.{Bytes, Stack, Now, go, takes, fall}
-use Rattle.machine.specs.Laws.Loop.{Running}
+use Rattle.machine.specs.Moves.{Bytes, Stack, go, takes, fall}
+use Rattle.machine.specs.Ready.{Leads}
 use Rattle.openings.specs.declared.nodes.Seen.{Seen}
 use Rattle.openings.specs.declared.nodes.Seen.the-variants.{Unknown, Leaf, Byte, On, Both, ByteOn}
 use Rattle.openings.specs.declared.finding.Search.{Search}
 use Rattle.openings.specs.Openings.{Outside}
 
--- Steps that reach no end -------------------------------------------------------
+-- Nodes that fail -----------------------------------------------------------------
 
--- By n steps, none of which is an end, the machine comes from here to there.
-pub record Leads (p sub : List ℕ) (n : ℕ) (here there : Now) : Type 0 where
-  pub steps : (room budget : ℕ) (first : List ℕ) (t : Trace) (used : ℕ) → Running p sub room budget first t used here → used + n ≤ budget → Running p sub room budget first t (used + n) there
-
--- From a node, over any registers and any stack, it makes n such steps and falls back.
+-- From a node, over any registers and any stack, the machine makes n steps, none of which is an end, and falls back.
 pub record Fails (p sub : List ℕ) (at pc n : ℕ) : Type 0 where
-  pub back : (regs : List ℕ) (st : Stack) → Leads p sub n (go pc at regs st) (fall p regs st)
+  pub back : (regs : List ℕ) (st : Stack) → Leads p sub (go pc at regs st) n (fall p regs st)
 
 -- Nodes one after the other, each of them tried when the one before it has failed: n steps in all.
 abbrev pub AllFail : (p sub : List ℕ) (at : ℕ) → List ℕ → ℕ → Type 0

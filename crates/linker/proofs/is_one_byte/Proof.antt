@@ -1,5 +1,5 @@
 -- `is_one_byte` meets its contract: the tests that it makes are what `IsOneByte` says, one by one.
-use mathlib.Core.Path.{_≡_, sym, _∙_, ap}
+use mathlib.Core.Path.{_≡_, sym}
 use mathlib.Core.Bool.{true, false}
 use mathlib.Core.Logic.{inl, inr}
 use Prim.Native.Nat.{ℕ}

@@ -20,7 +20,7 @@ use Rattle.machine.specs.Laws.Loop.{move-run, leads-run, leads-join}
 use Rattle.machine.specs.Laws.Branches.{leads-on, move-miss}
 
 -- some rounds are allowed
-not-full : (n : ℕ) → 1 ≤ n → isFull (mostOf n) 0 ≡ false
+pub not-full : (n : ℕ) → 1 ≤ n → isFull (mostOf n) 0 ≡ false
 unfolding mostOf pickMost isFull
 not-full n h = by (eqb n unset)
   where

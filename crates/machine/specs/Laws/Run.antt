@@ -48,7 +48,7 @@ join (either Greedy) t u = t ++ u
 join (either Lazy) t u = u ++ t
 
 -- what is saved is put back
-fall-saved : (p : Program) (i a b : ℕ) (regs : List ℕ) (st : Stack) → fall p (set2 regs i a b) (saved regs i ∷ st) ≡ fall p regs st
+pub fall-saved : (p : Program) (i a b : ℕ) (regs : List ℕ) (st : Stack) → fall p (set2 regs i a b) (saved regs i ∷ st) ≡ fall p regs st
 unfolding fall
 fall-saved p i a b regs st = ap (λ (x : List ℕ). fall p x st) (undo-set2 regs i a b)
 

@@ -1,39 +1,31 @@
 -- Each kind of node where every byte fails: the steps that it makes, and the nodes at which the machine goes on.
-use mathlib.Core.Path.{_≡_, refl, ap}
+use mathlib.Core.Path.{_≡_, refl}
 use mathlib.Core.List.{List, [], _∷_}
-use mathlib.Core.Bool.{Bool, true, false, _&&_}
+use mathlib.Core.Bool.{Bool, true, false}
 use Prim.Native.Nat.{ℕ, zero, suc, _+_, _≤_, _<_}
 use native.Mathlib.Omega.{arith}
-use lib.ListN.{length, getD, drop}
-use lib.Dec.{ltb, eqb}
-use borrow.Author.Tests.{lt-ltb, le-ltb, lt-leb, le-leb, ne-eqb}
+use lib.ListN.{getD, drop}
+use lib.Dec.{eqb}
+use borrow.Author.Tests.{lt-ltb, le-ltb, le-leb, ne-eqb}
 use Rattle.charset.specs.Class.{has}
 use Rattle.syntax.specs.declared.Greed.the-variants.{Lazy}
 use Rattle.syntax.specs.Limits.{unset}
-use Rattle.syntax.specs.Read.{byte}
 use Rattle.semantics.specs.Assertions.{holds}
-use Rattle.semantics.specs.States.{State, moved}
-use Rattle.semantics.specs.Items.{fails, goes, when}
+use Rattle.semantics.specs.Items.{fails, when}
 use Rattle.semantics.specs.Repeats.{isFull, allowed, decision}
 use Rattle.semantics.specs.Walk.{step, miss}
-use Rattle.machine.specs.Code.{inSet, pickMost, mostOf, greedOf, assertionOf, repeatAt, decodeAs}
-use Rattle.machine.specs.Moves.{explore, again, Stack, set2, saved, state, go, begin, bump, tested, takes, strides, stopped, descend, endsOf, fall, decided, decides, tried, ran, bytesOf, carryOut, move}
+use Rattle.machine.specs.Code.{pickMost, mostOf, greedOf, assertionOf, repeatAt, decodeAs}
+use Rattle.machine.specs.Moves.{explore, again, Stack, set2, saved, go, begin, bump, tested, takes, strides, stopped, descend, endsOf, fall, decided, decides, tried, ran, bytesOf, carryOut, move}
+use Rattle.machine.specs.Ready.{Leads}
 use Rattle.machine.specs.Laws.Code.{decode-at}
+use Rattle.machine.specs.Laws.Ends.{not-full, asks-byte, asks-run}
 use Rattle.machine.specs.Laws.Extent.{extent-none, extent-full}
-use Rattle.machine.specs.Laws.Registers.{undo-set2}
-use Rattle.openings.specs.Failing.{Leads, Reduces, nobody}
-use Rattle.openings.specs.Laws.Leading.{leads-then, leads-move, leads-run}
+use Rattle.machine.specs.Laws.Loop.{leads-run, leads-join}
+use Rattle.machine.specs.Laws.Run.{fall-saved}
+use Rattle.openings.specs.Failing.{Reduces, nobody}
+use Rattle.openings.specs.Laws.Leading.{leads-move}
 
--- Whether a byte is taken -----------------------------------------------------------
-
-tested-none : (sub : List ℕ) (f : ℕ → Bool) (s : State) → takes sub f (s .at) ≡ false → tested sub (inSet f) s ≡ fails
-unfolding tested takes when
-tested-none sub f s e = by (ltb (s .at) (length sub)) (f (byte sub (s .at))) e
-  where
-    by : (a b : Bool) → (a && b) ≡ false → when a (when b (goes (moved (suc (s .at)) s))) ≡ fails
-    by true true e = let z : _≡_ {A = ℕ} 0 1 = cc in absurd (omega arith)
-    by true false e = refl
-    by false b e = refl
+-- How numbers are read ---------------------------------------------------------------
 
 full : isFull (mostOf 0) 0 ≡ true
 unfolding mostOf pickMost isFull unset
@@ -43,41 +35,28 @@ full = by (eqb 0 unset) refl
     by true e = let z : _≡_ {A = ℕ} 0 1 = cc in absurd (omega arith)
     by false e = le-leb 0 0 (omega arith)
 
-not-full : (m : ℕ) → (m ≡ 0 → ⊥) → isFull (mostOf m) 0 ≡ false
-unfolding mostOf pickMost isFull
-not-full m h = by (eqb m unset)
-  where
-    by : (b : Bool) → isFull (pickMost b m) 0 ≡ false
-    by true = refl
-    by false = lt-leb m 0 (omega arith)
-
 lazy-read : (n : ℕ) → (n ≡ 0 → ⊥) → greedOf n ≡ Lazy
 unfolding greedOf
 lazy-read zero h = absurd (h refl)
 lazy-read (suc n) h = refl
-
--- what is saved is put back
-fall-saved : (p : List ℕ) (i a b : ℕ) (regs : List ℕ) (st : Stack) → fall p (set2 regs i a b) (saved regs i ∷ st) ≡ fall p regs st
-unfolding fall
-fall-saved p i a b regs st = ap (λ (x : List ℕ). fall p x st) (undo-set2 regs i a b)
 
 module _ (p : List ℕ) (pc : ℕ) where
   -- Ways on, whatever the node -------------------------------------------------------
 
   module _ (f : ℕ → Bool) (c : ℕ) (few : c ≤ 2) where
     -- a node that falls back
-    gives-up : ((sub : List ℕ) (at : ℕ) (regs : List ℕ) (st : Stack) → 1 ≤ at → takes sub f at ≡ false → Leads p sub c (go pc at regs st) (fall p regs st)) → Reduces p pc f [] c
+    gives-up : ((sub : List ℕ) (at : ℕ) (regs : List ℕ) (st : Stack) → 1 ≤ at → takes sub f at ≡ false → Leads p sub (go pc at regs st) c (fall p regs st)) → Reduces p pc f [] c
     gives-up e = record { few = few; fails = λ sub at n l x h. let z : c + n ≡ c = omega arith in rw z (record { back = λ regs st. e sub at regs st l x }) }
 
     -- a node that goes on at another, over a stack that falls back to the same
     goes-on : (next : ℕ)
-        → ((sub : List ℕ) (at : ℕ) (regs : List ℕ) (st : Stack) → takes sub f at ≡ false → (regs′ : List ℕ) × (st′ : Stack) × Leads p sub c (go pc at regs st) (go next at regs′ st′) × (fall p regs′ st′ ≡ fall p regs st))
+        → ((sub : List ℕ) (at : ℕ) (regs : List ℕ) (st : Stack) → takes sub f at ≡ false → (regs′ : List ℕ) × (st′ : Stack) × Leads p sub (go pc at regs st) c (go next at regs′ st′) × (fall p regs′ st′ ≡ fall p regs st))
         → Reduces p pc f (next ∷ []) c
     goes-on next e = record {
       few = few;
       fails = λ sub at n l x h.
           let z : n ≡ h .0 = omega (arith, h .2, h .4) in
-          rw z (record { back = λ regs st. let w = e sub at regs st x in leads-then p sub (w .2) (rw (w .3) at (h .3 .back (w .0) (w .1))) });
+          rw z (record { back = λ regs st. let w = e sub at regs st x in leads-join p sub (w .2) (rw (w .3) at (h .3 .back (w .0) (w .1))) });
     }
 
   -- the same in one step
@@ -103,16 +82,15 @@ module _ (p : List ℕ) (pc : ℕ) where
           rw z (record {
             back = λ regs st.
                 let w = e sub at regs st in
-                leads-then p sub (leads-move p sub kind pc at regs st _ is low (w .4))
-                (leads-then p sub (rw (w .5) at (h .3 .back (w .0) (w .1))) (rw (w .6) at (y .3 .back (w .2) (w .3))));
+                leads-join p sub (leads-move p sub kind pc at regs st _ is low (w .4))
+                (leads-join p sub (rw (w .5) at (h .3 .back (w .0) (w .1))) (rw (w .6) at (y .3 .back (w .2) (w .3))));
           });
     }
 
   -- Nodes of one step ------------------------------------------------------------------
 
   pub sees-byte : getD p pc 0 ≡ 0 → Reduces p pc (has (drop (pc + 3) p)) [] 1
-  unfolding carryOut tried
-  sees-byte is = sees-leaf 0 is (omega arith) _ (λ sub at regs st l x. rw (tested-none sub (has (drop (pc + 3) p)) (state at regs) x))
+  sees-byte is = gives-up (has (drop (pc + 3) p)) 1 (omega arith) (λ sub at regs st l x. asks-byte p sub pc is at regs st x)
 
   pub sees-text-start : getD p pc 0 ≡ 1 → getD p (pc + 3) 0 ≡ 0 → Reduces p pc nobody [] 1
   unfolding carryOut tried tested holds when assertionOf
@@ -165,7 +143,7 @@ module _ (p : List ℕ) (pc : ℕ) where
               saved regs (getD p (pc + 2 + 3) 0) ∷ explore (getD p (pc + 7) 0) at ∷ st,
               regs,
               st,
-              rw (free, three, not-full (getD p (pc + 3) 0) some, four, greed, six, seven),
+              rw (free, three, not-full (getD p (pc + 3) 0) (omega arith), four, greed, six, seven),
               fall-saved p (getD p (pc + 2 + 3) 0) (bump 0) at regs (explore (getD p (pc + 7) 0) at ∷ st),
               refl,
             ))
@@ -183,7 +161,7 @@ module _ (p : List ℕ) (pc : ℕ) where
               again (pc + 2) (bump 0) at ∷ st,
               set2 regs (getD p (pc + 2 + 3) 0) (bump 0) at,
               saved regs (getD p (pc + 2 + 3) 0) ∷ st,
-              rw (free, three, not-full (getD p (pc + 3) 0) some, four, lazy-read (getD p (pc + 4) 0) greed, seven),
+              rw (free, three, not-full (getD p (pc + 3) 0) (omega arith), four, lazy-read (getD p (pc + 4) 0) greed, seven),
               rw six,
               fall-saved p (getD p (pc + 2 + 3) 0) (bump 0) at regs st,
             ))
@@ -193,14 +171,7 @@ module _ (p : List ℕ) (pc : ℕ) where
   -- A run that takes no byte falls back if it owes a round, else it goes on where it stands.
   module _ (is : getD p pc 0 ≡ 10) where
     pub sees-run-owed : 0 < getD p (pc + 2) 0 → (getD p (pc + 3) 0 ≡ 0 → ⊥) → Reduces p pc (has (drop (getD p (pc + 6) 0 + 3) p)) [] 2
-    unfolding move carryOut ran bytesOf strides stopped endsOf repeatAt
-    sees-run-owed owes some =
-        let three : pc + 2 + 1 ≡ pc + 3 = omega arith in
-        let six : pc + 2 + 4 ≡ pc + 6 = omega arith in
-        gives-up (has (drop (getD p (pc + 6) 0 + 3) p)) 2 (omega arith)
-        (λ sub at regs st l x.
-        leads-run p sub 2 pc at regs st (record { first = step; more = miss (getD p (getD p (pc + 6) 0 + 2) 0) (at + 0) ∷ []; after = fall p regs st })
-        (rw (decode-at p pc 10 is, six, three, extent-none sub (has (drop (getD p (pc + 6) 0 + 3) p)) _ at x, not-full (getD p (pc + 3) 0) some, lt-ltb 0 (getD p (pc + 2) 0) owes)) tt refl)
+    sees-run-owed owes some = gives-up (has (drop (getD p (pc + 6) 0 + 3) p)) 2 (omega arith) (λ sub at regs st l x. asks-run p sub pc is owes (omega arith) at regs st x)
 
     module _ (free : getD p (pc + 2) 0 ≡ 0) where
       pub sees-run-none : getD p (pc + 3) 0 ≡ 0 → Reduces p pc nobody (getD p (pc + 7) 0 ∷ []) 1
@@ -214,8 +185,8 @@ module _ (p : List ℕ) (pc : ℕ) where
           let none : at + 0 ≡ at = omega arith in (
             regs,
             st,
-            leads-run p sub 1 pc at regs st (record { first = step; more = []; after = go (getD p (pc + 7) 0) at regs st })
-                (rw (decode-at p pc 10 is, six, three, bare, extent-full sub (has (drop (getD p (pc + 6) 0 + 3) p)) (mostOf 0) 0 at full, full, free, seven, none, le-ltb at at (omega arith))) tt refl,
+            leads-run p sub (record { pc = pc; at = at; regs = regs; stack = st }) (record { first = step; more = []; after = go (getD p (pc + 7) 0) at regs st }) is
+                (rw (decode-at p pc 10 is, six, three, bare, extent-full sub (has (drop (getD p (pc + 6) 0 + 3) p)) (mostOf 0) 0 at full, full, free, seven, none, le-ltb at at (omega arith))),
             refl,
           ))
 
@@ -230,7 +201,7 @@ module _ (p : List ℕ) (pc : ℕ) where
           let none : at + 0 ≡ at = omega arith in (
             regs,
             st,
-            leads-run p sub 2 pc at regs st (record { first = step; more = miss (getD p (getD p (pc + 6) 0 + 2) 0) at ∷ []; after = go (getD p (pc + 7) 0) at regs st })
-                (rw (decode-at p pc 10 is, six, three, extent-none sub (has (drop (getD p (pc + 6) 0 + 3) p)) _ at x, not-full (getD p (pc + 3) 0) some, free, seven, none, le-ltb at at (omega arith))) tt refl,
+            leads-run p sub (record { pc = pc; at = at; regs = regs; stack = st }) (record { first = step; more = miss (getD p (getD p (pc + 6) 0 + 2) 0) at ∷ []; after = go (getD p (pc + 7) 0) at regs st }) is
+                (rw (decode-at p pc 10 is, six, three, extent-none sub (has (drop (getD p (pc + 6) 0 + 3) p)) _ at x, not-full (getD p (pc + 3) 0) (omega arith), free, seven, none, le-ltb at at (omega arith))),
             refl,
           ))
