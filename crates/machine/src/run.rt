@@ -52,6 +52,31 @@ fn step(
     }
 }
 
+// One node that is no end and no run, or branches one after the other. What is used comes back beside the machine, and is counted in one place for
+// all kinds: so the compiler makes one jump of the kind.
+fn advance(
+    code: &[u32],
+    sub: &[u8],
+    regs: &mut [u32],
+    work: &mut [u32],
+    kind: u32,
+    m: Machine,
+    left: u32,
+) -> Walked
+    requires { ⌜ (kind ≡ getD (now code) (m .pc) 0) × (kind ≤ 8) × (m .live ≡ true) × (1 ≤ left) × (length (now regs) ≡ registers) × (length (now sub) < 2 ^ 32) × (length (now code) < 2 ^ 32) ⌝ }
+    requires { ⌜ ((first : List ℕ) × (t : Trace) × Ready (now code) (now sub) (length (now work)) left first (nowOf (now regs) (now work) m) t) ⌝ }
+    ensures { λ r. ⌜ (1 ≤ r .used) × (r .used ≤ left) × Leads (now (code .entry)) (now (sub .entry)) (nowOf (now (regs .entry)) (now (work .entry)) m) (r .used) (nowOf (now (regs .exit)) (now (work .exit)) (r .head)) ⌝ }
+{
+    if kind == BRANCH {
+        return take_branch(code, sub, work, m, left);
+    }
+    let next = step(code, sub, regs, work, kind, m);
+    Walked {
+        used: 1,
+        head: next,
+    }
+}
+
 // Walks on until it comes to a run or an end, the steps are used or nothing is left. It is a loop of its own, apart from runs and ends, so that
 // the compiler keeps in registers what each step needs.
 fn walk(
@@ -83,15 +108,9 @@ fn walk(
                 head: head,
             };
         }
-        if kind == BRANCH {
-            let b = take_branch(code, sub, work, head, left - used);
-            used += b.used;
-            head = b.head;
-            continue;
-        }
-        used += 1;
-        let next = step(code, sub, regs, work, kind, head);
-        head = next;
+        let on = advance(code, sub, regs, work, kind, head, left - used);
+        used += on.used;
+        head = on.head;
     }
     Walked {
         used: used,

@@ -5,7 +5,7 @@ use Prim.Native.Nat.{_-_}
 use native.Mathlib.Omega.{arith}
 use denote.Ref.{now}
 use borrow.Author.Needs.{needs}
-use Rattle.machine.proofs.Stepping.{Stepping, stepping-start, stepping-ready, stepping-past, stepping-idle, stepping-more, stepping-fits, stepping-stack, stepping-low, stepping-on}
+use Rattle.machine.proofs.Stepping.{Stepping, stepping-start, stepping-ready, stepping-past, stepping-idle, stepping-more, stepping-fits}
 use Rattle.machine.proofs.run.walk.Statement.{statement}
 use Rattle.machine.proofs.run.walk.Tie as tie
 
@@ -13,7 +13,8 @@ abbrev Inv-loop : tie.InvT-loop
 Inv-loop code sub regs₀ work₀ left used₀ head₀ regs work used head = Stepping code sub regs₀ work₀ head₀ left regs work used head
 
 abbrev μ-loop : tie.MeasureT-loop
-μ-loop code sub regs₀ work₀ left used₀ head₀ regs work used head = left - used
+μ-loop code sub regs₀ work₀ left used₀ head₀ regs work used head =
+    left - used
 
 loop-holds : tie.Need-loop-holds Inv-loop μ-loop
 loop-holds c =
@@ -47,42 +48,23 @@ same-length-4 c = c .before .before .before .before .before .loop .inv .wide
 returns-2 : tie.Need-returns-2 Inv-loop μ-loop
 returns-2 c = (stepping-past (c .before .before .before .before .before .loop .inv) (c .before .before .before .before .before .before .before .before .before .before .pre .0 .1) (c .if2 .taken), c .before .before .before .before .before .loop .inv .few, c .before .before .before .before .before .loop .inv .leads)
 
-sub-take-branch : tie.Need-sub-take-branch Inv-loop μ-loop
-sub-take-branch c = omega (arith, c .before .before .before .before .before .before .before .loop .inv .few)
+sub-advance : tie.Need-sub-advance Inv-loop μ-loop
+sub-advance c = omega (arith, c .before .before .before .before .before .before .before .loop .inv .few)
 
-take-branch-requires : tie.Need-take-branch-requires Inv-loop μ-loop
-take-branch-requires c κs =
+advance-requires : tie.Need-advance-requires Inv-loop μ-loop
+advance-requires c κs =
     let s = c .before .before .before .before .before .before .before .before .before .before .before .before in
     let g = c .before .before .before .before .before .before .before .loop .inv in
-    ((c .before .if3 .taken, c .before .before .before .before .before .before .loop-test .taken, omega (arith, g .few, c .before .before .before .before .before .if1 .left), s .pre .0 .4, s .pre .0 .5), (c .before .before .before .before .before .before .before .loop .regs, stepping-ready g .0, stepping-ready g .1, stepping-ready g .2))
+    ((refl, c .before .before .if2 .left, c .before .before .before .before .before .before .loop-test .taken, omega (arith, g .few, c .before .before .before .before .before .if1 .left), g .size ∙ s .pre .0 .3, s .pre .0 .4, s .pre .0 .5), stepping-ready g)
 
 add-used : tie.Need-add-used Inv-loop μ-loop
-add-used c = omega (arith, c .before .before .before .before .before .before .before .before .before .before .before .loop .inv .few, c .before .before .before .take-branch .ensures .1)
+add-used c = omega (arith, c .before .before .before .before .before .before .before .before .before .before .before .before .before .loop .inv .few, c .before .before .before .before .before .advance .ensures .1)
 
 loop-less : tie.Need-loop-less Inv-loop μ-loop
-loop-less c = omega (arith, c .before .before .before .before .before .before .before .before .before .before .before .before .loop .inv .few, c .before .before .before .before .take-branch .ensures .0, c .before .before .before .before .take-branch .ensures .1)
+loop-less c = omega (arith, c .before .before .before .before .before .before .before .before .before .before .before .before .before .before .loop .inv .few, c .before .before .before .before .before .before .advance .ensures .0, c .before .before .before .before .before .before .advance .ensures .1)
 
 loop-again : tie.Need-loop-again Inv-loop μ-loop
-loop-again c =
-    let r = c .before .before .before .before .take-branch in
-    stepping-more (c .before .before .before .before .before .before .before .before .before .before .before .before .loop .inv) (c .before .before .before .before .before .before .before .before .before .before .before .before .loop .regs) (r .last .1 .1 .0) (r .result .head) (r .result .used) (r .ensures .0) (r .ensures .1) (r .ensures .2 (c .before .before .before .before .before .before .before .before .before .before .before .before .loop .regs)) refl (r .kept .1 .1 .0)
-
-add-used-2 : tie.Need-add-used-2 Inv-loop μ-loop
-add-used-2 c = omega (arith, c .before .before .before .before .before .before .loop .inv .few, c .before .before .before .before .if1 .left)
-
-step-requires : tie.Need-step-requires Inv-loop μ-loop
-step-requires c κs =
-    let s = c .before .before .before .before .before .before .before .before .before .before .before .before .before in
-    let g = c .before .before .before .before .before .before .before .before .loop .inv in
-    let t = c .before .before .before .before .before .before .before .loop-test .taken in
-    ((refl, c .before .before .before .if2 .left, c .before .before .if3 .left, g .size ∙ s .pre .0 .3, omega (arith, stepping-low g t, g .few, c .before .before .before .before .before .before .if1 .left), s .pre .0 .4, s .pre .0 .5), (stepping-fits g t, stepping-stack g t))
-
-loop-less-2 : tie.Need-loop-less-2 Inv-loop μ-loop
-loop-less-2 c = omega (arith, c .before .before .before .before .before .before .before .before .before .before .before .before .before .loop .inv .few, c .before .before .before .before .before .before .before .before .before .before .before .if1 .left)
-
-loop-again-2 : tie.Need-loop-again-2 Inv-loop μ-loop
-loop-again-2 c =
-    stepping-on (c .before .before .before .before .before .before .before .before .before .before .before .before .before .loop .inv) (c .before .before .before .before .before .before .before .before .before .before .before .before .loop-test .taken) _ _ _ (omega (arith, c .before .before .before .before .before .before .before .before .before .before .before .before .before .loop .inv .few, c .before .before .before .before .before .before .before .before .before .before .before .if1 .left)) (c .before .before .before .before .before .before .before .before .if2 .left) (c .before .before .before .before .step .ensures) (c .before .before .before .before .step .kept .1 .1 .0) (c .before .before .before .before .step .kept .1 .1 .1 .0)
+loop-again c = let r = c .before .before .before .before .before .before .advance in stepping-more (c .before .before .before .before .before .before .before .before .before .before .before .before .before .before .loop .inv) _ _ _ _ (r .ensures .0) (r .ensures .1) (r .ensures .2) (r .kept .1 .1 .0) (r .kept .1 .1 .1 .0)
 
 same-length-5 : tie.Need-same-length-5 Inv-loop μ-loop
 same-length-5 c = c .before .loop .inv .size
@@ -109,15 +91,11 @@ walk-spec =
     same-length-3
     same-length-4
     returns-2
-    sub-take-branch
-    take-branch-requires
+    sub-advance
+    advance-requires
     add-used
     loop-less
     loop-again
-    add-used-2
-    step-requires
-    loop-less-2
-    loop-again-2
     same-length-5
     same-length-6
     returns-3)
