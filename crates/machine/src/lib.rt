@@ -1,5 +1,13 @@
-// The machine that walks a compiled rule over a subject. No index is tested at run time: each is in range by what is required, and that
-// follows from how the rule was compiled.
+// The machine that walks a compiled rule over a subject, and falls back on what is left to try.
+//
+// One node of the rule is one step of the walk: steps are counted where nodes are carried out, and nowhere else. A step pushes at most two frames
+// of four numbers, so that eight numbers a step are always room enough for the stack. Each change of a register is undone by a frame: when a
+// walk has ended the registers are as they were, and nothing is cleared between starts.
+//
+// What would only fail or repeat itself node by node is taken in one loop and counted as if it were not: the bytes of a run, the ends behind
+// them at which the next node fails, and the branches whose first byte is not there. It makes the same steps, to the last one of the budget.
+//
+// No index is tested at run time: each is in range by what is required, and that follows from how the rule was compiled.
 ghost use mathlib.Core.Path.{_≡_};
 ghost use mathlib.Core.List.{List, []};
 ghost use Prim.Native.Nat.{ℕ};

@@ -1,4 +1,6 @@
-// A listing: the readings of all starts, each written as a row when it is met for the first time.
+// A listing: the readings of all starts, each written as a row when it is met for the first time. Whether it is new is asked of an index over the
+// rows of its start, so that a reading costs the same however many there are; the index is never cleared, and stands in the half of the work
+// area that the machine leaves free.
 use crate::areas::clear;
 use crate::parts::fall_below;
 use crate::parts::run_below;

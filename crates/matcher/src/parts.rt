@@ -1,9 +1,10 @@
 // The work area of a listing: before `half` it is the machine's, and behind that stands the index of the rows.
+use index::SPANS_LENGTH;
 use machine::Machine;
 use machine::Stop;
 ghost use mathlib.Core.Path.{_≡_};
 ghost use mathlib.Core.List.{List};
-ghost use Prim.Native.Nat.{ℕ, _*_, _≤_, _<_, _^_};
+ghost use Prim.Native.Nat.{ℕ, _*_, _≤_, _<_, _^_, min};
 ghost use lib.ListN.{length, take, drop};
 ghost use Rattle.syntax.specs.Limits.{registers, spansLength};
 ghost use Rattle.semantics.specs.Walk.{Trace};
@@ -46,9 +47,13 @@ pub fn fall_below(
     machine::fall_back(code, regs, &mut work[..half], height)
 }
 
-// How many captures the groups of a rule have.
+// How many captures the groups of a rule have, and no more than a row has: those behind them are never set, and need not be hashed.
 pub fn spans_of(groups: u32) -> usize
-    ensures { λ r. ⌜ r ≤ spansLength ⌝ }
+    ensures { λ r. ⌜ r ≡ min (2 * groups) spansLength ⌝ }
 {
-    if groups < 32 { 2 * groups as usize } else { 64 }
+    let spans = 2 * groups as usize;
+    if spans < SPANS_LENGTH {
+        return spans;
+    }
+    SPANS_LENGTH
 }

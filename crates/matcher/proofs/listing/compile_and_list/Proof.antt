@@ -30,7 +30,7 @@ list-all-requires c κs =
     let s = c .before .before .before .before .before .before .before .before .before .before .before .before .before .before .before .before in
     let m = c .before .before .before .before .before .before .before .before .before .compile .ensures in
     let z = compile-sound m _ _ (c .before .before .before .before .before .compiled2 .given .1) (omega (arith, m .long, s .pre .2)) in
-    ((s .pre .1, omega (arith, m .long, s .pre .2), s .pre .3, c .before .before .before .spans-of .ensures), (z .0, z .3))
+    ((s .pre .1, omega (arith, m .long, s .pre .2), s .pre .3, omega (arith, c .before .before .before .spans-of .ensures)), (z .0, z .3))
 
 same-length : tie.Need-same-length
 same-length c = search needs

@@ -1,12 +1,12 @@
--- Each answer is no more than the limit, which is opened here.
+-- `spans_of` meets its contract: the lesser of two numbers, with the limit opened, since the code names it by its value.
 use native.Mathlib.Omega.{arith}
 use Rattle.syntax.specs.Limits.{spansLength}
 use borrow.Author.Needs.{needs}
 use Rattle.matcher.proofs.parts.spans_of.Statement.{statement}
 use Rattle.matcher.proofs.parts.spans_of.Tie as tie
 
-mul-result : tie.Need-mul-result
-mul-result c = search needs
+mul-spans : tie.Need-mul-spans
+mul-spans c = search needs
 
 returns : tie.Need-returns
 unfolding spansLength
@@ -17,4 +17,4 @@ unfolding spansLength
 returns-2 c = omega arith
 
 pub spans-of-spec : {M : Type 1} → statement M
-spans-of-spec = tie.close (tie.spec mul-result returns returns-2)
+spans-of-spec = tie.close (tie.spec mul-spans returns returns-2)
