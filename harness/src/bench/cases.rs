@@ -12,7 +12,8 @@ const TEXT: &[u8] = b"the tank is filled with milk and the pump runs until the l
 const WORDS: &str = "alpha|bravo|charlie|delta|echo|foxtrot|golf|hotel|india|juliett|kilo|lima|mike|november|oscar|papa|quebec|romeo|sierra|tango";
 
 pub fn all() -> Vec<Case> {
-    let kinds = [gateway(), short(), long_scans(), skipped_scans(), alternations(), classes(), references(), catastrophes(), listings()];
+    let kinds =
+        [gateway(), short(), long_scans(), skipped_scans(), alternations(), classes(), references(), plain_walks(), catastrophes(), listings()];
     kinds.into_iter().flatten().collect()
 }
 
@@ -115,6 +116,16 @@ fn references() -> Vec<Case> {
         matching("reference", r"\b(\w+) \1\b", &text_and(1_000, "pump pump"), GATEWAY),
         matching("reference", r#"(["']).*?\1"#, br#"set name of tank 07 to "it's the milk of hall 3" and go on"#, GATEWAY),
         matching("reference", r"^(a*)b\1$", &equal, GATEWAY),
+    ]
+}
+
+/// Walks with no run in them: groups, branches, counted and lazy repeats, node by node.
+fn plain_walks() -> Vec<Case> {
+    let before_cb = |bytes: &[u8], times| [&bytes.repeat(times)[..], b"cb"].concat();
+    vec![
+        matching("groups", "(?:(a)|(b))*d", &[&b"ab".repeat(100)[..], b"cd"].concat(), 10_000),
+        matching("counted repeats", "(?:(?:a{1,3}){1,3}){1,9}b", &before_cb(b"a", 9), 100_000),
+        matching("lazy repeats", "(a+?)*b", &before_cb(b"a", 12), 100_000),
     ]
 }
 
