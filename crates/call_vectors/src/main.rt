@@ -4,8 +4,8 @@
 // work area and the result area in decimal; the rule in hex; and how the subject is given, in hex, or 'x' and a count for so many bytes `a`.
 use libc::STDIN_FILENO;
 use libc::STDOUT_FILENO;
-use matcher::Listing;
-use matcher::Outcome;
+use listing::Listing;
+use matching::Outcome;
 use syntax::Refusal;
 ghost use Prim.Native.Nat.{_≤_, _<_};
 ghost use lib.ListN.{length};
@@ -92,7 +92,7 @@ fn tell_match(
     work: &mut [u32],
     results: &mut [u32],
 ) {
-    match matcher::match_line(rule, flags, sub, budget, area, work, results) {
+    match matching::match_line(rule, flags, sub, budget, area, work, results) {
         Outcome::Matched(steps) => {
             put(b"matched ");
             put_steps(steps);
@@ -121,7 +121,7 @@ fn tell_list(
     work: &mut [u32],
     results: &mut [u32],
 ) {
-    match matcher::list_readings(rule, flags, sub, budget, area, work, results) {
+    match listing::list_readings(rule, flags, sub, budget, area, work, results) {
         Listing::Complete(rows, steps) => {
             put(b"complete ");
             put_steps(steps);

@@ -18,14 +18,14 @@ ghost use Rattle.gateway_line.specs.Limits.{answerRoom};
 ghost use Rattle.gateway_line.specs.Promises.{Reads};
 
 // One byte more than a rule may have: with so many, it is known to be too long.
-const RULE_ROOM: usize = matcher::RULE_LIMIT + 1;
+const RULE_ROOM: usize = frame::RULE_LIMIT + 1;
 
 // What is lent to every call: 01, "Rows, room and what is left behind".
-const RULE_AREA: usize = matcher::RULE_AREA_NEED;
+const RULE_AREA: usize = frame::RULE_AREA_NEED;
 
-const WORK_AREA: usize = matcher::WORK_PER_STEP * gateway_line::BUDGET as usize;
+const WORK_AREA: usize = frame::WORK_PER_STEP * gateway_line::BUDGET as usize;
 
-const RESULT_AREA: usize = matcher::ROW_LENGTH;
+const RESULT_AREA: usize = index::ROW_LENGTH;
 
 // One byte more than a line may have.
 const LINE_ROOM: usize = gateway_line::HELD_LIMIT;

@@ -1,5 +1,5 @@
 // The lines that the gateway writes, each at a position of a lent slice; what is answered is the position behind it.
-use matcher::UNSET;
+use index::UNSET;
 use syntax::Refusal;
 use text::NEWLINE;
 use text::append;
@@ -18,7 +18,7 @@ ghost use Rattle.gateway_line.specs.Promises.{WroteLine};
 // The bytes of a group's span at most, and of an answer: a letter, two numbers, a span for each group of a row, and the 0A.
 const SPAN_ROOM: usize = 22;
 
-pub const ANSWER_ROOM: usize = 24 + SPAN_ROOM * ((matcher::ROW_LENGTH - 2) / 2);
+pub const ANSWER_ROOM: usize = 24 + SPAN_ROOM * ((index::ROW_LENGTH - 2) / 2);
 
 // A group's span.
 pub fn write_span(from: u32, to: u32, out: &mut [u8], at: usize) -> usize

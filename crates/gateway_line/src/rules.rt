@@ -1,5 +1,5 @@
 // The rule, before a line is read.
-use matcher::RULE_LIMIT;
+use frame::RULE_LIMIT;
 use reader::Compilation;
 use reader::compile;
 use syntax::Reason;

@@ -18,8 +18,8 @@ use Rattle.semantics.specs.States.{Row}
 use Rattle.semantics.specs.Answers.{complete, full, exhaustedAt, Ending, Listing, listing}
 use Rattle.semantics.specs.Calls.{Call, Return, ListOutcome, ListRefused, workAreaNeed, unacceptable, over, untouched, leaving, withReading, unlessRefused, call, listOutcome, joined, room, listRule, listCall}
 use Rattle.semantics.specs.Laws.Budgets.{larger-budget}
-use Rattle.matcher.specs.Inputs.{callOf, Told}
-use Rattle.matcher.specs.Laws.Areas.{joined-append}
+use Rattle.frame.specs.Inputs.{callOf, Told}
+use Rattle.listing.specs.Laws.Rows.{joined-append}
 use Rattle.lister.specs.Budgets.{isFinished}
 
 -- two returns tell the same

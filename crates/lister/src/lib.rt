@@ -1,15 +1,15 @@
 // A listing at a large budget, which tries a small one first.
 //
 // A call clears 16 numbers for each step of its budget, so that a large budget costs a millisecond on a line that needs few steps.
-use matcher::BUDGET_LIMIT;
-use matcher::Listing;
-use matcher::WORK_PER_STEP;
-use matcher::list_readings;
+use frame::BUDGET_LIMIT;
+use frame::WORK_PER_STEP;
+use listing::Listing;
+use listing::list_readings;
 ghost use mathlib.Core.Path.{_≡_};
 ghost use mathlib.Core.Bool.{true};
 ghost use Rattle.semantics.specs.Calls.{listCall};
-ghost use Rattle.matcher.specs.Inputs.{callOf, Told};
-ghost use Rattle.matcher.specs.Listing.{listingOf};
+ghost use Rattle.frame.specs.Inputs.{callOf, Told};
+ghost use Rattle.listing.specs.Listing.{listingOf};
 ghost use Rattle.lister.specs.Budgets.{Pays, isFinished};
 
 // The budget that is tried first.

@@ -1,4 +1,5 @@
--- What is proved of failing: of steps one after the other, of each kind of node, and of a search.
+-- What is proved of failing: of steps one after the other, of each kind of node, and of a search; and of starts that are passed.
 pub mod Leading
 pub mod Nodes
 pub mod Searching
+pub mod Passing

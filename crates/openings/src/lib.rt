@@ -14,7 +14,7 @@ mod nodes;
 mod skipping;
 
 pub use finding::find_opening;
-pub use skipping::skip_starts;
+pub use skipping::pass_starts;
 
 // The bytes that a start from 1 on can begin with, and the steps of one that cannot. No steps: nothing is known. Not any: no byte can begin,
 // so that no start but 0 can.

@@ -1,7 +1,8 @@
 // Passing over starts that cannot begin.
 ghost use mathlib.Core.Path.{_≡_};
-ghost use Prim.Native.Nat.{_+_, _≤_, _<_, _^_};
+ghost use Prim.Native.Nat.{_+_, _-_, _*_, _≤_, _<_, _^_};
 ghost use lib.ListN.{length};
+ghost use Rattle.syntax.specs.Limits.{subjectLimit};
 ghost use Rattle.openings.specs.Openings.{Passed, Misses};
 
 // Which of the four bytes from `at` on is the first that is in the set, or 4. Four looks in a row nearly halve the time of a skipped byte.
@@ -58,7 +59,7 @@ fn skip_ones(set: &[u32; 8], subject: &[u8], at: usize) -> usize
 
 // The first start from `begin` on that can begin, or the subject's end; `begin` itself if nothing is known. The start at the end is never passed
 // over: the caller walks it.
-pub fn skip_starts(set: &[u32; 8], any: bool, cost: u32, subject: &[u8], begin: u32) -> u32
+fn skip_starts(set: &[u32; 8], any: bool, cost: u32, subject: &[u8], begin: u32) -> u32
     requires { ⌜ (begin ≤ length (now subject) + 1) × (length (now subject) < 2 ^ 31) ⌝ }
     ensures { λ r. ⌜ Passed (now (set .entry)) any (now (subject .entry)) cost begin r ⌝ }
 {
@@ -75,4 +76,31 @@ pub fn skip_starts(set: &[u32; 8], any: bool, cost: u32, subject: &[u8], begin: 
     }
     let near = skip_fours(set, subject, at);
     skip_ones(set, subject, near) as u32
+}
+
+// A start, and the steps of those before it.
+pub struct Onward {
+    pub start: u32,
+    pub steps: u64,
+}
+
+// The first start from `begin` on that may begin. Those between cost their known steps.
+pub fn pass_starts(
+    set: &[u32; 8],
+    any: bool,
+    cost: u32,
+    subject: &[u8],
+    begin: u32,
+    steps: u64,
+) -> Onward
+    requires { ⌜ (begin ≤ length (now subject) + 1) × (length (now subject) ≤ subjectLimit) × (steps < 2 ^ 63) ⌝ }
+    ensures { λ o. ⌜ Passed (now (set .entry)) any (now (subject .entry)) cost begin (o .start) ⌝ }
+    ensures { λ o. ⌜ o .steps ≡ steps + (o .start - begin) * cost ⌝ }
+{
+    let from = skip_starts(set, any, cost, subject, begin);
+    let passed = (from - begin) as u64;
+    Onward {
+        start: from,
+        steps: steps + passed * (cost as u64),
+    }
 }

@@ -9,8 +9,8 @@
 // differ.
 use crate::output::put;
 use crate::output::put_number;
-use matcher::ROW_LENGTH;
-use matcher::UNSET;
+use index::ROW_LENGTH;
+use index::UNSET;
 ghost use Prim.Native.Nat.{_+_, _≤_};
 ghost use lib.ListN.{length};
 

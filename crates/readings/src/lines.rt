@@ -5,7 +5,7 @@ use crate::output::say;
 use crate::output::say_number;
 use crate::telling::tell;
 use crate::telling::tell_too_long;
-use matcher::Listing;
+use listing::Listing;
 use text::line_end;
 ghost use Prim.Native.Nat.{_≤_};
 ghost use lib.ListN.{length};
@@ -13,14 +13,14 @@ ghost use mathlib.Core.Path.{_≡_};
 ghost use Rattle.readings.specs.Parts.{kept as Parts·kept};
 
 // What is lent to the calls: 16 numbers for each step of the largest budget, and 1,000 rows.
-pub const RULE_AREA: usize = matcher::RULE_AREA_NEED;
+pub const RULE_AREA: usize = frame::RULE_AREA_NEED;
 
-pub const WORK_AREA: usize = matcher::WORK_PER_STEP * matcher::BUDGET_LIMIT as usize;
+pub const WORK_AREA: usize = frame::WORK_PER_STEP * frame::BUDGET_LIMIT as usize;
 
-pub const RESULT_AREA: usize = 1000 * matcher::ROW_LENGTH;
+pub const RESULT_AREA: usize = 1000 * index::ROW_LENGTH;
 
 // A line that fills this is too long: the longest that can be listed has one byte less.
-pub const LINE: usize = matcher::SUBJECT_LIMIT + 1;
+pub const LINE: usize = frame::SUBJECT_LIMIT + 1;
 
 // How many lines pass between two messages.
 const PROGRESS: u64 = 10000;

@@ -10,12 +10,12 @@ mod telling;
 
 use arguments::Value;
 use counts::KINDS;
+use frame::BUDGET_LIMIT;
 use lines::RESULT_AREA;
 use lines::RULE_AREA;
 use lines::Setting;
 use lines::WORK_AREA;
-use matcher::BUDGET_LIMIT;
-use matcher::Listing;
+use listing::Listing;
 use output::put;
 use output::say;
 use rule_file::ROOM;

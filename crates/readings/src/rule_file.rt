@@ -5,7 +5,7 @@ ghost use lib.ListN.{length};
 ghost use Rattle.readings.specs.Parts.{part, whole};
 
 // One byte more than the longest rule: a rule that fills this is too long, whatever follows.
-pub const ROOM: usize = matcher::RULE_LIMIT + 1;
+pub const ROOM: usize = frame::RULE_LIMIT + 1;
 
 // The rule is the first bytes of a buffer, or the file could not be read.
 pub enum Rule {

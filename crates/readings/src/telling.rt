@@ -13,7 +13,7 @@ use crate::counts::count;
 use crate::display::put_line;
 use crate::output::put;
 use crate::output::put_number;
-use matcher::Listing;
+use listing::Listing;
 ghost use Prim.Native.Nat.{_≤_};
 ghost use lib.ListN.{length};
 

@@ -14,12 +14,12 @@ use Rattle.syntax.specs.Laws.Places.{Placed, reading-placed}
 use Rattle.semantics.specs.Calls.{Call, matchCall, listCall, MatchOutcome, Matched as Answer·Matched, NotMatched as Answer·NotMatched, Exhausted as Answer·Exhausted, Refused as Answer·Refused, ListOutcome, Complete as Answer·Complete, Full as Answer·Full, ListExhausted, ListRefused}
 use Rattle.semantics.specs.Demands.{Faultless, ruleTooLong, Refuses, itself, itsRule}
 use Rattle.semantics.specs.DemandsHold.{match-meets-demands, list-meets-demands}
-use Rattle.matcher.specs.declared.matching.Outcome.{Outcome}
-use Rattle.matcher.specs.declared.matching.Outcome.the-variants.{Matched, NotMatched, Exhausted, Refused}
-use Rattle.matcher.specs.declared.listing.Listing.{Listing}
-use Rattle.matcher.specs.declared.listing.Listing.the-variants.{Complete, Full, Exhausted as Cut, Refused as Denied}
-use Rattle.matcher.specs.Outcomes.{outcomeOf}
-use Rattle.matcher.specs.Listing.{listingOf}
+use Rattle.matching.specs.declared.Outcome.{Outcome}
+use Rattle.matching.specs.declared.Outcome.the-variants.{Matched, NotMatched, Exhausted, Refused}
+use Rattle.listing.specs.declared.Listing.{Listing}
+use Rattle.listing.specs.declared.Listing.the-variants.{Complete, Full, Exhausted as Cut, Refused as Denied}
+use Rattle.matching.specs.Outcomes.{outcomeOf}
+use Rattle.listing.specs.Listing.{listingOf}
 use Rattle.terravisco.specs.Answers.{numbers, refusalNumbers, matchNumbers, listNumbers}
 
 -- Places ------------------------------------------------------------------------

@@ -1,14 +1,14 @@
 // The C interface: the two calls, with each outcome as six numbers. `include/terravisco.h` is its header.
-use matcher::Listing;
-use matcher::Outcome;
+use listing::Listing;
+use matching::Outcome;
 use syntax::Refusal;
 ghost use mathlib.Core.Path.{_≡_};
 ghost use Prim.Native.Nat.{_≤_};
 ghost use Rattle.syntax.specs.Limits.{ruleLimit};
 ghost use Rattle.semantics.specs.Calls.{matchCall, listCall};
-ghost use Rattle.matcher.specs.Inputs.{callOf};
-ghost use Rattle.matcher.specs.Outcomes.{outcomeOf};
-ghost use Rattle.matcher.specs.Listing.{listingOf};
+ghost use Rattle.frame.specs.Inputs.{callOf};
+ghost use Rattle.matching.specs.Outcomes.{outcomeOf};
+ghost use Rattle.listing.specs.Listing.{listingOf};
 ghost use Rattle.terravisco.specs.Answers.{numbers, refusalNumbers, matchNumbers, listNumbers, Answered};
 ghost use Rattle.terravisco.specs.Laws.{MatchPlaced, ListPlaced};
 
@@ -76,7 +76,7 @@ pub extern "C" fn terravisco_match(
 )
     ensures { λ _. ⌜ Answered matchNumbers (matchCall (callOf (now (rule .entry)) flags (now (subject .entry)) budget (now («rule_area» .entry)) (now («work_area» .entry)) (now (result .entry)))) (now (answer .exit)) (now («rule_area» .exit)) (now («work_area» .exit)) (now (result .exit)) ⌝ }
 {
-    let outcome = matcher::match_line(rule, flags, subject, budget, rule_area, work_area, result);
+    let outcome = matching::match_line(rule, flags, subject, budget, rule_area, work_area, result);
     tell_match(answer, outcome);
 }
 
@@ -94,7 +94,7 @@ pub extern "C" fn terravisco_list(
 )
     ensures { λ _. ⌜ Answered listNumbers (listCall (callOf (now (rule .entry)) flags (now (subject .entry)) budget (now («rule_area» .entry)) (now («work_area» .entry)) (now (result .entry)))) (now (answer .exit)) (now («rule_area» .exit)) (now («work_area» .exit)) (now (result .exit)) ⌝ }
 {
-    let outcome = matcher::list_readings(
+    let outcome = listing::list_readings(
         rule,
         flags,
         subject,

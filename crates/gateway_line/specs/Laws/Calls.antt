@@ -13,8 +13,8 @@ use Rattle.semantics.specs.Calls.{Call, MatchOutcome, matchCall}
 use Rattle.semantics.specs.Demands.{Accepted}
 use Rattle.semantics.specs.Laws.Refusals.{none-exactly}
 use Rattle.semantics.specs.Laws.MatchCalls.{match-row, returns-matched, returns-not-matched, returns-exhausted}
-use Rattle.matcher.specs.Inputs.{callOf, Returned}
-use Rattle.matcher.specs.Laws.Refusals.{acceptable}
+use Rattle.frame.specs.Inputs.{callOf, Returned}
+use Rattle.frame.specs.Laws.Refusals.{acceptable}
 use Rattle.gateway_line.specs.Limits.{lineLimit, gatewayBudget, gatewayFlags}
 use Rattle.gateway_line.specs.Answers.{matchedLine, tooLongLine, outcomeLine, answerLine}
 use Rattle.gateway_line.specs.Promises.{Reads, Lent, toldLine, Left, unlessLong}

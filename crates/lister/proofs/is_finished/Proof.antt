@@ -1,5 +1,5 @@
 -- By cases on the listing.
-use Rattle.matcher.specs.Listing.{listingOf}
+use Rattle.listing.specs.Listing.{listingOf}
 use borrow.Author.Needs.{needs}
 use Rattle.lister.proofs.is_finished.Statement.{statement}
 use Rattle.lister.proofs.is_finished.Tie as tie

@@ -2,14 +2,14 @@
 use mathlib.Core.Path.{_∙_, ap}
 use Rattle.terravisco.specs.Answers.{listNumbers}
 use denote.Ref.{now}
-use Rattle.matcher.specs.Inputs.{callOf}
+use Rattle.frame.specs.Inputs.{callOf}
 use Rattle.terravisco.specs.Laws.{list-told}
 use borrow.Author.Needs.{needs}
 use Rattle.terravisco.proofs.terravisco_list.Statement.{statement}
 use Rattle.terravisco.proofs.terravisco_list.Tie as tie
 use Rattle.terravisco.proofs.terravisco_list.Reads as reads
 use Rattle.terravisco.proofs.terravisco_list.Lts as lts
-use Rattle.matcher.proofs.list_readings.Reads as list-readings-reads
+use Rattle.listing.proofs.list_readings.Reads as list-readings-reads
 use Rattle.terravisco.proofs.tell_listing.Reads as tell-listing-reads
 
 list-readings-requires : tie.Need-list-readings-requires

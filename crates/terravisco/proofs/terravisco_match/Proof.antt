@@ -2,14 +2,14 @@
 use mathlib.Core.Path.{_∙_, ap}
 use Rattle.terravisco.specs.Answers.{matchNumbers}
 use denote.Ref.{now}
-use Rattle.matcher.specs.Inputs.{callOf}
+use Rattle.frame.specs.Inputs.{callOf}
 use Rattle.terravisco.specs.Laws.{match-told}
 use borrow.Author.Needs.{needs}
 use Rattle.terravisco.proofs.terravisco_match.Statement.{statement}
 use Rattle.terravisco.proofs.terravisco_match.Tie as tie
 use Rattle.terravisco.proofs.terravisco_match.Reads as reads
 use Rattle.terravisco.proofs.terravisco_match.Lts as lts
-use Rattle.matcher.proofs.match_line.Reads as match-line-reads
+use Rattle.matching.proofs.match_line.Reads as match-line-reads
 use Rattle.terravisco.proofs.tell_match.Reads as tell-match-reads
 
 match-line-requires : tie.Need-match-line-requires

@@ -1,0 +1,64 @@
+-- `compile_or_clear` meets its contract: what compiling tells is what the definition reads. A sound rule stands in the needed part of its area, and
+-- where the rule is refused both areas are cleared as if nothing had been written.
+use mathlib.Core.Path.{refl, _∙_}
+use native.Mathlib.Omega.{arith}
+use Rattle.syntax.specs.Limits.{ruleAreaNeed}
+use Rattle.frame.specs.Preparing.{unsound}
+use Rattle.frame.specs.Laws.Areas.{cleared-alike}
+use Rattle.frame.specs.Laws.Compiled.{compile-refused, compile-near, compile-sound}
+use borrow.Author.Needs.{needs}
+use Rattle.frame.proofs.preparing.compile_or_clear.Statement.{statement}
+use Rattle.frame.proofs.preparing.compile_or_clear.Tie as tie
+
+compile-requires : tie.Need-compile-requires
+compile-requires c κs = (c .before .before .before .before .pre .rule-fits, c .before .before .before .before .pre .rule-area-fits)
+
+enum-known-compiled : tie.Need-enum-known-compiled
+enum-known-compiled c = search needs
+
+cast-entry : tie.Need-cast-entry
+unfolding ruleAreaNeed
+cast-entry c = omega (arith, compile-near (c .before .before .before .before .before .compile .ensures) _ _ (c .before .compiled .given .1))
+
+enum-known-compiled-2 : tie.Need-enum-known-compiled-2
+enum-known-compiled-2 c = search needs
+
+finish-requires : tie.Need-finish-requires
+finish-requires c κs = (omega (arith, c .before .before .before .before .before .before .before .compile .ensures .long, c .before .before .before .before .before .before .before .before .before .before .before .before .pre .rule-area-fits), c .before .before .before .before .before .before .before .before .before .before .before .before .pre .work-area-fits)
+
+same-length : tie.Need-same-length
+same-length c = search needs
+
+returns : tie.Need-returns
+returns c =
+    λ line results e.
+    (let m = c .before .before .before .before .before .compile .ensures in
+    let z = compile-sound m _ _ (c .before .compiled .given .1) (omega (arith, m .long, c .before .before .before .before .before .before .before .before .before .before .pre .rule-area-fits)) in
+    record { accepted = e; tree = z .0; stop = z .1; reads = z .2; stands = z .3; long = m .long; rest = m .rest; untouched = refl })
+
+same-length-2 : tie.Need-same-length-2
+same-length-2 c = search needs
+
+same-length-3 : tie.Need-same-length-3
+same-length-3 c = search needs
+
+returns-2 : tie.Need-returns-2
+returns-2 c =
+    λ line results e.
+    (let m = c .before .before .before .before .before .before .before .before .before .before .before .before .compile .ensures in
+    unsound e (compile-refused m _ (c .before .before .before .before .before .before .before .before .compiled2 .given .1)) (c .before .before .before .before .finish .ensures .0 ∙ cleared-alike ruleAreaNeed _ _ (m .rest)) (c .before .before .before .before .finish .ensures .1))
+
+pub compile-or-clear-spec : {M : Type 1} → statement M
+compile-or-clear-spec =
+    tie.close
+    (tie.spec
+    compile-requires
+    enum-known-compiled
+    cast-entry
+    enum-known-compiled-2
+    finish-requires
+    same-length
+    returns
+    same-length-2
+    same-length-3
+    returns-2)

@@ -1,0 +1,27 @@
+-- What is answered on whether a call is acceptable.
+use mathlib.Core.Path.{_≡_}
+use mathlib.Core.Option.{Option, none, some}
+use mathlib.Core.Bool.{Bool}
+use Prim.Native.Nat.{ℕ}
+use lib.ListN.{length}
+use lib.Dec.{ltb}
+use Rattle.syntax.specs.declared.Reason.{Reason}
+use Rattle.syntax.specs.Limits.{rowLength}
+use Rattle.semantics.specs.Calls.{Call}
+use Rattle.frame.specs.declared.refusals.Fitness.{Fitness}
+use Rattle.frame.specs.declared.refusals.Fitness.the-variants.{Fits, Unfit}
+
+-- the reason that an answer names
+unfoldable pub fitnessOf : Fitness → Option Reason
+fitnessOf Fits = none
+fitnessOf (Unfit why) = some why
+
+-- what of a call it is accepted or refused by
+pub record Sized (c : Call) (rule flags subject budget ruleArea workArea : ℕ) (short : Bool) : Type 0 where
+  pub rule-is : length (c .rule) ≡ rule
+  pub flags-is : c .flags ≡ flags
+  pub subject-is : length (c .subject) ≡ subject
+  pub budget-is : c .budget ≡ budget
+  pub rule-area-is : length (c .ruleArea) ≡ ruleArea
+  pub work-area-is : length (c .workArea) ≡ workArea
+  pub short-is : ltb (length (c .resultArea)) rowLength ≡ short

@@ -1,0 +1,40 @@
+-- What calls share: the inputs as they stand in the code's arguments, that a call's return is the one that is defined, and what an inside is lent.
+use mathlib.Core.Path.{_≡_}
+use mathlib.Core.List.{List}
+use Prim.Native.Nat.{ℕ, _≤_}
+use lib.ListN.{length}
+use Rattle.syntax.specs.Limits.{subjectLimit, ruleAreaNeed}
+use Rattle.syntax.specs.Tree.{Rule}
+use Rattle.semantics.specs.Calls.{Call, Return, workAreaNeed}
+use Rattle.machine.specs.Theorem.{Stands}
+
+abbrev pub callOf : (rule : List ℕ) (flags : ℕ) (subject : List ℕ) (budget : ℕ) (ruleArea workArea resultArea : List ℕ) → Call
+callOf rule flags subject budget ruleArea workArea resultArea = record {
+  rule = rule;
+  flags = flags;
+  subject = subject;
+  budget = budget;
+  ruleArea = ruleArea;
+  workArea = workArea;
+  resultArea = resultArea;
+}
+
+-- the answer, and what stands in the areas, are those of a return
+pub record Returned {A : Type 0} (is : Return A) (told : A) (ruleArea workArea resultArea : List ℕ) : Type 0 where
+  pub outcome-is : told ≡ is .outcome
+  pub rule-area-is : ruleArea ≡ is .ruleArea
+  pub work-area-is : workArea ≡ is .workArea
+  pub result-area-is : resultArea ≡ is .resultArea
+
+-- the same before the rule area and the work area are cleared
+pub record Told {A : Type 0} (is : Return A) (told : A) (resultArea : List ℕ) : Type 0 where
+  pub outcome-is : told ≡ is .outcome
+  pub result-area-is : resultArea ≡ is .resultArea
+
+-- a rule stands compiled, held for an inside, and the line and the work area are as a call that is accepted has them
+pub record Held (code subject work : List ℕ) (entry budget : ℕ) : Type 0 where
+  pub tree : Rule
+  pub stands : Stands code tree entry
+  pub code-size : length code ≡ ruleAreaNeed
+  pub subject-fits : length subject ≤ subjectLimit
+  pub work-fits : workAreaNeed budget ≤ length work

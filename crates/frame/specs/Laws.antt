@@ -1,0 +1,6 @@
+-- Facts for whoever makes a call of its inside.
+pub mod Refusals
+pub mod Areas
+pub mod Calls
+pub mod Compiled
+pub mod Preparing

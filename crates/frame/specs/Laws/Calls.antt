@@ -1,0 +1,60 @@
+-- What is returned to a call that is refused or accepted.
+use mathlib.Core.Path.{_≡_, refl}
+use mathlib.Core.Bool.{Bool, true, false}
+use mathlib.Core.List.{List, []}
+use mathlib.Core.Option.{none, some}
+use Prim.Native.Nat.{ℕ}
+use native.Mathlib.Omega.{arith}
+use borrow.Author.Tests.{le-ltb}
+use lib.ListN.{length, replicate, length-replicate}
+use lib.Dec.{ltb}
+use Rattle.syntax.specs.declared.Reason.{Reason}
+use Rattle.syntax.specs.Limits.{rowLength}
+use Rattle.syntax.specs.Read.{sound, refused}
+use Rattle.syntax.specs.Tree.{Rule}
+use Rattle.syntax.specs.Reading.{reading}
+use Rattle.semantics.specs.Calls.{Call, Return, unacceptable, untouched, leaving, withReading, unlessRefused, call}
+use Rattle.frame.specs.declared.refusals.Fitness.{Fitness}
+use Rattle.frame.specs.declared.refusals.Fitness.the-variants.{Fits, Unfit}
+use Rattle.frame.specs.Fitness.{fitnessOf, Sized}
+use Rattle.frame.specs.Inputs.{callOf}
+
+-- the sizes of a call are those of the code's arguments
+pub sized : (rule : List ℕ) (flags : ℕ) (subject : List ℕ) (budget : ℕ) (ruleArea workArea resultArea : List ℕ) {long : ℕ} {short : Bool} → length subject ≡ long → ltb (length resultArea) rowLength ≡ short
+    → Sized (callOf rule flags subject budget ruleArea workArea resultArea) (length rule) flags long budget (length ruleArea) (length workArea) short
+sized rule flags subject budget ruleArea workArea resultArea l s = record { rule-is = refl; flags-is = refl; subject-is = l; budget-is = refl; rule-area-is = refl; work-area-is = refl; short-is = s }
+
+-- there is a result area that is short, and one that is not
+pub some-results : (short : Bool) → (results : List ℕ) × (ltb (length results) rowLength ≡ short)
+unfolding rowLength
+some-results true = ([], refl)
+some-results false = let l : List ℕ = replicate rowLength 0 in (l, le-ltb (length l) rowLength (omega (arith, length-replicate {A = ℕ} rowLength 0)))
+
+module _ (c : Call) {f : Fitness} (is : fitnessOf f ≡ unacceptable c) where
+  pub is-fit : f ≡ Fits → none ≡ unacceptable c
+  unfolding fitnessOf
+  is-fit e = rw e at is
+
+  pub is-unfit : (why : Reason) → f ≡ Unfit why → some why ≡ unacceptable c
+  unfolding fitnessOf
+  is-unfit why e = rw e at is
+
+module _ {A : Type 0} (refusal : ℕ → Reason → A) (answered : Call → Rule → Return A) (c : Call) where
+  pub refused-call : (why : Reason) → some why ≡ unacceptable c → untouched (refusal 0 why) c ≡ call refusal answered c
+  unfolding call unlessRefused
+  refused-call why e = rw (← e)
+
+  pub accepted-call : none ≡ unacceptable c → withReading refusal answered c (reading (c .rule) (c .flags)) ≡ call refusal answered c
+  unfolding call unlessRefused
+  accepted-call e = rw (← e)
+
+  -- a rule that is refused, and one that is sound
+  pub refused-rule : (place : ℕ) (why : Reason) → reading (c .rule) (c .flags) ≡ refused place why
+      → leaving (refusal place why) [] c ≡ withReading refusal answered c (reading (c .rule) (c .flags))
+  unfolding withReading
+  refused-rule place why e = rw e
+
+  pub sound-rule : (x : Rule) (groups at : ℕ) → reading (c .rule) (c .flags) ≡ sound (x, groups) at
+      → answered c x ≡ withReading refusal answered c (reading (c .rule) (c .flags))
+  unfolding withReading
+  sound-rule x groups at e = rw e

@@ -1,0 +1,42 @@
+-- What compiling a rule tells whoever goes on to walk it.
+use mathlib.Core.Path.{_≡_, _∙_, subst}
+use mathlib.Core.List.{List}
+use Prim.Native.Nat.{ℕ, _≤_, _<_}
+use native.Mathlib.Omega.{arith}
+use lib.ListN.{length, take, getD}
+use lib.Seq.{getD-take, length-take-le}
+use Rattle.syntax.specs.declared.Refusal.{Refusal}
+use Rattle.syntax.specs.Limits.{ruleAreaNeed, spansLength}
+use Rattle.syntax.specs.Read.{sound, refused}
+use Rattle.syntax.specs.Tree.{Rule}
+use Rattle.syntax.specs.Reading.{reading}
+use Rattle.reader.specs.declared.compiling.Compilation.{Compilation}
+use Rattle.reader.specs.declared.compiling.Compilation.the-variants.{Sound, Refused}
+use Rattle.reader.specs.Compiles.{Says, Compiles, Stands as Compiled}
+use Rattle.linker.proofs.Compiled.{keep}
+use Rattle.machine.specs.Theorem.{Stands}
+
+module _ {s : List ℕ} {flags : ℕ} {old new : List ℕ} {r : Compilation} (h : Compiles s flags old new r) where
+  pub compile-refused : (f : Refusal) → r ≡ Refused f → reading s flags ≡ refused (f .place) (f .reason)
+  compile-refused f e = subst (λ (x : Compilation). Says s flags new x) e (h .says)
+
+  pub compile-near : (pc groups : ℕ) → r ≡ Sound pc groups → pc ≤ ruleAreaNeed
+  compile-near pc groups e = let z : Compiled s flags new pc groups = subst (λ (x : Compilation). Says s flags new x) e (h .says) in z .near
+
+  -- the rule stands in the needed part of the area alone
+  pub compile-sound : (pc groups : ℕ) → r ≡ Sound pc groups → ruleAreaNeed ≤ length new → (x : Rule) × (at : ℕ) × (reading s flags ≡ sound (x, groups) at) × Stands (take ruleAreaNeed new) x pc
+  unfolding ruleAreaNeed
+  compile-sound pc groups e l =
+      let z : Compiled s flags new pc groups = subst (λ (x : Compilation). Says s flags new x) e (h .says) in
+      let front : (i : ℕ) → i < ruleAreaNeed → getD (take ruleAreaNeed new) i 0 ≡ getD new i 0 = λ i u. getD-take ruleAreaNeed new i 0 u in (
+        z .tree,
+        z .stop,
+        z .reads,
+        record {
+          low = 1;
+          high = ruleAreaNeed;
+          within = omega (arith, length-take-le ruleAreaNeed new l);
+          end = front 0 (omega arith) ∙ z .end;
+          compiled = keep new (take ruleAreaNeed new) 1 ruleAreaNeed 1 ruleAreaNeed (omega arith) (omega arith) (λ i a b. front i b) (z .tree) pc 0 spansLength (z .compiled);
+        },
+      )

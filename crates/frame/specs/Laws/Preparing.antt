@@ -1,0 +1,79 @@
+-- A call is what preparing it, its inside and finishing it make: what is returned to it is what `call` defines, whatever its inside is.
+use mathlib.Core.Path.{_≡_, refl, sym, _∙_, subst}
+use mathlib.Core.List.{List}
+use Prim.Native.Nat.{ℕ, _≤_}
+use native.Mathlib.Omega.{arith}
+use lib.ListN.{length, take, drop}
+use lib.Seq.{length-take-le}
+use Rattle.syntax.specs.declared.Reason.{Reason}
+use Rattle.syntax.specs.declared.Refusal.{Refusal}
+use Rattle.syntax.specs.Limits.{ruleAreaNeed, rowLength}
+use Rattle.syntax.specs.Tree.{Rule}
+use Rattle.semantics.specs.Calls.{Call, Return, workAreaNeed, cleared, untouched, leaving, call}
+use Rattle.frame.specs.declared.preparing.Preparation.{Preparation}
+use Rattle.frame.specs.declared.preparing.Preparation.the-variants.{Ready, Refused}
+use Rattle.frame.specs.Inputs.{Returned, Told, Held}
+use Rattle.frame.specs.Preparing.{Denied, unread, unsound, Readied, Prepares}
+use Rattle.frame.specs.Laws.Areas.{over-none, cleared-alike}
+use Rattle.frame.specs.Laws.Refusals.{Acceptable, accepted}
+use Rattle.frame.specs.Laws.Calls.{refused-call, accepted-call, refused-rule, sound-rule}
+
+-- what preparing says, once its answer is known
+module _ {c : Call} {r : Preparation} {ruleArea workArea : List ℕ} (h : Prepares c r ruleArea workArea) where
+  pub is-ready : (entry groups : ℕ) → r ≡ Ready entry groups → Readied c entry groups ruleArea workArea
+  is-ready entry groups e = subst (λ (x : Preparation). Prepares c x ruleArea workArea) e h
+
+  pub is-denied : (f : Refusal) → r ≡ Refused f → Denied c f ruleArea workArea
+  is-denied f e = subst (λ (x : Preparation). Prepares c x ruleArea workArea) e h
+
+module _ {c : Call} {entry groups : ℕ} {ruleArea workArea : List ℕ} (h : Readied c entry groups ruleArea workArea) where
+  fit : Acceptable c
+  fit = accepted c (h .accepted)
+
+  -- the areas are as long as is needed
+  pub rule-area-long : ruleAreaNeed ≤ length ruleArea
+  rule-area-long = omega (arith, h .long, fit .rule-area-fits)
+
+  pub work-area-long : workAreaNeed (c .budget) ≤ length workArea
+  work-area-long = rw (h .untouched) (fit .work-area-fits)
+
+  pub results-long : rowLength ≤ length (c .resultArea)
+  results-long = fit .results-fit
+
+  -- an inside finds its rule, its line and its work area
+  pub readied-held : Held (take ruleAreaNeed ruleArea) (c .subject) workArea entry (c .budget)
+  readied-held = record {
+    tree = h .tree;
+    stands = h .stands;
+    code-size = length-take-le ruleAreaNeed ruleArea rule-area-long;
+    subject-fits = fit .subject-fits;
+    work-fits = work-area-long;
+  }
+
+module _ {A : Type 0} (refusal : ℕ → Reason → A) (answered : Call → Rule → Return A) {c : Call} where
+  -- a refused call
+  pub denied-returns : {f : Refusal} {ruleArea workArea : List ℕ} → Denied c f ruleArea workArea → Returned (call refusal answered c) (refusal (f .place) (f .reason)) ruleArea workArea (c .resultArea)
+  unfolding untouched leaving
+  denied-returns {f} {ruleArea} {workArea} (unread p e r w) =
+      rw p
+      (subst (λ (x : Return A). Returned x (refusal 0 (f .reason)) ruleArea workArea (c .resultArea)) (refused-call refusal answered c (f .reason) e)
+      (record { outcome-is = refl; rule-area-is = r; work-area-is = w; result-area-is = refl }))
+  denied-returns {f} {ruleArea} {workArea} (unsound a e r w) =
+      subst (λ (x : Return A). Returned x (refusal (f .place) (f .reason)) ruleArea workArea (c .resultArea)) (refused-rule refusal answered c (f .place) (f .reason) e ∙ accepted-call refusal answered c a)
+      (record { outcome-is = refl; rule-area-is = r; work-area-is = w; result-area-is = sym (over-none (c .resultArea)) })
+
+  -- a call that is answered, where every answer leaves the areas cleared. Its inside wrote `worked` into the work area, and no more than it needs.
+  pub readied-returns : ((x : Rule) → (answered c x .ruleArea ≡ cleared ruleAreaNeed (c .ruleArea)) × (answered c x .workArea ≡ cleared (workAreaNeed (c .budget)) (c .workArea)))
+      → {entry groups : ℕ} {ruled workArea : List ℕ} (h : Readied c entry groups ruled workArea) (worked : List ℕ) → drop (workAreaNeed (c .budget)) worked ≡ drop (workAreaNeed (c .budget)) workArea
+      → {told : A} {ruleArea′ workArea′ resultArea : List ℕ} → Told (answered c (h .tree)) told resultArea
+      → ruleArea′ ≡ cleared ruleAreaNeed ruled → workArea′ ≡ cleared (workAreaNeed (c .budget)) worked
+      → Returned (call refusal answered c) told ruleArea′ workArea′ resultArea
+  readied-returns clears {entry} {groups} {ruled} {workArea} h worked kept {told} {ruleArea′} {workArea′} {resultArea} t r w =
+      let z = clears (h .tree) in
+      subst (λ (x : Return A). Returned x told ruleArea′ workArea′ resultArea) (sound-rule refusal answered c (h .tree) groups (h .stop) (h .reads) ∙ accepted-call refusal answered c (h .accepted))
+      (record {
+        outcome-is = t .outcome-is;
+        rule-area-is = r ∙ cleared-alike ruleAreaNeed _ _ (h .rest) ∙ sym (z .0);
+        work-area-is = w ∙ cleared-alike (workAreaNeed (c .budget)) _ _ (kept ∙ rw (h .untouched)) ∙ sym (z .1);
+        result-area-is = t .result-area-is;
+      })

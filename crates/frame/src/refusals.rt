@@ -1,0 +1,59 @@
+// What is refused before the rule is read.
+use syntax::Reason;
+ghost use mathlib.Core.Path.{_≡_};
+ghost use Rattle.semantics.specs.Calls.{Call, unacceptable};
+ghost use Rattle.frame.specs.Fitness.{fitnessOf, Sized};
+
+pub const RULE_LIMIT: usize = 1000;
+
+pub const SUBJECT_LIMIT: usize = 65535;
+// the least number that no flags have
+const FLAGS_LIMIT: u32 = 4;
+
+pub const BUDGET_LIMIT: u32 = 100000;
+
+pub const RULE_AREA_NEED: usize = 16384;
+
+pub const WORK_PER_STEP: usize = 16;
+
+// Whether a call can be answered, and if not, why.
+pub enum Fitness {
+    Fits,
+    Unfit(Reason),
+}
+
+// Whether a call is acceptable, by the lengths of what is handed in, the flags and the budget, and by whether the result area is too short.
+pub fn unfit(
+    rule: usize,
+    flags: u32,
+    subject: usize,
+    budget: u32,
+    rule_area: usize,
+    work_area: usize,
+    short: bool,
+) -> Fitness
+    ensures { λ r. ⌜ ((c : Call) → Sized c rule flags subject budget «rule_area» «work_area» short → fitnessOf r ≡ unacceptable c) ⌝ }
+{
+    if RULE_LIMIT < rule {
+        return Fitness::Unfit(Reason::RuleTooLong);
+    }
+    if SUBJECT_LIMIT < subject {
+        return Fitness::Unfit(Reason::SubjectTooLong);
+    }
+    if FLAGS_LIMIT <= flags {
+        return Fitness::Unfit(Reason::UnknownFlag);
+    }
+    if BUDGET_LIMIT < budget {
+        return Fitness::Unfit(Reason::BudgetTooLarge);
+    }
+    if rule_area < RULE_AREA_NEED {
+        return Fitness::Unfit(Reason::RuleAreaShort);
+    }
+    if work_area < WORK_PER_STEP * budget as usize {
+        return Fitness::Unfit(Reason::WorkAreaShort);
+    }
+    if short {
+        return Fitness::Unfit(Reason::ResultAreaShort);
+    }
+    Fitness::Fits
+}

@@ -1,0 +1,4 @@
+-- Facts about rows in the result area, about parts of the work area, and about what a listing tells.
+pub mod Rows
+pub mod Parts
+pub mod Listings

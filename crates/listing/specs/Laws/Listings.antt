@@ -1,0 +1,20 @@
+-- A listing's answer is what its call returns.
+use mathlib.Core.Path.{_≡_, refl}
+use mathlib.Core.List.{List}
+use Prim.Native.Nat.{ℕ}
+use Rattle.syntax.specs.Limits.{ruleAreaNeed}
+use Rattle.syntax.specs.Tree.{Rule}
+use Rattle.semantics.specs.Calls.{Call, workAreaNeed, cleared, leaving, listRule}
+use Rattle.listing.specs.declared.Listing.{Listing}
+use Rattle.frame.specs.Inputs.{Told}
+use Rattle.listing.specs.Listing.{listingOf, Lists}
+
+-- after every listing the areas are clear
+pub list-clears : (c : Call) (x : Rule) → (listRule c x .ruleArea ≡ cleared ruleAreaNeed (c .ruleArea)) × (listRule c x .workArea ≡ cleared (workAreaNeed (c .budget)) (c .workArea))
+unfolding listRule leaving
+list-clears c x = (refl, refl)
+
+-- what is told of a rule's listing is what its call returns
+pub lists-told : (c : Call) (x : Rule) (o : Listing) (new : List ℕ) → Lists (c .subject) x (c .budget) (c .resultArea) new o → Told (listRule c x) (listingOf o) new
+unfolding listRule leaving
+lists-told c x o new l = record { outcome-is = l .outcome; result-area-is = l .results }

@@ -1,0 +1,2 @@
+-- The law of the loop over the starts, which its proof cites.
+mod Seeking

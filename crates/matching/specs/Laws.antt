@@ -1,0 +1,2 @@
+-- Facts about what a match tells.
+pub mod Outcomes

@@ -1,0 +1,36 @@
+-- A match's answer is what its call returns.
+use mathlib.Core.Path.{_≡_, refl, sym, _∙_}
+use mathlib.Core.List.{List}
+use Prim.Native.Nat.{ℕ}
+use Rattle.syntax.specs.Limits.{ruleAreaNeed}
+use Rattle.syntax.specs.Tree.{Rule}
+use Rattle.semantics.specs.Answers.{Outcome, matched, notMatched, exhausted, Answer, answer}
+use Rattle.semantics.specs.Calls.{Call, workAreaNeed, cleared, leaving, matchReturns, matchRule}
+use Rattle.matching.specs.declared.Outcome.{Outcome as Answered}
+use Rattle.matching.specs.declared.Outcome.the-variants.{Matched, NotMatched, Exhausted, Refused}
+use Rattle.frame.specs.Inputs.{Told}
+use Rattle.matching.specs.Outcomes.{outcomeOf, Reports}
+use Rattle.frame.specs.Laws.Areas.{over-none}
+
+returns-clear : (c : Call) (o : Outcome) (steps : ℕ) → (matchReturns c o steps .ruleArea ≡ cleared ruleAreaNeed (c .ruleArea)) × (matchReturns c o steps .workArea ≡ cleared (workAreaNeed (c .budget)) (c .workArea))
+unfolding matchReturns leaving
+returns-clear c (matched start t) steps = (refl, refl)
+returns-clear c notMatched steps = (refl, refl)
+returns-clear c (exhausted start) steps = (refl, refl)
+
+-- after every answer the areas are clear
+pub match-clears : (c : Call) (x : Rule) → (matchRule c x .ruleArea ≡ cleared ruleAreaNeed (c .ruleArea)) × (matchRule c x .workArea ≡ cleared (workAreaNeed (c .budget)) (c .workArea))
+unfolding matchRule
+match-clears c x = let a = answer (c .subject) x (c .budget) in returns-clear c (a .outcome) (a .steps)
+
+told : (c : Call) (o : Answered) (new : List ℕ) (a : Answer) → Reports (c .resultArea) new o a → Told (matchReturns c (a .outcome) (a .steps)) (outcomeOf o) new
+unfolding matchReturns leaving outcomeOf
+told c (Matched steps) new a r = rw (r .2) (record { outcome-is = refl; result-area-is = r .3 })
+told c (NotMatched steps) new a r = rw (r .0) (record { outcome-is = refl; result-area-is = r .1 ∙ sym (over-none (c .resultArea)) })
+told c (Exhausted start steps) new a r = rw (r .0) (record { outcome-is = refl; result-area-is = r .1 ∙ sym (over-none (c .resultArea)) })
+told c (Refused why) new a r = absurd r
+
+-- what is told of a rule's answer is what its call returns
+pub reports-told : (c : Call) (x : Rule) (o : Answered) (new : List ℕ) → Reports (c .resultArea) new o (answer (c .subject) x (c .budget)) → Told (matchRule c x) (outcomeOf o) new
+unfolding matchRule
+reports-told c x o new r = told c o new (answer (c .subject) x (c .budget)) r

@@ -1,0 +1,3 @@
+-- What a match tells.
+pub mod Outcomes
+pub mod Laws

@@ -1,0 +1,140 @@
+// The match: the starts in order, each walked up to its first end. A start that cannot begin is passed over, its steps counted; the first end that
+// is reached is the answer, and its row the only one that is written.
+//
+// `match_line` is the call, which compiles its rule and clears what it was lent. `match_held` is its inside, for a rule that stands compiled: it may be
+// used for one line after another, and costs the walk and the writing of 162 registers.
+use frame::Preparation;
+use frame::REGISTERS;
+use frame::RULE_AREA_NEED;
+use frame::WORK_PER_STEP;
+use frame::finish;
+use frame::prepare;
+use index::ROW_LENGTH;
+use index::UNSET;
+use index::write_row;
+use machine::Stop;
+use machine::run_to_end;
+use machine::start;
+use openings::find_opening;
+use openings::pass_starts;
+use syntax::Refusal;
+ghost use mathlib.Core.Path.{_≡_};
+ghost use Prim.Native.Nat.{_≤_};
+ghost use lib.ListN.{length, drop};
+ghost use Rattle.syntax.specs.Limits.{rowLength};
+ghost use Rattle.semantics.specs.Calls.{workAreaNeed, matchCall};
+ghost use Rattle.machine.specs.Theorem.{Clear};
+ghost use Rattle.frame.specs.Inputs.{callOf, Returned, Held};
+ghost use Rattle.matching.specs.Outcomes.{outcomeOf, Finds};
+
+// What a match tells: matched or not, and the steps; or the start at which its budget was used up, and the steps; or why it is refused.
+pub enum Outcome {
+    Matched(u64),
+    NotMatched(u64),
+    Exhausted(u32, u64),
+    Refused(Refusal),
+}
+
+// The first match of a compiled rule, with its row written; the registers are clear.
+fn search(
+    code: &[u32],
+    subject: &[u8],
+    regs: &mut [u32],
+    work: &mut [u32],
+    results: &mut [u32],
+    entry: u32,
+    budget: u32,
+) -> Outcome
+    requires { ⌜ Held (now code) (now subject) (now work) entry budget × (rowLength ≤ length (now results)) ⌝ }
+    requires { ⌜ Clear (now regs) ⌝ }
+    ensures { λ r. ⌜ Finds (now (code .entry)) (now (subject .entry)) (now (results .entry)) (now (results .exit)) entry budget r ⌝ }
+{
+    let open = find_opening(code, entry, budget, subject.len());
+    let cost = open.cost;
+    let any = open.any;
+    let set = open.set;
+    let mut begin: u32 = 0;
+    let mut steps: u64 = 0;
+    while begin as usize <= subject.len() {
+        let m = start(entry, begin);
+        match run_to_end(code, subject, regs, work, m, budget) {
+            Stop::End(used, e) => {
+                write_row(results, 0, begin, e.at, regs);
+                return Outcome::Matched(steps + used as u64);
+            }
+            Stop::Nothing(used) => {
+                let on = pass_starts(&set, any, cost, subject, begin + 1, steps + used as u64);
+                begin = on.start;
+                steps = on.steps;
+            }
+            Stop::Spent => {
+                return Outcome::Exhausted(begin, steps + budget as u64);
+            }
+        }
+    }
+    Outcome::NotMatched(steps)
+}
+
+// The first match of a rule that stands compiled, with its row written.
+pub fn match_held(
+    code: &[u32],
+    entry: u32,
+    subject: &[u8],
+    budget: u32,
+    work: &mut [u32],
+    results: &mut [u32],
+) -> Outcome
+    requires { ⌜ Held (now code) (now subject) (now work) entry budget × (rowLength ≤ length (now results)) ⌝ }
+    ensures { λ r. ⌜ Finds (now (code .entry)) (now (subject .entry)) (now (results .entry)) (now (results .exit)) entry budget r ⌝ }
+    ensures { λ _. ⌜ drop (workAreaNeed budget) (now (work .exit)) ≡ drop (workAreaNeed budget) (now (work .entry)) ⌝ }
+{
+    let mut regs = [UNSET; REGISTERS];
+    let need = WORK_PER_STEP * budget as usize;
+    search(
+        code,
+        subject,
+        &mut regs,
+        &mut work[..need],
+        results,
+        entry,
+        budget,
+    )
+}
+
+// Matches a rule against a subject. A row for the first match is written into the results.
+pub fn match_line(
+    rule: &[u8],
+    flags: u32,
+    subject: &[u8],
+    budget: u32,
+    rule_area: &mut [u32],
+    work_area: &mut [u32],
+    results: &mut [u32],
+) -> Outcome
+    ensures { λ r. ⌜ Returned (matchCall (callOf (now (rule .entry)) flags (now (subject .entry)) budget (now («rule_area» .entry)) (now («work_area» .entry)) (now (results .entry)))) (outcomeOf r) (now («rule_area» .exit)) (now («work_area» .exit)) (now (results .exit)) ⌝ }
+{
+    let short = results.len() < ROW_LENGTH;
+    match prepare(
+        rule,
+        flags,
+        subject.len(),
+        budget,
+        rule_area,
+        work_area,
+        short,
+    ) {
+        Preparation::Refused(f) => Outcome::Refused(f),
+        Preparation::Ready(entry, _groups) => {
+            let told = match_held(
+                &rule_area[..RULE_AREA_NEED],
+                entry,
+                subject,
+                budget,
+                work_area,
+                results,
+            );
+            finish(rule_area, work_area, budget);
+            told
+        }
+    }
+}
