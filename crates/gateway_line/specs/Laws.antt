@@ -1,6 +1,5 @@
 -- Facts about answers that proofs cite.
 pub mod Lines
 pub mod Rules
-pub mod Gathering
 pub mod Calls
 pub mod Streams

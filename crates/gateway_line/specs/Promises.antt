@@ -42,13 +42,6 @@ pub record Lent (rule : List ℕ) (groups : ℕ) (ruleArea workArea results : Li
 
 -- A line --------------------------------------------------------------------
 
--- A piece of a line was put behind the part that is held, up to the limit.
-pub record Gathered (old : List ℕ) (have : ℕ) (piece new : List ℕ) (now : ℕ) : Type 0 where
-  pub holds : take now new ≡ take heldLimit (take have old ++ piece)
-  pub others : drop now new ≡ drop now old
-  pub fits : now ≤ heldLimit
-  pub size : length new ≡ length old
-
 -- the line for what a match tells, with its row
 unfoldable pub toldLine : (groups : ℕ) → MatchOutcome → Row → List ℕ
 toldLine groups (Matched steps) x = matchedLine groups x

@@ -1,5 +1,4 @@
 // The answer to one line.
-use crate::gathering::LINE_LIMIT;
 use crate::lines::write_exhausted;
 use crate::lines::write_matched;
 use crate::lines::write_not_matched;
@@ -18,6 +17,9 @@ ghost use Rattle.gateway_line.specs.Limits.{gatewayBudget, gatewayFlags,
 ghost use Rattle.gateway_line.specs.Promises.{WroteLine, Lent, toldLine, Answered, Left};
 
 pub const BUDGET: u32 = 1000;
+
+// How many bytes a line may have.
+pub const LINE_LIMIT: usize = 256;
 
 // Writes what a match tells. The row counts only if it is one that matched.
 fn tell(outcome: Outcome, row: &[u32], groups: u32, out: &mut [u8], at: usize) -> usize

@@ -1,11 +1,15 @@
 // An input that comes in pieces: the lines that end in a piece are answered, and the beginning of one that does not is held.
+use crate::answering::LINE_LIMIT;
 use crate::answering::answer;
-use crate::gathering::gather;
+use text::gather;
 use text::line_end;
 ghost use Prim.Native.Nat.{_+_, _≤_};
 ghost use lib.ListN.{length, take};
 ghost use Rattle.gateway_line.specs.Limits.{heldLimit, answerRoom};
 ghost use Rattle.gateway_line.specs.Promises.{Lent, Onward, Advanced, Finished};
+
+// How many bytes of a line are held: with one more than the limit, a line is known to be over it.
+pub const HELD_LIMIT: usize = LINE_LIMIT + 1;
 
 // How far the program is: the position in the piece, how many bytes of the line are held, and the position in the output.
 pub struct Progress {
@@ -35,7 +39,7 @@ pub fn advance(
     let have = p.have;
     let put = p.put;
     let end = line_end(piece, at);
-    let held = gather(line, have, &piece[at..end]);
+    let held = gather(line, HELD_LIMIT, have, &piece[at..end]);
     if end == piece.len() {
         return Progress {
             at: end,

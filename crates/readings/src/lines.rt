@@ -6,6 +6,7 @@ use crate::output::say_number;
 use crate::telling::tell;
 use crate::telling::tell_too_long;
 use listing::Listing;
+use text::gather;
 use text::line_end;
 ghost use Prim.Native.Nat.{_≤_};
 ghost use lib.ListN.{length};
@@ -105,7 +106,7 @@ fn take_piece(
     let mut kept = have;
     while at < piece.len() {
         let end = line_end(piece, at);
-        kept = report::gather(&piece[at..end], buffer, kept);
+        kept = gather(buffer, LINE, kept, &piece[at..end]);
         if end == piece.len() {
             return kept;
         }

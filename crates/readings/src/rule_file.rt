@@ -1,4 +1,5 @@
 // The rule in its file: what stands before the first 0A, or all of it.
+use text::gather;
 use text::line_end;
 ghost use Prim.Native.Nat.{_≤_};
 ghost use lib.ListN.{length};
@@ -34,12 +35,13 @@ fn read_on(fd: i32, rule: &mut [u8], have: usize) -> Part
     if n == 0 {
         return Part::All(have);
     }
+    let room = rule.len();
     let end = line_end(&buffer[..n], 0);
-    let now = report::gather(&buffer[..end], rule, have);
+    let now = gather(rule, room, have, &buffer[..end]);
     if end < n {
         return Part::All(now);
     }
-    if now == rule.len() {
+    if now == room {
         return Part::All(now);
     }
     Part::So(now)

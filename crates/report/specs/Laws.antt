@@ -2,4 +2,3 @@
 pub mod Front
 pub mod Text
 pub mod Marks
-pub mod Gathering

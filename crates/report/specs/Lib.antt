@@ -1,5 +1,4 @@
 -- What a report shows, as the promises of the code state it.
 pub mod Text
 pub mod Marks
-pub mod Gathering
 pub mod Laws

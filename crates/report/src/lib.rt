@@ -1,9 +1,7 @@
 // What a report shows of a line: its bytes in windows of a fixed width, and marks under what a reading or a group took.
-mod gathering;
 mod marks;
 mod text;
 
-pub use gathering::gather;
 pub use marks::mark;
 pub use marks::touches;
 pub use text::is_odd;

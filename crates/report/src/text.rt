@@ -1,5 +1,4 @@
 // The text of a line as it is shown, one column for each byte.
-use crate::gathering::least;
 ghost use mathlib.Core.Path.{_≡_};
 ghost use mathlib.Core.List.{_++_};
 ghost use Prim.Native.Nat.{min};
@@ -23,6 +22,13 @@ fn shown(b: u8) -> u8
     ensures { λ r. ⌜ r ≡ shownByte b ⌝ }
 {
     if is_printed(b) { b } else { DOT }
+}
+
+// The smaller of two numbers.
+fn least(a: usize, b: usize) -> usize
+    ensures { λ r. ⌜ r ≡ min a b ⌝ }
+{
+    if a < b { a } else { b }
 }
 
 // Shows a line, or as much of it as there is room for, at the beginning of `out`. It says how many bytes these are.

@@ -2,4 +2,5 @@
 pub mod Lines
 pub mod Numbers
 pub mod Writing
+pub mod Gathering
 pub mod Laws

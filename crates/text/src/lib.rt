@@ -1,8 +1,9 @@
-// Text in lent slices: the end of a line, and bytes and numbers written one behind another.
+// Text in lent slices: the end of a line, bytes and numbers written one behind another, and a line that comes in pieces.
 ghost use mathlib.Core.Path.{_≡_};
 ghost use mathlib.Core.List.{[], _∷_};
 ghost use Prim.Native.Nat.{_+_, _≤_, _<_};
 ghost use lib.ListN.{length, drop};
+ghost use Rattle.text.specs.Gathering.{Gathered};
 ghost use Rattle.text.specs.Lines.{lineLength};
 ghost use Rattle.text.specs.Numbers.{decimal};
 ghost use Rattle.text.specs.Writing.{Wrote};
@@ -55,4 +56,16 @@ pub fn append_number(out: &mut [u8], at: usize, n: u64) -> usize
     }
     let behind = append_number(out, at, n / 10);
     append_byte(out, behind, 48 + (n % 10) as u8)
+}
+
+// Puts a piece behind the bytes of a line that are held, and answers how many are held now: never more than the limit.
+pub fn gather(line: &mut [u8], limit: usize, have: usize, piece: &[u8]) -> usize
+    requires { ⌜ (have ≤ limit) × (limit ≤ length (now line)) ⌝ }
+    ensures { λ r. ⌜ Gathered limit (now (line .entry)) have (now (piece .entry)) (now (line .exit)) r ⌝ }
+{
+    let room = limit - have;
+    if piece.len() <= room {
+        return append(line, have, piece);
+    }
+    append(line, have, &piece[..room])
 }

@@ -14,12 +14,12 @@ use lib.Dec.{eqb}
 use Rattle.syntax.specs.Read.{if_then_else_}
 use Rattle.syntax.specs.Tree.{Rule}
 use Rattle.semantics.specs.Laws.Cases.{le-or}
+use Rattle.text.specs.Gathering.{Gathered}
 use Rattle.text.specs.Lines.{newline, lineLength}
 use Rattle.text.specs.Laws.Lines.{lineWithin}
 use Rattle.gateway_line.specs.Limits.{lineLimit, heldLimit}
 use Rattle.gateway_line.specs.Answers.{answerLine}
 use Rattle.gateway_line.specs.Gateway.{lastAnswer, answers}
-use Rattle.gateway_line.specs.Promises.{Gathered}
 use Rattle.gateway_line.specs.Laws.Calls.{longAnswer}
 
 -- Parts of lists ------------------------------------------------------------
@@ -101,7 +101,7 @@ pub endWithin : (piece : List ℕ) (at end : ℕ) → at ≤ length piece → en
 endWithin piece at end k e = let w = lineWithin (drop at piece) in let l = length-drop at piece in (omega arith, omega arith)
 
 module _ (r : Rule × ℕ) (piece line : List ℕ) (at have end held : ℕ) {new : List ℕ} (k : at ≤ length piece) (e : end ≡ at + lineLength (drop at piece))
-    (g : Gathered line have (take (end - at) (drop at piece)) new held) where
+    (g : Gathered heldLimit line have (take (end - at) (drop at piece)) new held) where
   -- the bytes of the line that are in the piece
   abbrev part : List ℕ
   part = take (lineLength (drop at piece)) (drop at piece)

@@ -4,6 +4,7 @@ use denote.Ref.{now}
 use mathlib.Core.List.{[]}
 use lib.ListN.{take, length-take}
 use Rattle.text.specs.Laws.Writing.{wroteNothing}
+use Rattle.gateway_line.specs.Limits.{heldLimit}
 use Rattle.gateway_line.specs.Answers.{answerLine}
 use Rattle.gateway_line.specs.Laws.Streams.{endWithin, heldOn, answeredAt}
 use borrow.Author.Needs.{needs}
@@ -25,12 +26,14 @@ part-gather-end c =
     endWithin (now (a .piece)) (a .p .at) (c .before .line-end .result) (c .before .before .before .before .before .before .before .before .before .pre .1 .0) (c .before .line-end .ensures) .1
 
 gather-requires : tie.Need-gather-requires
+unfolding heldLimit
 gather-requires c κs = search needs
 
 same-length : tie.Need-same-length
 same-length c = search needs
 
 returns : tie.Need-returns
+unfolding heldLimit
 returns c =
     let a = c .before .before .before .before .before .before .before .before .before .before .before .before .before .before .args in
     let p = c .before .before .before .before .before .before .before .before .before .before .before .before .before .before .pre .1 in
@@ -45,9 +48,11 @@ returns c =
     )
 
 slice-reshare-prefix-answer : tie.Need-slice-reshare-prefix-answer
+unfolding heldLimit
 slice-reshare-prefix-answer c = search needs
 
 slice-aggregate-answer : tie.Need-slice-aggregate-answer
+unfolding heldLimit
 slice-aggregate-answer c = simp length-take (omega (arith, c .before .before .before .before .gather .ensures .size, c .before .before .before .before .gather .ensures .fits))
 
 answer-requires : tie.Need-answer-requires
@@ -77,6 +82,7 @@ same-length-6 : tie.Need-same-length-6
 same-length-6 c = search needs
 
 returns-2 : tie.Need-returns-2
+unfolding heldLimit
 returns-2 c =
     let a = c .before .before .before .before .before .before .before .before .before .before .before .before .before .before .before .before .before .before .before .before .before .before .before .before .before .before .before .before .args in
     let p = c .before .before .before .before .before .before .before .before .before .before .before .before .before .before .before .before .before .before .before .before .before .before .before .before .before .before .before .before .pre .1 in

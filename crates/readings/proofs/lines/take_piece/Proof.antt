@@ -5,7 +5,6 @@ use native.Mathlib.Omega.{arith}
 use denote.Ref.{now}
 use lib.ListN.{length, length-take}
 use borrow.Author.Needs.{needs}
-use Rattle.report.specs.Laws.Gathering.{count-within}
 use Rattle.readings.proofs.LineEnds.{ends-within}
 use Rattle.readings.proofs.lines.take_piece.Statement.{statement}
 use Rattle.readings.proofs.lines.take_piece.Tie as tie
@@ -30,7 +29,7 @@ part-gather-start c = search needs
 
 part-gather-end : tie.Need-part-gather-end Inv-loop μ-loop
 part-gather-end c =
-    let line : c .line-end .result ≤ length (now (c .before .before .before .before .before .before .args .piece)) = ends-within _ (c .before .before .loop .at) (c .before .before .loop .inv .0) (c .line-end .ensures) in
+    let line : c .before .line-end .result ≤ length (now (c .before .before .before .before .before .before .before .args .piece)) = ends-within _ (c .before .before .before .loop .at) (c .before .before .before .loop .inv .0) (c .before .line-end .ensures) in
     omega arith
 
 gather-requires : tie.Need-gather-requires Inv-loop μ-loop
@@ -40,16 +39,16 @@ same-length : tie.Need-same-length Inv-loop μ-loop
 same-length c = search needs
 
 returns : tie.Need-returns Inv-loop μ-loop
-returns c = omega (arith, count-within _ _ _ (c .before .before .before .gather .ensures .0))
+returns c = search needs
 
 slice-reshare-prefix-end-line : tie.Need-slice-reshare-prefix-end-line Inv-loop μ-loop
-slice-reshare-prefix-end-line c = omega (arith, count-within _ _ _ (c .before .before .before .gather .ensures .0))
+slice-reshare-prefix-end-line c = search needs
 
 slice-aggregate-end-line : tie.Need-slice-aggregate-end-line Inv-loop μ-loop
-slice-aggregate-end-line c = simp length-take (omega (arith, count-within _ _ _ (c .before .before .before .before .gather .ensures .0)))
+slice-aggregate-end-line c = simp length-take (omega arith)
 
 end-line-requires : tie.Need-end-line-requires Inv-loop μ-loop
-end-line-requires c κs = simp length-take (omega (arith, count-within _ _ _ (c .before .before .before .before .before .before .before .before .gather .ensures .0)))
+end-line-requires c κs = simp length-take (omega arith)
 
 add-at : tie.Need-add-at Inv-loop μ-loop
 add-at c =

@@ -3,7 +3,6 @@ use Prim.Native.Nat.{zero-le}
 use native.Mathlib.Omega.{arith}
 use lib.ListN.{length-take}
 use borrow.Author.Needs.{needs}
-use Rattle.report.specs.Laws.Gathering.{count-within}
 use Rattle.readings.proofs.LineEnds.{ends-within}
 use Rattle.readings.proofs.rule_file.read_on.Statement.{statement}
 use Rattle.readings.proofs.rule_file.read_on.Tie as tie
@@ -39,10 +38,10 @@ line-end-requires : tie.Need-line-end-requires
 line-end-requires c κs = search needs
 
 array-share-prefix-buffer-2 : tie.Need-array-share-prefix-buffer-2
-array-share-prefix-buffer-2 c = omega (arith, ends-within _ 0 zero-le (c .line-end .ensures))
+array-share-prefix-buffer-2 c = omega (arith, ends-within _ 0 zero-le (c .before .line-end .ensures))
 
 slice-aggregate-gather : tie.Need-slice-aggregate-gather
-slice-aggregate-gather c = simp length-take (omega (arith, ends-within _ 0 zero-le (c .before .line-end .ensures)))
+slice-aggregate-gather c = simp length-take (omega (arith, ends-within _ 0 zero-le (c .before .before .line-end .ensures)))
 
 gather-requires : tie.Need-gather-requires
 gather-requires c κs = search needs
@@ -51,7 +50,7 @@ same-length : tie.Need-same-length
 same-length c = search needs
 
 returns-3 : tie.Need-returns-3
-returns-3 c = omega (arith, count-within _ _ _ (c .before .before .before .gather .ensures .0))
+returns-3 c = search needs
 
 same-length-2 : tie.Need-same-length-2
 same-length-2 c = search needs
@@ -63,7 +62,7 @@ same-length-3 : tie.Need-same-length-3
 same-length-3 c = search needs
 
 returns-5 : tie.Need-returns-5
-returns-5 c = omega (arith, count-within _ _ _ (c .before .before .before .before .gather .ensures .0))
+returns-5 c = search needs
 
 pub read-on-spec : {M : Type 1} → statement M
 read-on-spec =

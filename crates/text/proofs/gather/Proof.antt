@@ -2,45 +2,38 @@
 use native.Mathlib.Omega.{arith}
 use denote.Ref.{now}
 use lib.ListN.{length-take}
-use Rattle.gateway_line.specs.Limits.{heldLimit}
-use Rattle.gateway_line.specs.Laws.Gathering.{gathered, gatheredWhole}
+use Rattle.text.specs.Laws.Gathering.{gathered, gatheredWhole}
 use borrow.Author.Needs.{needs}
-use Rattle.gateway_line.proofs.gathering.gather.Statement.{statement}
-use Rattle.gateway_line.proofs.gathering.gather.Tie as tie
+use Rattle.text.proofs.gather.Statement.{statement}
+use Rattle.text.proofs.gather.Tie as tie
 
 sub-room : tie.Need-sub-room
-unfolding heldLimit
 sub-room c = omega arith
 
 append-requires : tie.Need-append-requires
-unfolding heldLimit
 append-requires c κs = omega arith
 
 same-length : tie.Need-same-length
 same-length c = search needs
 
 returns : tie.Need-returns
-unfolding heldLimit
 returns c =
     let a = c .before .before .before .before .before .before .before .args in
-    gatheredWhole (now (a .line)) (now (a .piece)) (a .have) (c .before .before .before .before .before .before .before .pre .0) (c .before .before .before .before .before .before .before .pre .1) (c .before .before .before .before .if1 .taken) (c .before .before .append .ensures)
+    gatheredWhole (a .limit) (now (a .line)) (now (a .piece)) (a .have) (c .before .before .before .before .before .before .before .pre .0) (c .before .before .before .before .before .before .before .pre .1) (c .before .before .before .before .if1 .taken) (c .before .before .append .ensures)
 
 slice-aggregate-append : tie.Need-slice-aggregate-append
-unfolding heldLimit
 slice-aggregate-append c = simp length-take (omega arith)
 
 append-requires-2 : tie.Need-append-requires-2
-unfolding heldLimit
 append-requires-2 c κs = simp length-take (omega arith)
 
 same-length-2 : tie.Need-same-length-2
 same-length-2 c = search needs
 
 returns-2 : tie.Need-returns-2
-unfolding heldLimit
 returns-2 c =
     let a = c .before .before .before .before .before .before .before .before .args in
-    gathered (now (a .line)) (now (a .piece)) (a .have) (c .before .before .before .before .before .before .before .before .pre .0) (c .before .before .before .before .before .before .before .before .pre .1) (c .before .before .append2 .ensures)
+    gathered (a .limit) (now (a .line)) (now (a .piece)) (a .have) (c .before .before .before .before .before .before .before .before .pre .0) (c .before .before .before .before .before .before .before .before .pre .1) (c .before .before .append2 .ensures)
 
 pub gather-spec : {M : Type 1} → statement M
 gather-spec =
