@@ -3,7 +3,7 @@
 
 A case is a folder harness/gateway/NAME with stdin, stdout and, unless the file is to be missing, rule.txt. Each is run with its input
 in one piece and in pieces of several sizes through a pipe. What is expected was written by hand or, with --write, by reference.py, which
-shares no line with the library; never by the program.
+shares no line with the library; never by the program. Where the answers cannot be written, it is held to what it has to say of that.
 """
 import os
 import random
@@ -15,6 +15,7 @@ import threading
 import time
 
 import reference
+import unwritable
 
 HERE = os.path.dirname(os.path.abspath(__file__))
 CASES = os.path.join(HERE, "gateway")
@@ -102,6 +103,26 @@ def made():
         yield f"random lines {k}", write_file(rule + b"\n"), data, expected(rule, data)
 
 
+def unwritten():
+    """(name, what is said on standard error, expected) where the answers cannot be written."""
+    cases = [
+        ("lines that never end", write_file(b"y\n"), None),
+        ("more answers than wait at once", write_file(b"\n"), b"\n" * 65536),
+        ("a last piece", write_file(b"y\n"), b"y"),
+        ("a refused rule", write_file(b"(\n"), b""),
+        ("no rule file", (lambda f: None), b""),
+    ]
+    for name, make, data in cases:
+        for place, output, why in unwritable.OUTPUTS:
+            with tempfile.TemporaryDirectory() as folder, output() as out:
+                make(folder)
+                yield f"{name}, {place}", unwritable.said([PROGRAM], out, data, folder), f"gateway: the answers could not be written: {why}\n"
+    for place, output, _ in unwritable.OUTPUTS:
+        with tempfile.TemporaryDirectory() as folder, output() as out:
+            write_file(b"y\n")(folder)
+            yield f"nothing to write, {place}", unwritable.said([PROGRAM], out, b"", folder), ""
+
+
 def timed():
     """100,000 short lines: printed, not tested."""
     folder = tempfile.mkdtemp()
@@ -140,6 +161,12 @@ def main():
             else:
                 failed += 1
                 print(f"{name}, pieces of {size}: got {got[:80]!r}, expected {want[:80]!r}")
+    for name, got, want in unwritten():
+        if got == want:
+            passed += 1
+        else:
+            failed += 1
+            print(f"{name}: said {got!r}, expected {want!r}")
     timed()
     print(f"{passed} passed, {failed} failed")
 

@@ -1,19 +1,19 @@
 // Standard input, piece by piece, and the answers to its lines.
 use crate::input::Input;
 use crate::input::read_some;
+use crate::output::deliver;
 use gateway_line::ANSWER_ROOM;
 use gateway_line::Progress;
 use gateway_line::advance;
 use gateway_line::finish;
 use libc::STDIN_FILENO;
-use libc::STDOUT_FILENO;
 ghost use Prim.Native.Nat.{_+_, _≤_};
 ghost use lib.ListN.{length};
 ghost use Rattle.gateway_line.specs.Limits.{heldLimit, answerRoom};
 ghost use Rattle.gateway_line.specs.Promises.{Lent};
 ghost use Rattle.gateway.specs.Counts.{Held};
 
-// How many bytes wait in the output, and whether it is still open.
+// How many bytes wait in the output, and whether it can still be written.
 struct Waiting {
     put: usize,
     open: bool,
@@ -27,11 +27,11 @@ fn make_room(out: &[u8], put: usize) -> Waiting
     if ANSWER_ROOM <= out.len() - put {
         return Waiting { put, open: true };
     }
-    let open = io::write_all(STDOUT_FILENO, &out[..put]);
+    let open = deliver(&out[..put]);
     Waiting { put: 0, open }
 }
 
-// How many bytes of a line are held behind a piece, and whether the output is still open.
+// How many bytes of a line are held behind a piece, and whether the output can still be written.
 struct Heard {
     have: usize,
     open: bool,
@@ -77,11 +77,11 @@ fn answer_piece(
         }
         put = w.put;
     }
-    let open = io::write_all(STDOUT_FILENO, &out[..put]);
+    let open = deliver(&out[..put]);
     Heard { have, open }
 }
 
-// After one read: so many bytes of a line are held; the input is over, with so many held; or nobody reads the answers any more.
+// After one read: so many bytes of a line are held; the input is over, with so many held; or the answers cannot be written any more.
 pub enum Hearing {
     On(usize),
     Over(usize),
@@ -146,7 +146,7 @@ fn end_input(
     requires { ⌜ answerRoom ≤ length (now out) ⌝ }
 {
     let put = finish(rule, groups, held, rule_area, work_area, results, out, 0);
-    io::write_all(STDOUT_FILENO, &out[..put]);
+    deliver(&out[..put]);
 }
 
 // Answers all lines of the input. The turns are counted down because a loop has to end, from a number that no run uses up.

@@ -1,6 +1,7 @@
 // The gateway program: it reads the rule in `rule.txt`, then standard input line by line, and answers each line with one of its own.
 mod input;
 mod lines;
+mod output;
 mod rule_file;
 
 use gateway_line::Readiness;
@@ -8,6 +9,7 @@ use gateway_line::prepare;
 use gateway_line::write_refusal;
 use gateway_line::write_unreadable;
 use lines::answer_input;
+use output::deliver;
 use rule_file::Loading;
 use rule_file::load;
 ghost use Prim.Native.Nat.{_≤_};
@@ -35,7 +37,7 @@ fn say_unreadable(out: &mut [u8])
     requires { ⌜ answerRoom ≤ length (now out) ⌝ }
 {
     let n = write_unreadable(out, 0);
-    io::write_all(libc::STDOUT_FILENO, &out[..n]);
+    deliver(&out[..n]);
 }
 
 // Says why the rule is refused.
@@ -43,7 +45,7 @@ fn say_refusal(f: syntax::Refusal, out: &mut [u8])
     requires { ⌜ answerRoom ≤ length (now out) ⌝ }
 {
     let n = write_refusal(f, out, 0);
-    io::write_all(libc::STDOUT_FILENO, &out[..n]);
+    deliver(&out[..n]);
 }
 
 // Answers standard input by a sound rule.

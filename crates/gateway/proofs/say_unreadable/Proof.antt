@@ -9,15 +9,15 @@ use Rattle.gateway.proofs.say_unreadable.Tie as tie
 write-unreadable-requires : tie.Need-write-unreadable-requires
 write-unreadable-requires c κs = search needs
 
-slice-reshare-prefix-write-all : tie.Need-slice-reshare-prefix-write-all
-slice-reshare-prefix-write-all c = search needs
+slice-reshare-prefix-deliver : tie.Need-slice-reshare-prefix-deliver
+slice-reshare-prefix-deliver c = search needs
 
-slice-aggregate-write-all : tie.Need-slice-aggregate-write-all
+slice-aggregate-deliver : tie.Need-slice-aggregate-deliver
 unfolding answerRoom
-slice-aggregate-write-all c = simp length-take (omega (arith, c .before .before .before .write-unreadable .ensures .near, c .before .before .before .write-unreadable .kept .0))
+slice-aggregate-deliver c = simp length-take (omega (arith, c .before .before .before .write-unreadable .ensures .near, c .before .before .before .write-unreadable .kept .0))
 
-write-all-requires : tie.Need-write-all-requires
-write-all-requires c κs = search needs
+deliver-requires : tie.Need-deliver-requires
+deliver-requires c κs = search needs
 
 same-length : tie.Need-same-length
 same-length c = search needs
@@ -30,8 +30,8 @@ say-unreadable-spec =
     tie.close
     (tie.spec
     write-unreadable-requires
-    slice-reshare-prefix-write-all
-    slice-aggregate-write-all
-    write-all-requires
+    slice-reshare-prefix-deliver
+    slice-aggregate-deliver
+    deliver-requires
     same-length
     returns)

@@ -61,14 +61,14 @@ loop-again c =
     let o = c .before .before .before .before .before .before .before .before .before .before .before .before .before .before .advance .ensures .0 in
     (o .within, o .fits, omega (arith, c .before .before .make-room .ensures), omega arith, omega arith, omega arith, omega arith, omega arith)
 
-slice-reshare-prefix-write-all : tie.Need-slice-reshare-prefix-write-all Inv-loop μ-loop
-slice-reshare-prefix-write-all c = omega arith
+slice-reshare-prefix-deliver : tie.Need-slice-reshare-prefix-deliver Inv-loop μ-loop
+slice-reshare-prefix-deliver c = omega arith
 
-slice-aggregate-write-all : tie.Need-slice-aggregate-write-all Inv-loop μ-loop
-slice-aggregate-write-all c = simp length-take (omega arith)
+slice-aggregate-deliver : tie.Need-slice-aggregate-deliver Inv-loop μ-loop
+slice-aggregate-deliver c = simp length-take (omega arith)
 
-write-all-requires : tie.Need-write-all-requires Inv-loop μ-loop
-write-all-requires c κs = tt
+deliver-requires : tie.Need-deliver-requires Inv-loop μ-loop
+deliver-requires c κs = tt
 
 same-length-6 : tie.Need-same-length-6 Inv-loop μ-loop
 same-length-6 c = c .before .before .before .loop .inv .3
@@ -105,9 +105,9 @@ answer-piece-spec =
     returns
     loop-less
     loop-again
-    slice-reshare-prefix-write-all
-    slice-aggregate-write-all
-    write-all-requires
+    slice-reshare-prefix-deliver
+    slice-aggregate-deliver
+    deliver-requires
     same-length-6
     same-length-7
     same-length-8

@@ -9,22 +9,22 @@ use Rattle.gateway.proofs.lines.end_input.Tie as tie
 finish-requires : tie.Need-finish-requires
 finish-requires c κs = search needs
 
-slice-reshare-prefix-write-all : tie.Need-slice-reshare-prefix-write-all
+slice-reshare-prefix-deliver : tie.Need-slice-reshare-prefix-deliver
 unfolding answerRoom
-slice-reshare-prefix-write-all c =
+slice-reshare-prefix-deliver c =
     let s = c .before .before .before .before .before .before .before .before .before .before .before .before .before .before .before .before .before .before .before .pre .0 .sound-rule in
     let n = c .before .before .before .before .before .before .before .before .finish .ensures (s .0) (s .1) .near in
     omega arith
 
-slice-aggregate-write-all : tie.Need-slice-aggregate-write-all
+slice-aggregate-deliver : tie.Need-slice-aggregate-deliver
 unfolding answerRoom
-slice-aggregate-write-all c =
+slice-aggregate-deliver c =
     let s = c .before .before .before .before .before .before .before .before .before .before .before .before .before .before .before .before .before .before .before .before .pre .0 .sound-rule in
     let n = c .before .before .before .before .before .before .before .before .before .finish .ensures (s .0) (s .1) .near in
     simp length-take (omega arith)
 
-write-all-requires : tie.Need-write-all-requires
-write-all-requires c κs = search needs
+deliver-requires : tie.Need-deliver-requires
+deliver-requires c κs = search needs
 
 same-length : tie.Need-same-length
 same-length c = search needs
@@ -46,9 +46,9 @@ end-input-spec =
     tie.close
     (tie.spec
     finish-requires
-    slice-reshare-prefix-write-all
-    slice-aggregate-write-all
-    write-all-requires
+    slice-reshare-prefix-deliver
+    slice-aggregate-deliver
+    deliver-requires
     same-length
     same-length-2
     same-length-3

@@ -13,15 +13,15 @@ returns : tie.Need-returns
 unfolding answerRoom
 returns c = omega arith
 
-slice-aggregate-write-all : tie.Need-slice-aggregate-write-all
-slice-aggregate-write-all c = simp length-take (omega arith)
+slice-aggregate-deliver : tie.Need-slice-aggregate-deliver
+slice-aggregate-deliver c = simp length-take (omega arith)
 
-write-all-requires : tie.Need-write-all-requires
-write-all-requires c κs = search needs
+deliver-requires : tie.Need-deliver-requires
+deliver-requires c κs = search needs
 
 returns-2 : tie.Need-returns-2
 returns-2 c = search needs
 
 pub make-room-spec : {M : Type 1} → statement M
 make-room-spec =
-    tie.close (tie.spec sub-if1 returns slice-aggregate-write-all write-all-requires returns-2)
+    tie.close (tie.spec sub-if1 returns slice-aggregate-deliver deliver-requires returns-2)
