@@ -14,6 +14,7 @@ import time
 from pathlib import Path
 
 import reference
+import unwritable
 
 ROOT = Path(__file__).resolve().parent.parent
 PROGRAM = ROOT / "target" / "bin" / "readings"
@@ -300,6 +301,18 @@ line 1: exhausted at start 0, 2 readings until then
     t.on("exhausted at a later start", rb"b(a*)*c", b"ba" * 3 + b"b" + b"a" * 30, budget=3000)
 
 
+def unwritten(t):
+    """A report that cannot be written: that is said once, and lines that never end are not read on."""
+    Path("rule").write_bytes(b"^y$\n")
+    message = "readings: the report could not be written"
+    for name, data in (("lines that never end", None), ("one line", b"y\n"), ("no lines", b"")):
+        for place, output, _ in unwritable.OUTPUTS:
+            with output() as out:
+                said = unwritable.said([str(PROGRAM), "rule", "/dev/stdin"], out, data)
+            heard = [line[:len(message)] for line in said.splitlines() if not line.endswith(" lines")]  # but for its progress
+            t.same("%s, %s" % (name, place), heard, [message])
+
+
 def random_rules(t, seed):
     chance = random.Random(seed)
     atoms = [b"a", b"b", b".", b"\\d", b"(a)", b"(a|b)", b"(?:a|ab)", b"(b?)", b"^", b"$", b"([ab]+)", b"(\\w)"]
@@ -319,7 +332,7 @@ def main():
     seed = int(sys.argv[1]) if len(sys.argv) > 1 else 1
     rule, text = (DATA / "rule.txt").read_bytes().split(b"\n")[0], (DATA / "lines.txt").read_bytes()
     t.same("the crate's own file", (DATA.parent / "stdout").read_text(), report(rule, text, 0, 1100))
-    for part in (arguments, refusals, files, pieces, listings):
+    for part in (arguments, refusals, files, pieces, listings, unwritten):
         part(t)
     random_rules(t, seed)
     print("%d passed, %d failed" % (t.passed, t.failed))
