@@ -1,4 +1,4 @@
-//! Finds the two libraries that the harness links: the static library terravisco, which is under test, and PCRE2, which may be missing.
+//! Finds the two libraries that the harness links: the static library terravisco, which is under test, and PCRE2.
 
 use std::env;
 use std::path::{Path, PathBuf};
@@ -9,11 +9,7 @@ const ARCHIVE: &str = "TERRAVISCO_ARCHIVE";
 
 fn main() {
     link_terravisco();
-    println!("cargo:rustc-check-cfg=cfg(pcre2)");
-    if pcre2_is_installed() {
-        println!("cargo:rustc-cfg=pcre2");
-        println!("cargo:rustc-link-lib=dylib=pcre2-8");
-    }
+    link_pcre2();
     println!("cargo:rerun-if-changed=build.rs");
 }
 
@@ -36,6 +32,14 @@ fn link_terravisco() {
 /// A folder that cargo names in the environment.
 fn folder_of(variable: &str) -> PathBuf {
     PathBuf::from(env::var(variable).expect("cargo names its folders"))
+}
+
+/// Links PCRE2, or says what to install: no comparison is left out because it is missing.
+fn link_pcre2() {
+    if !pcre2_is_installed() {
+        panic!("PCRE2's 8-bit library or its header is missing: install Debian's libpcre2-dev (.ci/needs does)");
+    }
+    println!("cargo:rustc-link-lib=dylib=pcre2-8");
 }
 
 /// Whether a C program that includes PCRE2's header and names its 8-bit library can be built: then both are there.

@@ -1,15 +1,17 @@
-//! PCRE2's own answers: matches, and all readings from a start by a callout at the rule's end. Without PCRE2 on the machine there is none.
+//! PCRE2's own answers: matches, and all readings from a start by a callout at the rule's end.
 
-#[cfg(pcre2)]
 pub mod sys;
 
-#[cfg(pcre2)]
-pub use installed::{row, Pattern};
+use std::ffi::{c_int, c_void};
+use std::ptr::null_mut;
 
-#[cfg(not(pcre2))]
-pub use missing::Pattern;
+use self::sys::*;
+use crate::independent::{Row, FLAG_M, FLAG_S, ROW_LENGTH, UNSET};
 
-use crate::independent::Row;
+/// An address for an empty subject.
+static NOWHERE: [u8; 1] = [0];
+/// How much one match may try before PCRE2 gives up.
+const MATCH_LIMIT: u32 = 1_000_000;
 
 /// What PCRE2 finds.
 #[derive(PartialEq, Eq)]
@@ -19,142 +21,103 @@ pub enum Found {
     Limit,
 }
 
-pub const INSTALLED: bool = cfg!(pcre2);
+/// A rule that PCRE2 has compiled, with a callout behind it. The callout does nothing in a plain match.
+pub struct Pattern {
+    code: *mut c_void,
+    data: *mut c_void,
+    context: *mut c_void,
+}
 
-#[cfg(not(pcre2))]
-mod missing {
-    use super::Found;
-
-    /// Stands in where PCRE2 is not installed: no pattern can be made.
-    pub enum Pattern {}
-
-    impl Pattern {
-        pub fn new(_rule: &[u8], _flags: u32) -> Result<Pattern, i32> {
-            unreachable!("callers look at INSTALLED first")
+impl Pattern {
+    /// Compiles a rule, or gives PCRE2's error number.
+    pub fn new(rule: &[u8], flags: u32) -> Result<Pattern, i32> {
+        let text = [b"(?:", rule, b")(?C1)"].concat();
+        let mut options = NEVER_UTF | NO_AUTO_POSSESS | NO_DOTSTAR_ANCHOR | NO_START_OPTIMIZE;
+        options |= if flags & FLAG_S != 0 { DOTALL } else { 0 };
+        options |= if flags & FLAG_M != 0 { MULTILINE } else { 0 };
+        let (mut error, mut at) = (0, 0);
+        // Safety: the text's pointer goes with its length, and what is made here is freed by `drop`, or below where nothing was made.
+        unsafe {
+            let compiling = pcre2_compile_context_create_8(null_mut());
+            pcre2_set_newline_8(compiling, NEWLINE_LF);
+            let code = pcre2_compile_8(text.as_ptr(), text.len(), options, &mut error, &mut at, compiling);
+            pcre2_compile_context_free_8(compiling);
+            if code.is_null() {
+                return Err(error);
+            }
+            let context = pcre2_match_context_create_8(null_mut());
+            pcre2_set_match_limit_8(context, MATCH_LIMIT);
+            Ok(Pattern { code, data: pcre2_match_data_create_from_pattern_8(code, null_mut()), context })
         }
+    }
 
-        pub fn first(&self, _subject: &[u8]) -> Found {
-            match *self {}
+    /// The first match as one row, or no row.
+    pub fn first(&self, subject: &[u8]) -> Found {
+        match self.run(subject, 0, 0, None, null_mut()) {
+            NO_MATCH => Found::Rows(Vec::new()),
+            error if error < 0 => Found::Limit,
+            _ => {
+                // Safety: after a match the vector holds as many pairs as it counts.
+                let offsets = unsafe {
+                    let pairs = pcre2_get_ovector_count_8(self.data) as usize;
+                    std::slice::from_raw_parts(pcre2_get_ovector_pointer_8(self.data), 2 * pairs)
+                };
+                Found::Rows(vec![row(offsets[0], offsets[1], &offsets[2..])])
+            }
         }
+    }
 
-        pub fn readings(&self, _subject: &[u8], _start: usize) -> Found {
-            match *self {}
+    /// Every reading from a start in PCRE2's order, each once.
+    pub fn readings(&self, subject: &[u8], start: usize) -> Found {
+        let mut rows: Vec<Row> = Vec::new();
+        let data: *mut Vec<Row> = &mut rows;
+        match self.run(subject, start, ANCHORED, Some(collect), data.cast()) {
+            NO_MATCH => Found::Rows(rows),
+            _ => Found::Limit,
+        }
+    }
+
+    fn run(&self, subject: &[u8], start: usize, options: u32, handler: Option<Handler>, data: *mut c_void) -> c_int {
+        // An empty slice's pointer leads nowhere, and PCRE2 may walk round the address space from it: it gets a real address.
+        let text = if subject.is_empty() { NOWHERE.as_ptr() } else { subject.as_ptr() };
+        // Safety: the pointer goes with the length, and the handler is called during the match alone, while its data lives.
+        unsafe {
+            pcre2_set_callout_8(self.context, handler, data);
+            pcre2_match_8(self.code, text, subject.len(), start, options, self.data, self.context)
         }
     }
 }
 
-#[cfg(pcre2)]
-mod installed {
-    use std::ffi::{c_int, c_void};
-    use std::ptr::null_mut;
-
-    use super::sys::*;
-    use super::Found;
-    use crate::independent::{Row, FLAG_M, FLAG_S, ROW_LENGTH, UNSET};
-
-    /// An address for an empty subject.
-    static NOWHERE: [u8; 1] = [0];
-    /// How much one match may try before PCRE2 gives up.
-    const MATCH_LIMIT: u32 = 1_000_000;
-
-    /// A rule that PCRE2 has compiled, with a callout behind it. The callout does nothing in a plain match.
-    pub struct Pattern {
-        code: *mut c_void,
-        data: *mut c_void,
-        context: *mut c_void,
-    }
-
-    impl Pattern {
-        /// Compiles a rule, or gives PCRE2's error number.
-        pub fn new(rule: &[u8], flags: u32) -> Result<Pattern, i32> {
-            let text = [b"(?:", rule, b")(?C1)"].concat();
-            let mut options = NEVER_UTF | NO_AUTO_POSSESS | NO_DOTSTAR_ANCHOR | NO_START_OPTIMIZE;
-            options |= if flags & FLAG_S != 0 { DOTALL } else { 0 };
-            options |= if flags & FLAG_M != 0 { MULTILINE } else { 0 };
-            let (mut error, mut at) = (0, 0);
-            // Safety: the text's pointer goes with its length, and what is made here is freed by `drop`, or below where nothing was made.
-            unsafe {
-                let compiling = pcre2_compile_context_create_8(null_mut());
-                pcre2_set_newline_8(compiling, NEWLINE_LF);
-                let code = pcre2_compile_8(text.as_ptr(), text.len(), options, &mut error, &mut at, compiling);
-                pcre2_compile_context_free_8(compiling);
-                if code.is_null() {
-                    return Err(error);
-                }
-                let context = pcre2_match_context_create_8(null_mut());
-                pcre2_set_match_limit_8(context, MATCH_LIMIT);
-                Ok(Pattern { code, data: pcre2_match_data_create_from_pattern_8(code, null_mut()), context })
-            }
-        }
-
-        /// The first match as one row, or no row.
-        pub fn first(&self, subject: &[u8]) -> Found {
-            match self.run(subject, 0, 0, None, null_mut()) {
-                NO_MATCH => Found::Rows(Vec::new()),
-                error if error < 0 => Found::Limit,
-                _ => {
-                    // Safety: after a match the vector holds as many pairs as it counts.
-                    let offsets = unsafe {
-                        let pairs = pcre2_get_ovector_count_8(self.data) as usize;
-                        std::slice::from_raw_parts(pcre2_get_ovector_pointer_8(self.data), 2 * pairs)
-                    };
-                    Found::Rows(vec![row(offsets[0], offsets[1], &offsets[2..])])
-                }
-            }
-        }
-
-        /// Every reading from a start in PCRE2's order, each once.
-        pub fn readings(&self, subject: &[u8], start: usize) -> Found {
-            let mut rows: Vec<Row> = Vec::new();
-            let data: *mut Vec<Row> = &mut rows;
-            match self.run(subject, start, ANCHORED, Some(collect), data.cast()) {
-                NO_MATCH => Found::Rows(rows),
-                _ => Found::Limit,
-            }
-        }
-
-        fn run(&self, subject: &[u8], start: usize, options: u32, handler: Option<Handler>, data: *mut c_void) -> c_int {
-            // An empty slice's pointer leads nowhere, and PCRE2 may walk round the address space from it: it gets a real address.
-            let text = if subject.is_empty() { NOWHERE.as_ptr() } else { subject.as_ptr() };
-            // Safety: the pointer goes with the length, and the handler is called during the match alone, while its data lives.
-            unsafe {
-                pcre2_set_callout_8(self.context, handler, data);
-                pcre2_match_8(self.code, text, subject.len(), start, options, self.data, self.context)
-            }
+impl Drop for Pattern {
+    fn drop(&mut self) {
+        // Safety: `new` made all three, and nothing else frees them.
+        unsafe {
+            pcre2_match_data_free_8(self.data);
+            pcre2_match_context_free_8(self.context);
+            pcre2_code_free_8(self.code);
         }
     }
+}
 
-    impl Drop for Pattern {
-        fn drop(&mut self) {
-            // Safety: `new` made all three, and nothing else frees them.
-            unsafe {
-                pcre2_match_data_free_8(self.data);
-                pcre2_match_context_free_8(self.context);
-                pcre2_code_free_8(self.code);
-            }
-        }
+/// At the rule's end: keeps a new reading, and says "fail here and go on".
+extern "C" fn collect(callout: *const Callout, data: *mut c_void) -> c_int {
+    // Safety: PCRE2 hands over its block, and `readings` the rows.
+    let (block, rows) = unsafe { (&*callout, &mut *data.cast::<Vec<Row>>()) };
+    // Safety: the block is PCRE2's, and the offsets are used up on the next line.
+    let offsets = unsafe { group_offsets(block) };
+    let reading = row(block.start_match, block.current_position, offsets);
+    if !rows.contains(&reading) {
+        rows.push(reading);
     }
+    1
+}
 
-    /// At the rule's end: keeps a new reading, and says "fail here and go on".
-    extern "C" fn collect(callout: *const Callout, data: *mut c_void) -> c_int {
-        // Safety: PCRE2 hands over its block, and `readings` the rows.
-        let (block, rows) = unsafe { (&*callout, &mut *data.cast::<Vec<Row>>()) };
-        // Safety: the block is PCRE2's, and the offsets are used up on the next line.
-        let offsets = unsafe { group_offsets(block) };
-        let reading = row(block.start_match, block.current_position, offsets);
-        if !rows.contains(&reading) {
-            rows.push(reading);
-        }
-        1
+/// The row of a reading, from its groups' offsets in PCRE2's form.
+pub fn row(start: usize, end: usize, groups: &[usize]) -> Row {
+    let mut row = [UNSET; ROW_LENGTH];
+    (row[0], row[1]) = (start as u32, end as u32);
+    for (number, &offset) in row[2..].iter_mut().zip(groups) {
+        *number = if offset == UNSET_OFFSET { UNSET } else { offset as u32 };
     }
-
-    /// The row of a reading, from its groups' offsets in PCRE2's form.
-    pub fn row(start: usize, end: usize, groups: &[usize]) -> Row {
-        let mut row = [UNSET; ROW_LENGTH];
-        (row[0], row[1]) = (start as u32, end as u32);
-        for (number, &offset) in row[2..].iter_mut().zip(groups) {
-            *number = if offset == UNSET_OFFSET { UNSET } else { offset as u32 };
-        }
-        row
-    }
+    row
 }

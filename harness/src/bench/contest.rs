@@ -109,7 +109,7 @@ fn rival<'c>(case: &'c Case, way: Way, reply: &Reply) -> Result<Box<dyn FnMut() 
     if case.call == Call::List && way == Way::NoShortcuts {
         return Err(Rate::None);
     }
-    let mut rival = Rival::new(case, way).ok_or(Rate::Skipped)?;
+    let mut rival = Rival::new(case, way);
     let theirs = rival.reply();
     if theirs != *reply {
         return Err(Rate::Differs(theirs.word()));

@@ -1,7 +1,6 @@
 //! The benchmark: the library beside PCRE2's interpreter and Perl, on the same rules and lines. No test depends on what it measures.
 
 pub mod cases;
-#[cfg(pcre2)]
 mod collector;
 pub mod compare;
 pub mod contest;

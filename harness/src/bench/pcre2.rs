@@ -1,10 +1,16 @@
-//! PCRE2's interpreter as a contender. Without PCRE2 on the machine there is none.
+//! PCRE2's interpreter as a contender.
 
-#[cfg(pcre2)]
-pub use installed::{version, Rival};
+use std::ffi::{c_int, c_void, CStr};
+use std::hint::black_box;
+use std::ptr::null_mut;
 
-#[cfg(not(pcre2))]
-pub use missing::{version, Rival};
+use crate::bench::collector::{collect, Collector};
+use crate::bench::{Case, Reply};
+use crate::pcre2::row;
+use crate::pcre2::sys::*;
+use crate::raw::Call;
+
+const MATCH_LIMIT_REACHED: c_int = -47;
 
 /// How PCRE2 goes about a case.
 #[derive(Clone, Copy, PartialEq, Eq)]
@@ -17,166 +23,124 @@ pub enum Way {
     NoShortcuts,
 }
 
-#[cfg(not(pcre2))]
-mod missing {
-    use super::Way;
-    use crate::bench::{Case, Reply};
+pub struct Rival<'c> {
+    text: Vec<u8>,
+    options: u32,
+    subject: &'c [u8],
+    /// The rule, if it is compiled once.
+    kept: Option<Compiled>,
+    context: *mut c_void,
+    /// Keeps a listing's readings.
+    collector: Option<Collector>,
+}
 
-    pub enum Rival {}
-
-    impl Rival {
-        pub fn new(_case: &Case, _way: Way) -> Option<Rival> {
-            None
+impl<'c> Rival<'c> {
+    /// A listing needs all choices and a callout at the rule's end; so it is never made with the default options.
+    pub fn new(case: &'c Case, way: Way) -> Rival<'c> {
+        let listing = case.call == Call::List;
+        let shortcuts = !listing && way != Way::NoShortcuts;
+        let options = if shortcuts { 0 } else { NO_AUTO_POSSESS | NO_DOTSTAR_ANCHOR | NO_START_OPTIMIZE };
+        let text = if listing { [b"(?:", &case.rule[..], b")(?C1)"].concat() } else { case.rule.clone() };
+        let kept = (way == Way::Once).then(|| Compiled::new(&text, options));
+        // Safety: the context is freed by `drop`.
+        let context = unsafe { pcre2_match_context_create_8(null_mut()) };
+        if let (Some(limit), false) = (case.match_limit, shortcuts) {
+            // Safety: the context was just made.
+            unsafe { pcre2_set_match_limit_8(context, limit) };
         }
+        let collector = listing.then(|| Collector::new(case.room));
+        Rival { text, options, subject: &case.subject, kept, context, collector }
+    }
 
-        pub fn call(&mut self) {
-            match *self {}
-        }
-
-        pub fn reply(&mut self) -> Reply {
-            match *self {}
+    pub fn call(&mut self) {
+        match self.kept.take() {
+            Some(kept) => {
+                black_box(self.run(&kept));
+                self.kept = Some(kept);
+            }
+            None => {
+                let compiled = Compiled::new(black_box(&self.text), self.options);
+                black_box(self.run(&compiled));
+            }
         }
     }
 
-    pub fn version() -> String {
-        "PCRE2 is not installed".to_string()
+    /// What a call answers.
+    pub fn reply(&mut self) -> Reply {
+        let compiled = Compiled::new(&self.text, self.options);
+        let end = self.run(&compiled);
+        match (end, &self.collector) {
+            (NO_MATCH, Some(collector)) => Reply::Rows(collector.rows().to_vec()),
+            (NO_MATCH, None) => Reply::Rows(Vec::new()),
+            (MATCH_LIMIT_REACHED, _) => Reply::GaveUp,
+            (error, _) if error < 0 => panic!("PCRE2's error {error} in a case of the benchmark"),
+            _ => Reply::Rows(compiled.first_row()),
+        }
+    }
+
+    fn run(&mut self, compiled: &Compiled) -> c_int {
+        if let Some(collector) = &mut self.collector {
+            collector.clear();
+            let data: *mut Collector = collector;
+            // Safety: the handler is called during the match below alone, while the collector lives.
+            unsafe { pcre2_set_callout_8(self.context, Some(collect), data.cast()) };
+        }
+        let subject = black_box(self.subject);
+        // Safety: the pointer goes with the length.
+        unsafe { pcre2_match_8(compiled.code, subject.as_ptr(), subject.len(), 0, 0, compiled.data, self.context) }
     }
 }
 
-#[cfg(pcre2)]
-mod installed {
-    use std::ffi::{c_int, c_void, CStr};
-    use std::hint::black_box;
-    use std::ptr::null_mut;
-
-    use super::Way;
-    use crate::bench::collector::{collect, Collector};
-    use crate::bench::{Case, Reply};
-    use crate::pcre2::row;
-    use crate::pcre2::sys::*;
-    use crate::raw::Call;
-
-    const MATCH_LIMIT_REACHED: c_int = -47;
-
-    pub struct Rival<'c> {
-        text: Vec<u8>,
-        options: u32,
-        subject: &'c [u8],
-        /// The rule, if it is compiled once.
-        kept: Option<Compiled>,
-        context: *mut c_void,
-        /// Keeps a listing's readings.
-        collector: Option<Collector>,
+impl Drop for Rival<'_> {
+    fn drop(&mut self) {
+        // Safety: `new` made it, and nothing else frees it.
+        unsafe { pcre2_match_context_free_8(self.context) };
     }
+}
 
-    impl<'c> Rival<'c> {
-        /// A listing needs all choices and a callout at the rule's end; so it is never made with the default options.
-        pub fn new(case: &'c Case, way: Way) -> Option<Rival<'c>> {
-            let listing = case.call == Call::List;
-            let shortcuts = !listing && way != Way::NoShortcuts;
-            let options = if shortcuts { 0 } else { NO_AUTO_POSSESS | NO_DOTSTAR_ANCHOR | NO_START_OPTIMIZE };
-            let text = if listing { [b"(?:", &case.rule[..], b")(?C1)"].concat() } else { case.rule.clone() };
-            let kept = (way == Way::Once).then(|| Compiled::new(&text, options));
-            // Safety: the context is freed by `drop`.
-            let context = unsafe { pcre2_match_context_create_8(null_mut()) };
-            if let (Some(limit), false) = (case.match_limit, shortcuts) {
-                // Safety: the context was just made.
-                unsafe { pcre2_set_match_limit_8(context, limit) };
-            }
-            let collector = listing.then(|| Collector::new(case.room));
-            Some(Rival { text, options, subject: &case.subject, kept, context, collector })
-        }
+/// A compiled rule with room for its match.
+struct Compiled {
+    code: *mut c_void,
+    data: *mut c_void,
+}
 
-        pub fn call(&mut self) {
-            match self.kept.take() {
-                Some(kept) => {
-                    black_box(self.run(&kept));
-                    self.kept = Some(kept);
-                }
-                None => {
-                    let compiled = Compiled::new(black_box(&self.text), self.options);
-                    black_box(self.run(&compiled));
-                }
-            }
-        }
-
-        /// What a call answers.
-        pub fn reply(&mut self) -> Reply {
-            let compiled = Compiled::new(&self.text, self.options);
-            let end = self.run(&compiled);
-            match (end, &self.collector) {
-                (NO_MATCH, Some(collector)) => Reply::Rows(collector.rows().to_vec()),
-                (NO_MATCH, None) => Reply::Rows(Vec::new()),
-                (MATCH_LIMIT_REACHED, _) => Reply::GaveUp,
-                (error, _) if error < 0 => panic!("PCRE2's error {error} in a case of the benchmark"),
-                _ => Reply::Rows(compiled.first_row()),
-            }
-        }
-
-        fn run(&mut self, compiled: &Compiled) -> c_int {
-            if let Some(collector) = &mut self.collector {
-                collector.clear();
-                let data: *mut Collector = collector;
-                // Safety: the handler is called during the match below alone, while the collector lives.
-                unsafe { pcre2_set_callout_8(self.context, Some(collect), data.cast()) };
-            }
-            let subject = black_box(self.subject);
-            // Safety: the pointer goes with the length.
-            unsafe { pcre2_match_8(compiled.code, subject.as_ptr(), subject.len(), 0, 0, compiled.data, self.context) }
+impl Compiled {
+    fn new(text: &[u8], options: u32) -> Compiled {
+        let (mut error, mut at) = (0, 0);
+        // Safety: the text's pointer goes with its length, and what is made here is freed by `drop`.
+        unsafe {
+            let code = pcre2_compile_8(text.as_ptr(), text.len(), options, &mut error, &mut at, null_mut());
+            assert!(!code.is_null(), "PCRE2 refuses a rule of the benchmark: {error} at {at}");
+            Compiled { code, data: pcre2_match_data_create_from_pattern_8(code, null_mut()) }
         }
     }
 
-    impl Drop for Rival<'_> {
-        fn drop(&mut self) {
-            // Safety: `new` made it, and nothing else frees it.
-            unsafe { pcre2_match_context_free_8(self.context) };
+    /// The row of the match that was just made.
+    fn first_row(&self) -> Vec<u32> {
+        // Safety: after a match the vector holds as many pairs as it counts.
+        let offsets = unsafe {
+            let pairs = pcre2_get_ovector_count_8(self.data) as usize;
+            std::slice::from_raw_parts(pcre2_get_ovector_pointer_8(self.data), 2 * pairs)
+        };
+        row(offsets[0], offsets[1], &offsets[2..]).to_vec()
+    }
+}
+
+impl Drop for Compiled {
+    fn drop(&mut self) {
+        // Safety: `new` made both, and nothing else frees them.
+        unsafe {
+            pcre2_match_data_free_8(self.data);
+            pcre2_code_free_8(self.code);
         }
     }
+}
 
-    /// A compiled rule with room for its match.
-    struct Compiled {
-        code: *mut c_void,
-        data: *mut c_void,
-    }
-
-    impl Compiled {
-        fn new(text: &[u8], options: u32) -> Compiled {
-            let (mut error, mut at) = (0, 0);
-            // Safety: the text's pointer goes with its length, and what is made here is freed by `drop`.
-            unsafe {
-                let code = pcre2_compile_8(text.as_ptr(), text.len(), options, &mut error, &mut at, null_mut());
-                assert!(!code.is_null(), "PCRE2 refuses a rule of the benchmark: {error} at {at}");
-                Compiled { code, data: pcre2_match_data_create_from_pattern_8(code, null_mut()) }
-            }
-        }
-
-        /// The row of the match that was just made.
-        fn first_row(&self) -> Vec<u32> {
-            // Safety: after a match the vector holds as many pairs as it counts.
-            let offsets = unsafe {
-                let pairs = pcre2_get_ovector_count_8(self.data) as usize;
-                std::slice::from_raw_parts(pcre2_get_ovector_pointer_8(self.data), 2 * pairs)
-            };
-            row(offsets[0], offsets[1], &offsets[2..]).to_vec()
-        }
-    }
-
-    impl Drop for Compiled {
-        fn drop(&mut self) {
-            // Safety: `new` made both, and nothing else frees them.
-            unsafe {
-                pcre2_match_data_free_8(self.data);
-                pcre2_code_free_8(self.code);
-            }
-        }
-    }
-
-    /// PCRE2's name and version.
-    pub fn version() -> String {
-        let mut text = [0_u8; 64];
-        // Safety: PCRE2's version takes 24 bytes at most, with the zero behind it.
-        unsafe { pcre2_config_8(CONFIG_VERSION, text.as_mut_ptr().cast()) };
-        let words = CStr::from_bytes_until_nul(&text).expect("PCRE2 ends it with a zero").to_string_lossy();
-        format!("PCRE2 {words}")
-    }
+/// PCRE2's name and version.
+pub fn version() -> String {
+    let mut text = [0_u8; 64];
+    // Safety: PCRE2's version takes 24 bytes at most, with the zero behind it.
+    unsafe { pcre2_config_8(CONFIG_VERSION, text.as_mut_ptr().cast()) };
+    let words = CStr::from_bytes_until_nul(&text).expect("PCRE2 ends it with a zero").to_string_lossy();
+    format!("PCRE2 {words}")
 }

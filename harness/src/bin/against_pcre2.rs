@@ -1,12 +1,12 @@
 //! The library's matches and listings against those of PCRE2 on random sound rules. PCRE2 lists the readings from a start by a callout at the
-//! rule's end that fails each time. Where PCRE2 is not installed, the line says so.
+//! rule's end that fails each time.
 
 use harness::arguments::arguments;
 use harness::case::{shown, shown_row, Case};
 use harness::differences::{Compared, SetAside};
 use harness::independent::{Ending, Row};
 use harness::lender::Lender;
-use harness::pcre2::{self, Found, Pattern};
+use harness::pcre2::{Found, Pattern};
 use harness::random::shared::{self, Shared};
 use harness::raw::Call;
 use harness::report::Group;
@@ -25,9 +25,6 @@ fn main() -> std::process::ExitCode {
         rows: 0,
         left_out: 0,
     };
-    if !pcre2::INSTALLED {
-        return tester.group.end("skipped: PCRE2 is not installed");
-    }
     for seed in arguments.seeds.clone() {
         (0..arguments.cases).filter_map(|number| shared::case(seed, number)).for_each(|case| tester.judge(&case));
     }

@@ -6,7 +6,7 @@ use harness::case::{shown, shown_row, Case};
 use harness::differences::{Compared, SetAside};
 use harness::independent::{Ending, Row};
 use harness::lender::Lender;
-use harness::pcre2::{self, Found, Pattern};
+use harness::pcre2::{Found, Pattern};
 use harness::perl::{self, Answer, Question};
 use harness::random::shared::{self, Shared};
 use harness::raw::Call;
@@ -32,8 +32,7 @@ fn main() -> std::process::ExitCode {
         }
         tester.batch((0..CLASSES).flat_map(|number| shared::class_cases(seed, number)).collect());
     }
-    let pcre2 = if pcre2::INSTALLED { format!("{} of them confirmed by PCRE2", tester.confirmed) } else { "PCRE2 not installed".to_string() };
-    let remark = format!("{}, {pcre2}; {} left out as too long", tester.aside.told(), tester.left_out);
+    let remark = format!("{}, {} of them confirmed by PCRE2; {} left out as too long", tester.aside.told(), tester.confirmed, tester.left_out);
     tester.group.end(&remark)
 }
 
@@ -89,9 +88,9 @@ impl Tester {
         }
     }
 
-    /// Does PCRE2 find the library's row? Where it is not installed, or differs by a point of its own, it cannot be asked.
+    /// Does PCRE2 find the library's row? Where it differs by a point of its own, it cannot be asked.
     fn pcre2_sides_with(&mut self, ours: Option<&Row>, case: &Shared, compared: &Compared) -> bool {
-        if !pcre2::INSTALLED || compared.pcre2_class().is_some() {
+        if compared.pcre2_class().is_some() {
             return true;
         }
         let found = match Pattern::new(&case.rule, case.flags) {
