@@ -28,7 +28,7 @@ pub fn run_below(
         → Agrees (now (code .entry)) (now (sub .entry)) half budget first (now (regs .exit)) (take half (now (work .exit))) (until budget 0 t) r) ⌝ }
     ensures { λ _. ⌜ drop half (now (work .exit)) ≡ drop half (now (work .entry)) ⌝ }
 {
-    machine::run_to_end(code, sub, regs, &mut work[..half], m, budget)
+    walker::run_to_end(code, sub, regs, &mut work[..half], m, budget)
 }
 
 // Falls back, in the machine's part.

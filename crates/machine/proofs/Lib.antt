@@ -1,9 +1,2 @@
--- The laws that the functions' proofs cite.
+-- The laws of the stack, which proofs of other crates cite too.
 pub mod Frames
-pub mod Tests
-pub mod Decisions
-pub mod Bytes
-pub mod Branching
-pub mod Stepping
-pub mod Leaving
-pub mod Walking

@@ -10,8 +10,8 @@ use Rattle.semantics.specs.Walk.{step, miss, end, Trace}
 use Rattle.machine.specs.declared.Machine.{Machine}
 use Rattle.machine.specs.declared.Stop.{Stop}
 use Rattle.machine.specs.declared.Stop.the-variants.{End, Nothing, Spent}
-use Rattle.machine.specs.declared.runs.Ran.{Ran}
-use Rattle.machine.specs.declared.runs.Ran.the-variants.{Made, TooLong}
+use Rattle.machine.specs.declared.Ran.{Ran}
+use Rattle.machine.specs.declared.Ran.the-variants.{Made, TooLong}
 use Rattle.machine.specs.Code.{Program, RepeatFits}
 use Rattle.machine.specs.Moves.{Frame, explore, again, undo, stretch, Stack, Configuration, Now, idle, busy, set2, go, takes, fall, move, Emits}
 use Rattle.machine.specs.Words.{stackOf, nowOf}

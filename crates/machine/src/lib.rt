@@ -1,30 +1,34 @@
-// The machine that walks a compiled rule over a subject, and falls back on what is left to try.
+// The machine that walks a compiled rule over a subject, and falls back on what is left to try: its model and the laws of it, in `specs`, and in
+// code where it stands and its stack. Crates above carry out the nodes.
 //
-// One node of the rule is one step of the walk: steps are counted where nodes are carried out, and nowhere else. A step pushes at most two frames
-// of four numbers, so that eight numbers a step are always room enough for the stack. Each change of a register is undone by a frame: when a
-// walk has ended the registers are as they were, and nothing is cleared between starts.
+// One node of the rule is one step of the walk, but for a run, which makes the steps of its rounds. A step pushes at most two frames of four
+// numbers, so that eight numbers a step are always room enough for the stack. Each change of a register is undone by a frame: when a walk has
+// ended the registers are as they were, and nothing is cleared between starts. Falling back costs no step: what it takes off, steps have pushed.
 //
-// What would only fail or repeat itself node by node is taken in one loop and counted as if it were not: the bytes of a run, the ends behind
-// them at which the next node fails, and the branches whose first byte is not there. It makes the same steps, to the last one of the budget.
-//
-// No index is tested at run time: each is in range by what is required, and that follows from how the rule was compiled.
+// No index is tested at run time, here or in the crates above: each is in range by what is required, and that follows from how the rule was
+// compiled.
 ghost use mathlib.Core.Path.{_≡_};
 ghost use mathlib.Core.List.{List, []};
 ghost use Prim.Native.Nat.{ℕ};
 ghost use Rattle.machine.specs.Moves.{go};
 ghost use Rattle.machine.specs.Words.{nowOf};
 
-mod assertions;
-mod branches;
-mod nodes;
-mod references;
-mod repeats;
-mod run;
-mod runs;
 mod stack;
 
-pub use run::run_to_end;
+pub use stack::AGAIN;
+pub use stack::EXPLORE;
+pub use stack::begin_round;
 pub use stack::fall_back;
+pub use stack::go_down;
+pub use stack::push;
+pub use stack::save_and_write;
+
+// The kinds of the nodes that several crates ask for: a byte item, a branch that is not the last, and a run.
+pub const BYTE: u32 = 0;
+
+pub const BRANCH: u32 = 5;
+
+pub const RUN: u32 = 10;
 
 // Where the machine stands: at a node and a position, over so many frames in the work area; or, if it is not live, nothing is left to try.
 pub struct Machine {
@@ -40,6 +44,18 @@ pub enum Stop {
     End(u32, Machine),
     Nothing(u32),
     Spent,
+}
+
+// How far nodes led: the steps used, and where the machine then stands.
+pub struct Walked {
+    pub used: u32,
+    pub head: Machine,
+}
+
+// How a run of one byte set went: made, with the steps that it and the ends passed over took; or too long for the steps that are left.
+pub enum Ran {
+    Made(u32, Machine),
+    TooLong,
 }
 
 // At a rule's first node, over an empty stack.

@@ -9,7 +9,7 @@ use lib.Dec.{ltb}
 use borrow.Author.Tests.{ltb-true, ltb-false}
 use Rattle.charset.specs.Class.{has}
 use Rattle.machine.specs.Moves.{takes}
-use Rattle.machine.proofs.Bytes.{takes-here}
+use Rattle.machine.specs.Laws.Extent.{takes-here}
 use Rattle.openings.specs.Openings.{Misses}
 
 module _ (set sub : List ℕ) where

@@ -85,7 +85,7 @@ fn walk(
     let mut head = m;
     let mut left = budget;
     loop {
-        let stop = machine::run_to_end(code, sub, regs, work, head, left);
+        let stop = walker::run_to_end(code, sub, regs, work, head, left);
         match stop {
             Stop::End(used, e) => {
                 left -= used;

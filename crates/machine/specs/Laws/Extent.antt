@@ -5,7 +5,7 @@ use mathlib.Core.List.{List, [], _∷_, _++_, append-nil}
 use mathlib.Core.Bool.{Bool, true, false, _&&_}
 use Prim.Native.Nat.{ℕ, zero, suc, _-_, _≤_, _<_}
 use native.Mathlib.Omega.{arith}
-use lib.ListN.{length}
+use lib.ListN.{length, getD}
 use lib.Dec.{ltb}
 use borrow.Author.Tests.{ltb-true, leb-true, leb-false, lt-ltb, le-ltb, lt-leb, ne-eqb}
 use Rattle.syntax.specs.declared.Greed.the-variants.{Greedy}
@@ -22,6 +22,16 @@ use Rattle.semantics.specs.Walk.{step, miss, Trace, Go, _▹_, done, tried, dec
 use Rattle.semantics.specs.Laws.Traces.{bind-append, bind-done}
 use Rattle.machine.specs.Code.{inSet}
 use Rattle.machine.specs.Moves.{Bytes, tested, takes, oneMore, extent, allowance}
+
+-- within a list the default does not matter
+pub within : (l : List ℕ) (i d e : ℕ) → i < length l → getD l i d ≡ getD l i e
+within [] i d e h = absurd (omega arith)
+within (x ∷ l) zero d e h = refl
+within (x ∷ l) (suc i) d e h = within l i d e (omega arith)
+
+pub byte-in : (sub : List ℕ) (i : ℕ) → i < length sub → getD sub i 0 ≡ byte sub i
+unfolding byte
+byte-in sub i h = within sub i 0 256 h
 
 pub byte-small : (sub : List ℕ) → Bytes sub → (i : ℕ) → i < length sub → byte sub i < 256
 unfolding byte
@@ -41,6 +51,14 @@ takes-inside sub f at e = by (ltb at (length sub)) refl e
     by : (b : Bool) → ltb at (length sub) ≡ b → (b && f (byte sub at)) ≡ true → at < length sub
     by true x y = ltb-true at (length sub) x
     by false x y = absurd (clash (cc))
+
+pub takes-here : (sub : List ℕ) (f : ℕ → Bool) (i : ℕ) → i < length sub → takes sub f i ≡ f (getD sub i 0)
+unfolding takes
+takes-here sub f i h = rw (lt-ltb i (length sub) h, byte-in sub i h)
+
+pub takes-past : (sub : List ℕ) (f : ℕ → Bool) (i : ℕ) → length sub ≤ i → takes sub f i ≡ false
+unfolding takes
+takes-past sub f i h = rw (le-ltb i (length sub) h)
 
 -- an item of one byte, tried
 module _ (sub : List ℕ) (f : ℕ → Bool) (s : State) where

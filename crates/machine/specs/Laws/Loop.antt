@@ -3,7 +3,7 @@ use mathlib.Core.Path.{_≡_, refl, ap, sym, _∙_, subst}
 use mathlib.Core.Logic.{_⊎_, inl, inr, ⊎-elim}
 use mathlib.Core.List.{List, [], _∷_, _++_}
 use mathlib.Core.Bool.{Bool, true, false}
-use Prim.Native.Nat.{ℕ, zero, suc, _+_, _-_, _≤_, _<_}
+use Prim.Native.Nat.{ℕ, zero, suc, _+_, _*_, _-_, _≤_, _<_}
 use native.Mathlib.Omega.{arith}
 use native.Mathlib.Numerals.{add-one}
 use lib.ListN.{length, getD, take}
@@ -15,10 +15,12 @@ use Rattle.semantics.specs.Items.{Tried, fails, goes}
 use Rattle.semantics.specs.Repeats.{isFull}
 use Rattle.semantics.specs.Walk.{Event, step, miss, end, Trace}
 use Rattle.semantics.specs.Laws.Loops.{Quiet}
+use Rattle.machine.specs.declared.Machine.{Machine}
 use Rattle.machine.specs.Code.{Program, Repeat, Instruction, ends, repeatAt, decodeAs, decode, Fits}
 use Rattle.machine.specs.Moves.{Stack, Configuration, Now, idle, busy, Move, emitting, state, shown, strides, stopped, fall, tried, ran, bytesOf, carryOut, move, Emits}
-use Rattle.machine.specs.Ready.{ended, nothing, spent, until, Leads, stay, onward, along, Ready}
-use Rattle.machine.specs.Laws.Stack.{fall-leaves, move-leaves}
+use Rattle.machine.specs.Words.{stackOf, configurationOf, nowOf}
+use Rattle.machine.specs.Ready.{ended, nothing, spent, until, Leads, stay, onward, along, StackFits, Ready}
+use Rattle.machine.specs.Laws.Stack.{length-stackOf, fall-leaves, move-leaves}
 
 clash : _≡_ {A = ℕ} 0 1 → ⊥
 clash e = omega arith
@@ -317,3 +319,26 @@ module _ (p : Program) (sub : List ℕ) where
 
     pub ready-led : {n : ℕ} {now there : Now} → Ready p sub room budget first now t₀ → Leads p sub now n there → n ≤ budget → Running n there
     ready-led {n} {now} {there} x l h = let z : 0 + n ≡ n = omega arith in rw z at (running-led 0 n now there l (omega arith) (running-start now x))
+
+-- As the code holds it ------------------------------------------------------------------
+
+-- a machine that is ready, for some registers to come back to and some trace
+abbrev pub ReadyForSome : (p sub regs work : List ℕ) → Machine → (left : ℕ) → Type 0
+ReadyForSome p sub regs work m left = (first : List ℕ) × (t : Trace) × Ready p sub (length work) left first (nowOf regs work m) t
+
+-- what a machine at work reads and writes is in range
+module _ {p sub : List ℕ} {room budget : ℕ} {first : List ℕ} {t : Trace} {used : ℕ} (regs work : List ℕ) (m : Machine) (live : m .live ≡ true) (g : Running p sub room budget first t used (nowOf regs work m)) where
+  abbrev here : Configuration
+  here = configurationOf regs work m
+
+  at-work : Running p sub room budget first t used (busy here)
+  at-work = rw live at g
+
+  pub running-fits : Fits p (m .pc)
+  running-fits = fits-now p sub here (at-work .rest) (at-work .ready .emits)
+
+  pub running-stack : StackFits p (stackOf work (m .height))
+  running-stack = at-work .ready .fits
+
+  pub running-low : 4 * m .height + 8 * (budget - used) ≤ room
+  running-low = omega (arith, at-work .ready .low, length-stackOf work (m .height))

@@ -1,0 +1,137 @@
+-- `leave_run` meets its contract: the run goes on from its highest end, or from the first one below it that is not passed over, or falls back
+-- where all are; and the ends that are passed over take more steps than are left, or no more.
+use native.Mathlib.Omega.{arith}
+use native.Mathlib.Nat.{mul-le-mul-left}
+use lib.ListN.{drop}
+use denote.Ref.{now}
+use Rattle.charset.specs.Class.{has}
+use Rattle.machine.specs.Words.{stackOf}
+use Rattle.runs.proofs.Leaving.{left-some, left-none, left-long}
+use borrow.Author.Needs.{needs}
+use Rattle.runs.proofs.leave_run.Statement.{statement}
+use Rattle.runs.proofs.leave_run.Tie as tie
+
+gate-of-requires : tie.Need-gate-of-requires
+gate-of-requires c κs = search needs
+
+go-down-requires : tie.Need-go-down-requires
+go-down-requires c κs = search needs
+
+same-length : tie.Need-same-length
+same-length c = search needs
+
+returns : tie.Need-returns
+returns c = λ here l. (c .before .before .before .before .before .before .before .before .before .before .pre .0 .1, c .before .before .before .before .before .before .before .before .before .before .pre .0 .2, rw (c .before .before .go-down .ensures (now (c .before .before .before .before .before .before .before .before .before .before .args .regs))) l)
+
+sub-ends : tie.Need-sub-ends
+sub-ends c = search needs
+
+cast-ends : tie.Need-cast-ends
+cast-ends c = search needs
+
+add-ends : tie.Need-add-ends
+add-ends c = search needs
+
+sub-nearer : tie.Need-sub-nearer
+sub-nearer c = search needs
+
+cast-nearer : tie.Need-cast-nearer
+cast-nearer c = search needs
+
+add-nearer : tie.Need-add-nearer
+add-nearer c = search needs
+
+nearer-requires : tie.Need-nearer-requires
+nearer-requires c κs = search needs
+
+missed-ends-requires : tie.Need-missed-ends-requires
+missed-ends-requires c κs = ((c .before .before .gate-of .ensures .1 (omega (arith, c .before .if1 .left))) .0, omega (arith, c .nearer .ensures))
+
+cast-all : tie.Need-cast-all
+cast-all c = search needs
+
+mul-all : tie.Need-mul-all
+mul-all c = omega (arith, mul-le-mul-left (c .missed-ends .result) (c .before .before .before .gate-of .ensures .0), c .missed-ends .ensures .0, c .before .nearer .ensures)
+
+add-all : tie.Need-add-all
+add-all c = omega (arith, mul-le-mul-left (c .missed-ends .result) (c .before .before .before .gate-of .ensures .0), c .missed-ends .ensures .0, c .before .nearer .ensures)
+
+returns-2 : tie.Need-returns-2
+returns-2 c =
+    let s = c .before .before .before .before .before .before .before .before .before in
+    let f = has (drop (c .before .before .before .before .gate-of .result .base) (now (s .args .code))) in
+    let asks = (c .before .before .before .before .gate-of .ensures .1 (omega (arith, c .before .before .before .if1 .left))) .1 (now (s .args .sub)) in
+    λ here l. left-long f asks (s .args .high) (s .args .low) (now (s .args .regs)) (stackOf (now (s .args .work)) (s .args .height)) (s .pre .0 .0) (c .before .missed-ends .result) (c .before .missed-ends .ensures .1) here (s .args .steps) l (omega (arith, c .before .missed-ends .ensures .0, c .before .before .nearer .ensures)) (omega (arith, c .if2 .taken))
+
+cast-go-down : tie.Need-cast-go-down
+cast-go-down c = search needs
+
+sub-go-down : tie.Need-sub-go-down
+sub-go-down c = search needs
+
+go-down-requires-2 : tie.Need-go-down-requires-2
+go-down-requires-2 c κs = search needs
+
+cast-t33 : tie.Need-cast-t33
+cast-t33 c = search needs
+
+same-length-2 : tie.Need-same-length-2
+same-length-2 c = search needs
+
+returns-3 : tie.Need-returns-3
+returns-3 c =
+    let s = c .before .before .before .before .before .before .before .before .before .before .before .before .before .before in
+    let f = has (drop (c .before .before .before .before .before .before .before .before .before .gate-of .result .base) (now (s .args .code))) in
+    let asks = (c .before .before .before .before .before .before .before .before .before .gate-of .ensures .1 (omega (arith, c .before .before .before .before .before .before .before .before .if1 .left))) .1 (now (s .args .sub)) in
+    λ here l. (omega (arith, s .pre .0 .1), c .before .before .before .before .before .if2 .left, rw (c .before .before .go-down2 .ensures (now (s .args .regs))) (left-some f asks (s .args .high) (s .args .low) (now (s .args .regs)) (stackOf (now (s .args .work)) (s .args .height)) (s .pre .0 .0) (c .before .before .before .before .before .before .missed-ends .result) (c .before .before .before .before .before .before .missed-ends .ensures .1) here (s .args .steps) l (omega (arith, c .before .before .before .before .if3 .taken))))
+
+fall-back-requires : tie.Need-fall-back-requires
+fall-back-requires c κs = search needs
+
+cast-t25 : tie.Need-cast-t25
+cast-t25 c = search needs
+
+same-length-3 : tie.Need-same-length-3
+same-length-3 c = search needs
+
+same-length-4 : tie.Need-same-length-4
+same-length-4 c = search needs
+
+returns-4 : tie.Need-returns-4
+returns-4 c =
+    let s = c .before .before .before .before .before .before .before .before .before .before .before .before .before .before .before .before .before in
+    let f = has (drop (c .before .before .before .before .before .before .before .before .before .before .before .before .gate-of .result .base) (now (s .args .code))) in
+    let asks = (c .before .before .before .before .before .before .before .before .before .before .before .before .gate-of .ensures .1 (omega (arith, c .before .before .before .before .before .before .before .before .before .before .before .if1 .left))) .1 (now (s .args .sub)) in
+    λ here l. (omega (arith, s .pre .0 .1), c .before .before .before .before .before .before .before .before .if2 .left, rw (c .before .before .before .before .fall-back .ensures) (left-none f asks (s .args .high) (s .args .low) (now (s .args .regs)) (stackOf (now (s .args .work)) (s .args .height)) (s .pre .0 .0) (c .before .before .before .before .before .before .before .before .before .missed-ends .result) (c .before .before .before .before .before .before .before .before .before .missed-ends .ensures .1) here (s .args .steps) l (omega (arith, c .before .before .before .before .before .before .before .if3 .left, c .before .before .before .before .before .before .before .before .before .missed-ends .ensures .0, c .before .before .before .before .before .before .before .before .before .before .nearer .ensures))))
+
+pub leave-run-spec : {M : Type 1} → statement M
+leave-run-spec =
+    tie.close
+    (tie.spec
+    gate-of-requires
+    go-down-requires
+    same-length
+    returns
+    sub-ends
+    cast-ends
+    add-ends
+    sub-nearer
+    cast-nearer
+    add-nearer
+    nearer-requires
+    missed-ends-requires
+    cast-all
+    mul-all
+    add-all
+    returns-2
+    cast-go-down
+    sub-go-down
+    go-down-requires-2
+    cast-t33
+    same-length-2
+    returns-3
+    fall-back-requires
+    cast-t25
+    same-length-3
+    same-length-4
+    returns-4)

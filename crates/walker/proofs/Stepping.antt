@@ -1,0 +1,87 @@
+-- One node as the code carries it out, and the invariant of the loop that walks over nodes until a run or an end. Assumes nothing.
+use mathlib.Core.Path.{_≡_, refl, ap, _∙_}
+use mathlib.Core.List.{List}
+use mathlib.Core.Bool.{true, false}
+use Prim.Native.Nat.{ℕ, _+_, _*_, _-_, _≤_, _<_}
+use native.Mathlib.Omega.{arith}
+use lib.ListN.{length, getD}
+use Rattle.semantics.specs.Walk.{Trace}
+use Rattle.machine.specs.declared.Machine.{Machine}
+use Rattle.machine.specs.Code.{decode, Fits}
+use Rattle.machine.specs.Moves.{move}
+use Rattle.machine.specs.Words.{stackOf, nowOf, movedOn, carried}
+use Rattle.machine.specs.Ready.{Leads, stay, onward, StackFits, Ready}
+use Rattle.machine.specs.Laws.Loop.{Running, ready-led, leads-join, ReadyForSome, running-fits, running-stack, running-low}
+
+pub moved-as : (p sub regs work : List ℕ) (m : Machine) (n : ℕ) → getD p (m .pc) 0 ≡ n → movedOn p sub regs work m ≡ carried n p sub regs work m
+unfolding move decode
+moved-as p sub regs work m n e = ap (λ (k : ℕ). carried k p sub regs work m) e
+
+-- the only kind that is left
+pub only-loop : (n : ℕ) → n ≤ 8 → (n ≡ 0 → ⊥) → (n ≡ 1 → ⊥) → (n ≡ 2 → ⊥) → (n ≡ 3 → ⊥) → (n ≡ 4 → ⊥) → (n ≡ 5 → ⊥) → (n ≡ 6 → ⊥) → (n ≡ 7 → ⊥) → n ≡ 8
+only-loop n h a b c d e f g i = high n h (low n a b c d) e f g i
+  where
+    low : (n : ℕ) → (n ≡ 0 → ⊥) → (n ≡ 1 → ⊥) → (n ≡ 2 → ⊥) → (n ≡ 3 → ⊥) → 4 ≤ n
+    low n a b c d = omega arith
+
+    high : (n : ℕ) → n ≤ 8 → 4 ≤ n → (n ≡ 4 → ⊥) → (n ≡ 5 → ⊥) → (n ≡ 6 → ⊥) → (n ≡ 7 → ⊥) → n ≡ 8
+    high n h l e f g i = omega arith
+
+-- A walk that begins with the registers regs₀ and the work area work₀, at m₀.
+module _ (p sub regs₀ work₀ : List ℕ) (m₀ : Machine) (left : ℕ) where
+  pub record Stepping (regs work : List ℕ) (used : ℕ) (m : Machine) : Type 0 where
+    pub size : length regs ≡ length regs₀
+    pub wide : length work ≡ length work₀
+    pub few : used ≤ left
+    pub some : ReadyForSome p sub regs₀ work₀ m₀ left
+    pub begins : used ≡ 0 → m ≡ m₀
+    pub leads : Leads p sub (nowOf regs₀ work₀ m₀) used (nowOf regs work m)
+
+  pub stepping-start : ReadyForSome p sub regs₀ work₀ m₀ left → Stepping regs₀ work₀ 0 m₀
+  stepping-start x = record { size = refl; wide = refl; few = omega arith; some = x; begins = λ e. refl; leads = stay }
+
+module _ {p sub regs₀ work₀ : List ℕ} {m₀ : Machine} {left : ℕ} {regs work : List ℕ} {used : ℕ} {m : Machine} (g : Stepping p sub regs₀ work₀ m₀ left regs work used m) where
+  running : Running p sub (length work₀) left (g .some .0) (g .some .1) used (nowOf regs work m)
+  running = ready-led p sub (length work₀) left (g .some .0) (g .some .1) (g .some .2) (g .leads) (g .few)
+
+  pub stepping-ready : (first : List ℕ) × (t : Trace) × Ready p sub (length work) (left - used) first (nowOf regs work m) t
+  stepping-ready = (g .some .0, running .rest, rw (g .wide) (running .ready))
+
+  -- where it does not stand at such a node, at least one was walked
+  some-steps : (used ≡ 0 → ⊥) → 1 ≤ used
+  some-steps h = omega arith
+
+  pub stepping-past : getD p (m₀ .pc) 0 ≤ 8 → 8 < getD p (m .pc) 0 → 1 ≤ used
+  stepping-past h k = some-steps (λ e. let z : m .pc ≡ m₀ .pc = ap (λ (x : Machine). x .pc) (g .begins e) in let k′ : 8 < getD p (m₀ .pc) 0 = rw z at k in omega arith)
+
+  pub stepping-idle : m₀ .live ≡ true → m .live ≡ false → 1 ≤ used
+  stepping-idle h k = some-steps (λ e. let z : m .live ≡ m₀ .live = ap (λ (x : Machine). x .live) (g .begins e) in let y : _≡_ {A = ℕ} 0 1 = cc in omega arith)
+
+  -- nodes in a row
+  pub stepping-more : (regs′ work′ : List ℕ) (m′ : Machine) (n : ℕ) → 1 ≤ n → n ≤ left - used → Leads p sub (nowOf regs work m) n (nowOf regs′ work′ m′) → length regs′ ≡ length regs → length work′ ≡ length work
+      → Stepping p sub regs₀ work₀ m₀ left regs′ work′ (used + n) m′
+  stepping-more regs′ work′ m′ n one h l s s′ = record {
+    size = s ∙ g .size;
+    wide = s′ ∙ g .wide;
+    few = omega (arith, g .few);
+    some = g .some;
+    begins = λ e. absurd (omega arith);
+    leads = leads-join p sub (g .leads) l;
+  }
+
+  module _ (live : m .live ≡ true) where
+    pub stepping-fits : Fits p (m .pc)
+    stepping-fits = running-fits regs work m live running
+
+    pub stepping-stack : StackFits p (stackOf work (m .height))
+    stepping-stack = running-stack regs work m live running
+
+    pub stepping-low : 4 * m .height + 8 * (left - used) ≤ length work
+    stepping-low = rw (g .wide) (running-low regs work m live running)
+
+    -- one node
+    pub stepping-on : (regs′ work′ : List ℕ) (m′ : Machine) → used < left → getD p (m .pc) 0 ≤ 8 → nowOf regs′ work′ m′ ≡ movedOn p sub regs work m → length regs′ ≡ length regs → length work′ ≡ length work
+        → Stepping p sub regs₀ work₀ m₀ left regs′ work′ (used + 1) m′
+    stepping-on regs′ work′ m′ h k e s s′ =
+        let l : Leads p sub (nowOf regs work m) 1 (nowOf regs′ work′ m′) = rw (e, live) (onward stay k) in
+        stepping-more regs′ work′ m′ 1 (omega arith) (omega (arith, g .few)) l s s′

@@ -1,0 +1,50 @@
+-- `advance` meets its contract: branches lead as `take_branch` says, and any other node by its one move.
+use mathlib.Core.Path.{sym, _∙_}
+use native.Mathlib.Omega.{arith}
+use denote.Ref.{now}
+use Rattle.walker.proofs.Stepping.{stepping-start, stepping-fits, stepping-stack, stepping-low, stepping-on}
+use Rattle.walker.proofs.advance.Statement.{statement}
+use Rattle.walker.proofs.advance.Tie as tie
+
+take-branch-requires : tie.Need-take-branch-requires
+take-branch-requires c κs =
+    let s = c .before .before .before .before .before .before in
+    ((sym (s .pre .0 .0) ∙ c .before .if1 .taken, s .pre .0 .2, s .pre .0 .3, s .pre .0 .5, s .pre .0 .6), (now (s .args .regs), s .pre .1 .0, s .pre .1 .1, s .pre .1 .2))
+
+same-length : tie.Need-same-length
+same-length c = c .before .before .take-branch .kept .1 .1 .0
+
+returns : tie.Need-returns
+returns c = let r = c .before .before .take-branch in (r .ensures .0, r .ensures .1, r .ensures .2 (now (c .before .before .before .before .before .before .before .before .before .args .regs)))
+
+step-requires : tie.Need-step-requires
+step-requires c κs =
+    let s = c .before .before .before .before .before .before .before in
+    let g = stepping-start (now (s .args .code)) (now (s .args .sub)) (now (s .args .regs)) (now (s .args .work)) (s .args .m) (s .args .left) (s .pre .1) in
+    let t = s .pre .0 .2 in
+    ((s .pre .0 .0, s .pre .0 .1, c .before .before .if1 .left, s .pre .0 .4, omega (arith, stepping-low g t, s .pre .0 .3), s .pre .0 .5, s .pre .0 .6), (stepping-fits g t, stepping-stack g t))
+
+same-length-2 : tie.Need-same-length-2
+same-length-2 c = c .before .before .before .before .step .kept .1 .1 .0
+
+same-length-3 : tie.Need-same-length-3
+same-length-3 c = c .before .before .before .before .step .kept .1 .1 .1 .0
+
+returns-2 : tie.Need-returns-2
+returns-2 c =
+    let s = c .before .before .before .before .before .before .before .before .before .before .before .before in
+    let g = stepping-start (now (s .args .code)) (now (s .args .sub)) (now (s .args .regs)) (now (s .args .work)) (s .args .m) (s .args .left) (s .pre .1) in
+    let r = c .before .before .before .before .step in
+    (omega arith, s .pre .0 .3, stepping-on g (s .pre .0 .2) (r .last .1 .1 .0) (r .last .1 .1 .1 .0) (r .result) (omega (arith, s .pre .0 .3)) (omega (arith, s .pre .0 .0, s .pre .0 .1)) (r .ensures) (r .kept .1 .1 .0) (r .kept .1 .1 .1 .0) .leads)
+
+pub advance-spec : {M : Type 1} → statement M
+advance-spec =
+    tie.close
+    (tie.spec
+    take-branch-requires
+    same-length
+    returns
+    step-requires
+    same-length-2
+    same-length-3
+    returns-2)

@@ -1,0 +1,162 @@
+// The walk: one step, many of them, and running to the next end.
+//
+// `run_to_end` stops at the rule's end, where nothing is left to try or where the steps are spent, and tells which as the rule's trace does. Before
+// each step the machine is ready for all that are left. It costs what its nodes cost: nothing is looked up, copied or cleared between them.
+use branches::take_branch;
+use machine::BRANCH;
+use machine::Machine;
+use machine::RUN;
+use machine::Ran;
+use machine::Stop;
+use machine::Walked;
+use nodes::begin_last_branch;
+use nodes::close_group;
+use nodes::open_group;
+use nodes::take_byte;
+use nodes::test_assertion;
+use nodes::test_reference;
+use repeats::end_round;
+use repeats::enter_repeat;
+use runs::take_run;
+ghost use mathlib.Core.Path.{_≡_};
+ghost use mathlib.Core.List.{List};
+ghost use mathlib.Core.Bool.{true};
+ghost use Prim.Native.Nat.{ℕ, _+_, _*_, _≤_, _<_, _^_};
+ghost use lib.ListN.{length, getD};
+ghost use Rattle.syntax.specs.Limits.{registers};
+ghost use Rattle.semantics.specs.Walk.{Trace};
+ghost use Rattle.machine.specs.Code.{Fits};
+ghost use Rattle.machine.specs.Words.{stackOf, nowOf, movedOn};
+ghost use Rattle.machine.specs.Ready.{until, Leads, StackFits, Ready, Agrees};
+
+// One node that is no end, no run and no branch but the last; `kind` is its first number.
+fn step(
+    code: &[u32],
+    sub: &[u8],
+    regs: &mut [u32],
+    work: &mut [u32],
+    kind: u32,
+    m: Machine,
+) -> Machine
+    requires { ⌜ (kind ≡ getD (now code) (m .pc) 0) × (kind ≤ 8) × (kind ≡ 5 → ⊥) × (length (now regs) ≡ registers) × (4 * m .height + 8 ≤ length (now work)) × (length (now sub) < 2 ^ 32) × (length (now code) < 2 ^ 32) ⌝ }
+    requires { ⌜ Fits (now code) (m .pc) ⌝ }
+    requires { ⌜ StackFits (now code) (stackOf (now work) (m .height)) ⌝ }
+    ensures { λ r. ⌜ nowOf (now (regs .exit)) (now (work .exit)) r ≡ movedOn (now (code .entry)) (now (sub .entry)) (now (regs .entry)) (now (work .entry)) m ⌝ }
+{
+    match kind {
+        0 => take_byte(code, sub, regs, work, m),
+        1 => test_assertion(code, sub, regs, work, m),
+        2 => test_reference(code, sub, regs, work, m),
+        3 => open_group(code, regs, work, m),
+        4 => close_group(code, regs, work, m),
+        6 => begin_last_branch(code, m),
+        7 => enter_repeat(code, regs, work, m),
+        _ => end_round(code, regs, work, m),
+    }
+}
+
+// One node that is no end and no run, or branches one after the other. What is used comes back beside the machine, and is counted in one place for
+// all kinds: so the compiler makes one jump of the kind.
+fn advance(
+    code: &[u32],
+    sub: &[u8],
+    regs: &mut [u32],
+    work: &mut [u32],
+    kind: u32,
+    m: Machine,
+    left: u32,
+) -> Walked
+    requires { ⌜ (kind ≡ getD (now code) (m .pc) 0) × (kind ≤ 8) × (m .live ≡ true) × (1 ≤ left) × (length (now regs) ≡ registers) × (length (now sub) < 2 ^ 32) × (length (now code) < 2 ^ 32) ⌝ }
+    requires { ⌜ ((first : List ℕ) × (t : Trace) × Ready (now code) (now sub) (length (now work)) left first (nowOf (now regs) (now work) m) t) ⌝ }
+    ensures { λ r. ⌜ (1 ≤ r .used) × (r .used ≤ left) × Leads (now (code .entry)) (now (sub .entry)) (nowOf (now (regs .entry)) (now (work .entry)) m) (r .used) (nowOf (now (regs .exit)) (now (work .exit)) (r .head)) ⌝ }
+{
+    if kind == BRANCH {
+        return take_branch(code, sub, work, m, left);
+    }
+    let next = step(code, sub, regs, work, kind, m);
+    Walked {
+        used: 1,
+        head: next,
+    }
+}
+
+// Walks on until it comes to a run or an end, the steps are used or nothing is left. It is a loop of its own, apart from runs and ends, so that
+// the compiler keeps in registers what each step needs.
+fn walk(
+    code: &[u32],
+    sub: &[u8],
+    regs: &mut [u32],
+    work: &mut [u32],
+    m: Machine,
+    left: u32,
+) -> Walked
+    requires { ⌜ (m .live ≡ true) × (getD (now code) (m .pc) 0 ≤ 8) × (1 ≤ left) × (length (now regs) ≡ registers) × (length (now sub) < 2 ^ 32) × (length (now code) < 2 ^ 32) ⌝ }
+    requires { ⌜ ((first : List ℕ) × (t : Trace) × Ready (now code) (now sub) (length (now work)) left first (nowOf (now regs) (now work) m) t) ⌝ }
+    ensures { λ r. ⌜ (1 ≤ r .used) × (r .used ≤ left) × Leads (now (code .entry)) (now (sub .entry)) (nowOf (now (regs .entry)) (now (work .entry)) m) (r .used) (nowOf (now (regs .exit)) (now (work .exit)) (r .head)) ⌝ }
+{
+    let mut used: u32 = 0;
+    let mut head = m;
+    while head.live {
+        if used == left {
+            return Walked {
+                used: used,
+                head: head,
+            };
+        }
+        let pc = head.pc as usize;
+        let kind = code[pc];
+        if 8 < kind {
+            return Walked {
+                used: used,
+                head: head,
+            };
+        }
+        let on = advance(code, sub, regs, work, kind, head, left - used);
+        used += on.used;
+        head = on.head;
+    }
+    Walked {
+        used: used,
+        head: head,
+    }
+}
+
+// Walks on to the next end, within `budget` steps. To go on after an end, fall back and call again.
+pub fn run_to_end(
+    code: &[u32],
+    sub: &[u8],
+    regs: &mut [u32],
+    work: &mut [u32],
+    m: Machine,
+    budget: u32,
+) -> Stop
+    requires { ⌜ (length (now regs) ≡ registers) × (length (now sub) < 2 ^ 32) × (length (now code) < 2 ^ 32) ⌝ }
+    requires { ⌜ ((first : List ℕ) × (t : Trace) × Ready (now code) (now sub) (length (now work)) budget first (nowOf (now regs) (now work) m) t) ⌝ }
+    ensures { λ r. ⌜ ((first : List ℕ) (t : Trace) → Ready (now (code .entry)) (now (sub .entry)) (length (now (work .entry))) budget first (nowOf (now (regs .entry)) (now (work .entry)) m) t
+        → Agrees (now (code .entry)) (now (sub .entry)) (length (now (work .entry))) budget first (now (regs .exit)) (now (work .exit)) (until budget 0 t) r) ⌝ }
+{
+    let mut used: u32 = 0;
+    let mut head = m;
+    while head.live {
+        if used == budget {
+            return Stop::Spent;
+        }
+        let pc = head.pc as usize;
+        let kind = code[pc];
+        if 8 < kind {
+            if kind != RUN {
+                return Stop::End(used + 1, head);
+            }
+            let Ran::Made(n, made) = take_run(code, sub, regs, work, head, budget - used) else {
+                return Stop::Spent;
+            };
+            used += n;
+            head = made;
+            continue;
+        }
+        let w = walk(code, sub, regs, work, head, budget - used);
+        used += w.used;
+        head = w.head;
+    }
+    Stop::Nothing(used)
+}
