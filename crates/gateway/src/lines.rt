@@ -39,17 +39,17 @@ struct Heard {
 
 // Answers the lines that end in a piece, and writes out all answers.
 fn answer_piece(
-    rule: &[u8],
+    code: &[u32],
+    entry: u32,
     groups: u32,
     piece: &[u8],
     line: &mut [u8],
-    rule_area: &mut [u32],
     work_area: &mut [u32],
     results: &mut [u32],
     out: &mut [u8],
     held: usize,
 ) -> Heard
-    requires { ⌜ Lent (now rule) groups (now «rule_area») (now «work_area») (now results) ⌝ }
+    requires { ⌜ Lent (now code) entry groups (now «work_area») (now results) ⌝ }
     requires { ⌜ (held ≤ heldLimit) × (heldLimit ≤ length (now line)) × (answerRoom ≤ length (now out)) ⌝ }
     ensures { λ r. ⌜ r .have ≤ heldLimit ⌝ }
 {
@@ -59,11 +59,11 @@ fn answer_piece(
     while at < piece.len() {
         let p = Progress { at, have, put };
         let q = advance(
-            rule,
+            code,
+            entry,
             groups,
             piece,
             line,
-            rule_area,
             work_area,
             results,
             out,
@@ -90,17 +90,17 @@ pub enum Hearing {
 
 // Reads a piece and answers it. Input that fails is over.
 fn hear(
-    rule: &[u8],
+    code: &[u32],
+    entry: u32,
     groups: u32,
     piece: &mut [u8],
     line: &mut [u8],
-    rule_area: &mut [u32],
     work_area: &mut [u32],
     results: &mut [u32],
     out: &mut [u8],
     have: usize,
 ) -> Hearing
-    requires { ⌜ Lent (now rule) groups (now «rule_area») (now «work_area») (now results) ⌝ }
+    requires { ⌜ Lent (now code) entry groups (now «work_area») (now results) ⌝ }
     requires { ⌜ (have ≤ heldLimit) × (heldLimit ≤ length (now line)) × (answerRoom ≤ length (now out)) ⌝ }
     ensures { λ r. ⌜ Held r ⌝ }
 {
@@ -108,11 +108,11 @@ fn hear(
     match input {
         Input::Bytes(n) => {
             let h = answer_piece(
-                rule,
+                code,
+                entry,
                 groups,
                 &piece[..n],
                 line,
-                rule_area,
                 work_area,
                 results,
                 out,
@@ -134,33 +134,33 @@ fn hear(
 
 // Answers the last piece, if it is not empty.
 fn end_input(
-    rule: &[u8],
+    code: &[u32],
+    entry: u32,
     groups: u32,
     held: &[u8],
-    rule_area: &mut [u32],
     work_area: &mut [u32],
     results: &mut [u32],
     out: &mut [u8],
 )
-    requires { ⌜ Lent (now rule) groups (now «rule_area») (now «work_area») (now results) ⌝ }
+    requires { ⌜ Lent (now code) entry groups (now «work_area») (now results) ⌝ }
     requires { ⌜ answerRoom ≤ length (now out) ⌝ }
 {
-    let put = finish(rule, groups, held, rule_area, work_area, results, out, 0);
+    let put = finish(code, entry, groups, held, work_area, results, out, 0);
     deliver(&out[..put]);
 }
 
 // Answers all lines of the input. The turns are counted down because a loop has to end, from a number that no run uses up.
 pub(crate) fn answer_input(
-    rule: &[u8],
+    code: &[u32],
+    entry: u32,
     groups: u32,
     piece: &mut [u8],
     line: &mut [u8],
-    rule_area: &mut [u32],
     work_area: &mut [u32],
     results: &mut [u32],
     out: &mut [u8],
 )
-    requires { ⌜ Lent (now rule) groups (now «rule_area») (now «work_area») (now results) ⌝ }
+    requires { ⌜ Lent (now code) entry groups (now «work_area») (now results) ⌝ }
     requires { ⌜ (heldLimit ≤ length (now line)) × (answerRoom ≤ length (now out)) ⌝ }
 {
     let mut turns = u64::MAX;
@@ -168,11 +168,11 @@ pub(crate) fn answer_input(
     while turns > 0 {
         turns -= 1;
         let hearing = hear(
-            rule,
+            code,
+            entry,
             groups,
             piece,
             line,
-            rule_area,
             work_area,
             results,
             out,
@@ -183,7 +183,7 @@ pub(crate) fn answer_input(
                 have = n;
             }
             Hearing::Over(n) => {
-                end_input(rule, groups, &line[..n], rule_area, work_area, results, out);
+                end_input(code, entry, groups, &line[..n], work_area, results, out);
                 return;
             }
             Hearing::Closed => return,

@@ -12,17 +12,18 @@ use lines::answer_input;
 use output::deliver;
 use rule_file::Loading;
 use rule_file::load;
-ghost use Prim.Native.Nat.{_≤_};
+ghost use mathlib.Core.Path.{_≡_};
+ghost use mathlib.Core.List.{List};
+ghost use Prim.Native.Nat.{ℕ, _≤_};
 ghost use lib.ListN.{length};
 ghost use Rattle.syntax.specs.Limits.{ruleAreaNeed};
-ghost use Rattle.syntax.specs.Tree.{Rule};
 ghost use Rattle.gateway_line.specs.Limits.{answerRoom};
-ghost use Rattle.gateway_line.specs.Promises.{Reads};
+ghost use Rattle.gateway_line.specs.Promises.{Standing};
 
 // One byte more than a rule may have: with so many, it is known to be too long.
 const RULE_ROOM: usize = frame::RULE_LIMIT + 1;
 
-// What is lent to every call: 01, "Rows, room and what is left behind".
+// What the rule and every match is lent: 01, "Rows, room and what is left behind".
 const RULE_AREA: usize = frame::RULE_AREA_NEED;
 
 const WORK_AREA: usize = frame::WORK_PER_STEP * gateway_line::BUDGET as usize;
@@ -48,35 +49,35 @@ fn say_refusal(f: syntax::Refusal, out: &mut [u8])
     deliver(&out[..n]);
 }
 
-// Answers standard input by a sound rule.
-fn serve(rule: &[u8], groups: u32, rule_area: &mut [u32], out: &mut [u8])
-    requires { ⌜ ((tree : Rule) × Reads (now rule) tree groups) ⌝ }
-    requires { ⌜ (ruleAreaNeed ≤ length (now «rule_area»)) × (answerRoom ≤ length (now out)) ⌝ }
+// Answers standard input by a rule that stands compiled.
+fn serve(code: &[u32], entry: u32, groups: u32, out: &mut [u8])
+    requires { ⌜ ((rule : List ℕ) × Standing rule (now code) entry groups) ⌝ }
+    requires { ⌜ (length (now code) ≡ ruleAreaNeed) × (answerRoom ≤ length (now out)) ⌝ }
 {
     let mut work_area = [0u32; WORK_AREA];
     let mut results = [0u32; RESULT_AREA];
     let mut line = [0u8; LINE_ROOM];
     let mut piece = io::large_buffer();
     answer_input(
-        rule,
+        code,
+        entry,
         groups,
         &mut piece,
         &mut line,
-        rule_area,
         &mut work_area,
         &mut results,
         out,
     );
 }
 
-// Answers standard input by a rule, or says why it is refused.
+// Answers standard input by a rule, which is compiled once for all lines, or says why it is refused.
 fn serve_or_refuse(rule: &[u8], out: &mut [u8])
     requires { ⌜ answerRoom ≤ length (now out) ⌝ }
 {
     let mut rule_area = [0u32; RULE_AREA];
     let readiness = prepare(rule, &mut rule_area);
     match readiness {
-        Readiness::Ready(groups) => serve(rule, groups, &mut rule_area, out),
+        Readiness::Ready(entry, groups) => serve(&rule_area, entry, groups, out),
         Readiness::Refused(f) => say_refusal(f, out),
     }
 }

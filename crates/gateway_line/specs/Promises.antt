@@ -4,12 +4,14 @@ use mathlib.Core.List.{List, [], _++_}
 use Prim.Native.Nat.{ℕ, _+_, _≤_, _<_}
 use lib.ListN.{length, take, drop}
 use lib.Dec.{ltb}
-use Rattle.syntax.specs.Limits.{ruleAreaNeed, rowLength}
+use Rattle.syntax.specs.Limits.{ruleAreaNeed, rowLength, groupLimit}
 use Rattle.syntax.specs.Refusals.{numberOf}
 use Rattle.syntax.specs.Read.{if_then_else_, sound, refused}
 use Rattle.syntax.specs.Tree.{Rule}
-use Rattle.semantics.specs.States.{Row}
-use Rattle.semantics.specs.Calls.{Call, workAreaNeed, MatchOutcome, Matched, NotMatched, Exhausted, Refused, matchCall}
+use Rattle.semantics.specs.States.{Row, row}
+use Rattle.semantics.specs.Answers.{Outcome, matched, notMatched, exhausted, answer}
+use Rattle.semantics.specs.Calls.{workAreaNeed, over, MatchOutcome, Matched, NotMatched, Exhausted, Refused}
+use Rattle.machine.specs.Theorem.{Stands}
 use Rattle.text.specs.Writing.{Wrote}
 use Rattle.gateway_line.specs.declared.streaming.Progress.{Progress}
 use Rattle.gateway_line.specs.declared.rules.Readiness.{Readiness}
@@ -29,14 +31,23 @@ pub record WroteLine (old : List ℕ) (at : ℕ) (text new : List ℕ) (end : �
 abbrev pub Reads : List ℕ → Rule → ℕ → Type 0
 Reads rule tree groups = (stop : ℕ) × (gatewayRule rule ≡ sound (tree, groups) stop)
 
-abbrev pub Prepares : List ℕ → Readiness → Type 0
-Prepares rule (Ready groups) = (tree : Rule) × Reads rule tree groups
-Prepares rule (Denied f) = gatewayRule rule ≡ refused (f .place) (f .reason)
+-- the rule that these bytes give stands compiled
+pub record Standing (rule code : List ℕ) (entry groups : ℕ) : Type 0 where
+  pub tree : Rule
+  pub reads : Reads rule tree groups
+  pub stands : Stands code tree entry
+  pub few : groups ≤ groupLimit
 
--- what every answer is lent: a sound rule, with its number of groups, and areas that are long enough
-pub record Lent (rule : List ℕ) (groups : ℕ) (ruleArea workArea results : List ℕ) : Type 0 where
-  pub sound-rule : (tree : Rule) × Reads rule tree groups
-  pub rule-area-fits : ruleAreaNeed ≤ length ruleArea
+abbrev pub Prepares : (rule code : List ℕ) → Readiness → Type 0
+Prepares rule code (Ready entry groups) = Standing rule code entry groups
+Prepares rule code (Denied f) = gatewayRule rule ≡ refused (f .place) (f .reason)
+
+-- what every answer is lent: a rule that stands compiled, with its number of groups, and areas that are long enough
+pub record Lent (code : List ℕ) (entry groups : ℕ) (workArea results : List ℕ) : Type 0 where
+  pub tree : Rule
+  pub stands : Stands code tree entry
+  pub few : groups ≤ groupLimit
+  pub code-size : length code ≡ ruleAreaNeed
   pub work-area-fits : workAreaNeed gatewayBudget ≤ length workArea
   pub results-fit : rowLength ≤ length results
 
@@ -50,17 +61,23 @@ toldLine groups (Exhausted start steps) x = exhaustedLine start
 toldLine groups (Refused place why) x = refusalLine (numberOf why) place
 
 -- the answer to a line was written
-abbrev pub Answered : (rule : List ℕ) (groups : ℕ) (line old : List ℕ) (at : ℕ) (new : List ℕ) (end : ℕ) → Type 0
-Answered rule groups line old at new end = (tree : Rule) → Reads rule tree groups → WroteLine old at (answerLine (tree, groups) line) new end
+abbrev pub Answered : (code : List ℕ) (entry groups : ℕ) (line old : List ℕ) (at : ℕ) (new : List ℕ) (end : ℕ) → Type 0
+Answered code entry groups line old at new end = (tree : Rule) → Stands code tree entry → WroteLine old at (answerLine (tree, groups) line) new end
 
--- what the call for a line leaves of the areas; for a line that is too long there is none
-unfoldable pub unlessLong : Call → (kept called : List ℕ) → List ℕ
-unlessLong c kept called = if ltb lineLimit (length (c .subject)) then kept else called
+-- the row of a match stands in the result area, over what was there
+unfoldable pub rowed : Outcome → List ℕ → List ℕ
+rowed (matched start t) area = over (row start t) area
+rowed notMatched area = area
+rowed (exhausted start) area = area
 
-pub record Left (c : Call) (ruleArea workArea results : List ℕ) : Type 0 where
-  pub rule-area-is : ruleArea ≡ unlessLong c (c .ruleArea) (matchCall c .ruleArea)
-  pub work-area-is : workArea ≡ unlessLong c (c .workArea) (matchCall c .workArea)
-  pub results-are : results ≡ unlessLong c (c .resultArea) (matchCall c .resultArea)
+-- what an answer leaves in the result area; for a line that is too long there is no match
+unfoldable pub resultsLeft : Rule → (line results : List ℕ) → List ℕ
+resultsLeft tree line results = if ltb lineLimit (length line) then results else rowed (answer line tree gatewayBudget .outcome) results
+
+-- what an answer leaves of the areas: of the work area no more is written than the budget needs
+pub record Left (code : List ℕ) (entry : ℕ) (line workArea results workArea′ results′ : List ℕ) : Type 0 where
+  pub work-area-rest : drop (workAreaNeed gatewayBudget) workArea′ ≡ drop (workAreaNeed gatewayBudget) workArea
+  pub results-are : (tree : Rule) → Stands code tree entry → results′ ≡ resultsLeft tree line results
 
 -- An input in pieces --------------------------------------------------------
 
@@ -77,9 +94,9 @@ pub record Spoken (r : Rule × ℕ) (piece line out : List ℕ) (p : Progress) (
   pub wrote : Wrote out (p .put) text out′ (q .put)
   pub goes-on : (rest : List ℕ) → answers r (take (p .have) line) (drop (p .at) piece ++ rest) ≡ text ++ answers r (take (q .have) line′) (drop (q .at) piece ++ rest)
 
-abbrev pub Advanced : (rule : List ℕ) (groups : ℕ) (piece line out : List ℕ) (p : Progress) (line′ out′ : List ℕ) (q : Progress) → Type 0
-Advanced rule groups piece line out p line′ out′ q = (tree : Rule) → Reads rule tree groups → Spoken (tree, groups) piece line out p line′ out′ q
+abbrev pub Advanced : (code : List ℕ) (entry groups : ℕ) (piece line out : List ℕ) (p : Progress) (line′ out′ : List ℕ) (q : Progress) → Type 0
+Advanced code entry groups piece line out p line′ out′ q = (tree : Rule) → Stands code tree entry → Spoken (tree, groups) piece line out p line′ out′ q
 
 -- at the end of the input
-abbrev pub Finished : (rule : List ℕ) (groups : ℕ) (held out : List ℕ) (put : ℕ) (out′ : List ℕ) (end : ℕ) → Type 0
-Finished rule groups held out put out′ end = (tree : Rule) → Reads rule tree groups → WroteLine out put (answers (tree, groups) held []) out′ end
+abbrev pub Finished : (code : List ℕ) (entry groups : ℕ) (held out : List ℕ) (put : ℕ) (out′ : List ℕ) (end : ℕ) → Type 0
+Finished code entry groups held out put out′ end = (tree : Rule) → Stands code tree entry → WroteLine out put (answers (tree, groups) held []) out′ end

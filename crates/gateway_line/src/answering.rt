@@ -4,16 +4,14 @@ use crate::lines::write_matched;
 use crate::lines::write_not_matched;
 use crate::lines::write_refusal;
 use crate::lines::write_too_long;
-use crate::rules::FLAGS;
 use index::ROW_LENGTH;
 use matching::Outcome;
-use matching::match_line;
+use matching::match_held;
 ghost use Prim.Native.Nat.{_+_, _≤_};
 ghost use lib.ListN.{length};
 ghost use Rattle.syntax.specs.Limits.{rowLength, groupLimit};
-ghost use Rattle.frame.specs.Inputs.{callOf};
 ghost use Rattle.matching.specs.Outcomes.{outcomeOf};
-ghost use Rattle.gateway_line.specs.Limits.{gatewayBudget, gatewayFlags, answerRoom};
+ghost use Rattle.gateway_line.specs.Limits.{answerRoom};
 ghost use Rattle.gateway_line.specs.Promises.{WroteLine, Lent, toldLine, Answered, Left};
 
 pub const BUDGET: u32 = 1000;
@@ -34,25 +32,25 @@ fn tell(outcome: Outcome, row: &[u32], groups: u32, out: &mut [u8], at: usize) -
     }
 }
 
-// Writes the answer to a line, by a rule that is sound and has so many groups.
+// Writes the answer to a line, by a rule that stands compiled and has so many groups.
 pub fn answer(
-    rule: &[u8],
+    code: &[u32],
+    entry: u32,
     groups: u32,
     line: &[u8],
-    rule_area: &mut [u32],
     work_area: &mut [u32],
     results: &mut [u32],
     out: &mut [u8],
     at: usize,
 ) -> usize
-    requires { ⌜ Lent (now rule) groups (now «rule_area») (now «work_area») (now results) ⌝ }
+    requires { ⌜ Lent (now code) entry groups (now «work_area») (now results) ⌝ }
     requires { ⌜ at + answerRoom ≤ length (now out) ⌝ }
-    ensures { λ r. ⌜ Answered (now (rule .entry)) groups (now (line .entry)) (now (out .entry)) at (now (out .exit)) r ⌝ }
-    ensures { λ _. ⌜ Left (callOf (now (rule .entry)) gatewayFlags (now (line .entry)) gatewayBudget (now («rule_area» .entry)) (now («work_area» .entry)) (now (results .entry))) (now («rule_area» .exit)) (now («work_area» .exit)) (now (results .exit)) ⌝ }
+    ensures { λ r. ⌜ Answered (now (code .entry)) entry groups (now (line .entry)) (now (out .entry)) at (now (out .exit)) r ⌝ }
+    ensures { λ _. ⌜ Left (now (code .entry)) entry (now (line .entry)) (now («work_area» .entry)) (now (results .entry)) (now («work_area» .exit)) (now (results .exit)) ⌝ }
 {
     if LINE_LIMIT < line.len() {
         return write_too_long(out, at);
     }
-    let outcome = match_line(rule, FLAGS, line, BUDGET, rule_area, work_area, results);
+    let outcome = match_held(code, entry, line, BUDGET, work_area, results);
     tell(outcome, &results[..ROW_LENGTH], groups, out, at)
 }

@@ -4,23 +4,23 @@ use reader::Compilation;
 use reader::compile;
 use syntax::Reason;
 use syntax::Refusal;
-ghost use Prim.Native.Nat.{_≤_};
+ghost use mathlib.Core.Path.{_≡_};
 ghost use lib.ListN.{length};
 ghost use Rattle.syntax.specs.Limits.{ruleAreaNeed};
 ghost use Rattle.gateway_line.specs.Promises.{Prepares};
 
 pub const FLAGS: u32 = 0;
 
-// A rule that lines can be answered by, with its number of groups; or why it is refused.
+// A rule that lines can be answered by, with its entry and its number of groups; or why it is refused.
 pub enum Readiness {
-    Ready(u32),
+    Ready(u32, u32),
     Refused(Refusal),
 }
 
-// Reads a rule. What stands in the area afterwards is of no use to anyone.
+// Reads a rule. If it is sound, it stands compiled in the area, and serves for all lines.
 pub fn prepare(rule: &[u8], rule_area: &mut [u32]) -> Readiness
-    requires { ⌜ ruleAreaNeed ≤ length (now «rule_area») ⌝ }
-    ensures { λ r. ⌜ Prepares (now (rule .entry)) r ⌝ }
+    requires { ⌜ length (now «rule_area») ≡ ruleAreaNeed ⌝ }
+    ensures { λ r. ⌜ Prepares (now (rule .entry)) (now («rule_area» .exit)) r ⌝ }
 {
     if RULE_LIMIT < rule.len() {
         return Readiness::Refused(Refusal {
@@ -31,6 +31,9 @@ pub fn prepare(rule: &[u8], rule_area: &mut [u32]) -> Readiness
     let compiled = compile(rule, FLAGS, rule_area);
     match compiled {
         Compilation::Refused(f) => Readiness::Refused(f),
-        Compilation::Sound(_pc, groups) => Readiness::Ready(groups),
+        Compilation::Sound(pc, groups) => {
+            let entry = pc as u32;
+            Readiness::Ready(entry, groups)
+        }
     }
 }

@@ -20,20 +20,20 @@ pub struct Progress {
 
 // Goes on to the end of a line, which is answered, or to the end of the piece.
 pub fn advance(
-    rule: &[u8],
+    code: &[u32],
+    entry: u32,
     groups: u32,
     piece: &[u8],
     line: &mut [u8],
-    rule_area: &mut [u32],
     work_area: &mut [u32],
     results: &mut [u32],
     out: &mut [u8],
     p: Progress,
 ) -> Progress
-    requires { ⌜ Lent (now rule) groups (now «rule_area») (now «work_area») (now results) ⌝ }
+    requires { ⌜ Lent (now code) entry groups (now «work_area») (now results) ⌝ }
     requires { ⌜ (p .at ≤ length (now piece)) × (p .have ≤ heldLimit) × (heldLimit ≤ length (now line)) × (p .put + answerRoom ≤ length (now out)) ⌝ }
     ensures { λ q. ⌜ Onward (now (piece .entry)) p q ⌝ }
-    ensures { λ q. ⌜ Advanced (now (rule .entry)) groups (now (piece .entry)) (now (line .entry)) (now (out .entry)) p (now (line .exit)) (now (out .exit)) q ⌝ }
+    ensures { λ q. ⌜ Advanced (now (code .entry)) entry groups (now (piece .entry)) (now (line .entry)) (now (out .entry)) p (now (line .exit)) (now (out .exit)) q ⌝ }
 {
     let at = p.at;
     let have = p.have;
@@ -48,10 +48,10 @@ pub fn advance(
         };
     }
     let behind = answer(
-        rule,
+        code,
+        entry,
         groups,
         &line[..held],
-        rule_area,
         work_area,
         results,
         out,
@@ -66,21 +66,21 @@ pub fn advance(
 
 // Answers the last piece of the input, if it is not empty.
 pub fn finish(
-    rule: &[u8],
+    code: &[u32],
+    entry: u32,
     groups: u32,
     held: &[u8],
-    rule_area: &mut [u32],
     work_area: &mut [u32],
     results: &mut [u32],
     out: &mut [u8],
     put: usize,
 ) -> usize
-    requires { ⌜ Lent (now rule) groups (now «rule_area») (now «work_area») (now results) ⌝ }
+    requires { ⌜ Lent (now code) entry groups (now «work_area») (now results) ⌝ }
     requires { ⌜ put + answerRoom ≤ length (now out) ⌝ }
-    ensures { λ r. ⌜ Finished (now (rule .entry)) groups (now (held .entry)) (now (out .entry)) put (now (out .exit)) r ⌝ }
+    ensures { λ r. ⌜ Finished (now (code .entry)) entry groups (now (held .entry)) (now (out .entry)) put (now (out .exit)) r ⌝ }
 {
     if held.len() == 0 {
         return put;
     }
-    answer(rule, groups, held, rule_area, work_area, results, out, put)
+    answer(code, entry, groups, held, work_area, results, out, put)
 }

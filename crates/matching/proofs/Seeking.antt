@@ -61,10 +61,11 @@ module _ (sub : List ℕ) (x : Rule) (budget steps n c : ℕ) (t : Trace) (h : M
 
 -- what is written at an end is the row of its state
 row-written : {area area₀ area′ : List ℕ} (begin at : ℕ) (s : State) (r : List ℕ) → area′ ≡ take 0 area ++ (rowOf begin at r ++ drop (0 + rowLength) area) → spansLength ≤ length r → s .at ≡ at → s .spans ≡ take spansLength r → area ≡ area₀
-    → area′ ≡ over (row begin s) area₀
+    → (area′ ≡ over (row begin s) area₀) × (length (row begin s) ≡ rowLength)
 row-written {area} begin at s r written size ea es kept =
     let is : rowOf begin at r ≡ row begin s = rw (← ea) (rowOf-row begin s r (sym es)) in
-    written ∙ over-first (rowOf begin at r) area rowLength (rowOf-length begin at r size) ∙ rw (is, kept)
+    let long = rowOf-length begin at r size in
+    (written ∙ over-first (rowOf begin at r) area rowLength long ∙ rw (is, kept), rw is at long)
 
 -- All starts ------------------------------------------------------------------
 
@@ -121,7 +122,8 @@ module _ {p sub r₀ w₀ area₀ : List ℕ} {entry budget : ℕ} {r w area : L
           → (x : Rule) → Stands p x entry → Reports area₀ area′ (Matched (steps + used)) (answer sub x budget)
       seeking-end used e q written size x st =
           let z = at-end (rw q at (agrees x st)) in
-          (begin, z .0, found-end sub x budget steps begin (length sub - begin) (trace sub x begin) (g .goes x st h) used (z .0) (z .1) (z .2), row-written begin (e .at) (z .0) r′ written size (z .3 .at) (z .3 .spans) (g .kept))
+          let y = row-written begin (e .at) (z .0) r′ written size (z .3 .at) (z .3 .spans) (g .kept) in
+          (begin, z .0, found-end sub x budget steps begin (length sub - begin) (trace sub x begin) (g .goes x st h) used (z .0) (z .1) (z .2), y .0, y .1)
 
       pub seeking-spent : o ≡ Spent → (x : Rule) → Stands p x entry → Reports area₀ area (Exhausted begin (steps + budget)) (answer sub x budget)
       seeking-spent q x st = (found-spent sub x budget steps begin (length sub - begin) (trace sub x begin) (g .goes x st h) (at-spent (rw q at (agrees x st))), g .kept)

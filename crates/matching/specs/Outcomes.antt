@@ -2,6 +2,8 @@
 use mathlib.Core.Path.{_≡_}
 use mathlib.Core.List.{List}
 use Prim.Native.Nat.{ℕ}
+use lib.ListN.{length}
+use Rattle.syntax.specs.Limits.{rowLength}
 use Rattle.syntax.specs.Tree.{Rule}
 use Rattle.semantics.specs.States.{State, row}
 use Rattle.semantics.specs.Answers.{matched, notMatched, exhausted, Answer, answer}
@@ -19,7 +21,7 @@ outcomeOf (Denied why) = Refused (why .place) (why .reason)
 
 -- the code's answer is this one, and the result area, which was `old`, has its row
 abbrev pub Reports : (old new : List ℕ) → Outcome → Answer → Type 0
-Reports old new (Found steps) a = (start : ℕ) × (t : State) × (a ≡ record { outcome = matched start t; steps = steps }) × (new ≡ over (row start t) old)
+Reports old new (Found steps) a = (start : ℕ) × (t : State) × (a ≡ record { outcome = matched start t; steps = steps }) × (new ≡ over (row start t) old) × (length (row start t) ≡ rowLength)
 Reports old new (Missed steps) a = (a ≡ record { outcome = notMatched; steps = steps }) × (new ≡ old)
 Reports old new (Spent start steps) a = (a ≡ record { outcome = exhausted start; steps = steps }) × (new ≡ old)
 Reports old new (Denied why) a = ⊥

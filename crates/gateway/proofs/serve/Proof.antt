@@ -24,13 +24,12 @@ slice-aggregate-answer-input-4 c = search needs
 
 answer-input-requires : tie.Need-answer-input-requires
 unfolding workAreaNeed workPerStep gatewayBudget rowLength spansLength groupLimit heldLimit lineLimit
-answer-input-requires c κs = (record { sound-rule = c .before .before .before .before .before .before .before .before .before .before .pre .0; rule-area-fits = c .before .before .before .before .before .before .before .before .before .before .pre .1 .0; work-area-fits = omega arith; results-fit = omega arith }, (omega arith, omega arith))
+answer-input-requires c κs =
+    let s = @start .pre .0 .1 in
+    (record { tree = s .tree; stands = s .stands; few = s .few; code-size = @start .pre .1 .0; work-area-fits = omega arith; results-fit = omega arith }, (omega arith, omega arith))
 
 same-length : tie.Need-same-length
 same-length c = search needs
-
-same-length-2 : tie.Need-same-length-2
-same-length-2 c = search needs
 
 returns : tie.Need-returns
 returns c = search needs
@@ -46,5 +45,4 @@ serve-spec =
     slice-aggregate-answer-input-4
     answer-input-requires
     same-length
-    same-length-2
     returns)

@@ -1,24 +1,23 @@
--- The line that the gateway says for what a match returns. A call for a line within the limit is accepted, so its outcome is that of the
--- rule's tree, and one line stands for each.
+-- The line that the gateway says for what a match tells: one stands for each outcome, of the rule that is held.
 use mathlib.Core.Path.{_≡_, refl, sym, ap, _∙_}
 use mathlib.Core.List.{List}
 use Prim.Native.Nat.{ℕ, _≤_, _<_}
 use native.Mathlib.Omega.{arith}
 use borrow.Author.Tests.{lt-ltb, le-ltb}
-use lib.ListN.{length, take}
-use Rattle.syntax.specs.Limits.{subjectLimit, budgetLimit, flagBits, rowLength}
+use lib.ListN.{length, take, drop}
+use lib.Seq.{take-at}
+use Rattle.syntax.specs.Limits.{subjectLimit, rowLength}
 use Rattle.syntax.specs.Tree.{Rule}
-use Rattle.semantics.specs.Answers.{Outcome, matched, notMatched, exhausted, answer}
-use Rattle.semantics.specs.Calls.{Call, MatchOutcome, matchCall}
-use Rattle.semantics.specs.Demands.{Accepted}
-use Rattle.semantics.specs.Laws.Refusals.{none-exactly}
-use Rattle.semantics.specs.Laws.MatchCalls.{match-row, returns-matched, returns-not-matched, returns-exhausted}
-use Rattle.frame.specs.Inputs.{callOf, Returned}
-use Rattle.frame.specs.Laws.Refusals.{acceptable}
-use Rattle.gateway_line.specs.Limits.{lineLimit, gatewayBudget, gatewayFlags}
+use Rattle.semantics.specs.States.{row}
+use Rattle.semantics.specs.Answers.{Outcome, matched, notMatched, exhausted, Answer, answer}
+use Rattle.semantics.specs.Calls.{over}
+use Rattle.frame.specs.Inputs.{Held}
+use Rattle.matching.specs.declared.Outcome.{Outcome as Told}
+use Rattle.matching.specs.declared.Outcome.the-variants.{Matched as Found, NotMatched as Missed, Exhausted as Spent, Refused as Denied}
+use Rattle.matching.specs.Outcomes.{outcomeOf, Reports}
+use Rattle.gateway_line.specs.Limits.{lineLimit, gatewayBudget}
 use Rattle.gateway_line.specs.Answers.{matchedLine, tooLongLine, outcomeLine, answerLine}
-use Rattle.gateway_line.specs.Promises.{Reads, Lent, toldLine, Left, unlessLong}
-use Rattle.gateway_line.specs.Laws.Rules.{soundFits, soundReads}
+use Rattle.gateway_line.specs.Promises.{Lent, toldLine, rowed, resultsLeft}
 
 -- a line that is too long, and one that is not
 module _ (r : Rule × ℕ) (s : List ℕ) where
@@ -31,49 +30,49 @@ module _ (r : Rule × ℕ) (s : List ℕ) where
   shortAnswer h = rw (le-ltb lineLimit (length s) h)
 
 -- areas of the same lengths serve as well
-pub lentStill : {rule ruleArea workArea results ruleArea′ workArea′ results′ : List ℕ} {groups : ℕ} → Lent rule groups ruleArea workArea results
-    → length ruleArea′ ≡ length ruleArea → length workArea′ ≡ length workArea → length results′ ≡ length results → Lent rule groups ruleArea′ workArea′ results′
-lentStill l e f g = record { sound-rule = l .sound-rule; rule-area-fits = rw e (l .rule-area-fits); work-area-fits = rw f (l .work-area-fits); results-fit = rw g (l .results-fit) }
+pub lentStill : {code workArea results workArea′ results′ : List ℕ} {entry groups : ℕ} → Lent code entry groups workArea results → length workArea′ ≡ length workArea → length results′ ≡ length results → Lent code entry groups workArea′ results′
+lentStill l f g = record { tree = l .tree; stands = l .stands; few = l .few; code-size = l .code-size; work-area-fits = rw f (l .work-area-fits); results-fit = rw g (l .results-fit) }
 
-module _ (rule line ruleArea workArea results : List ℕ) where
-  -- the call for a line
-  abbrev pub lineCall : Call
-  lineCall = callOf rule gatewayFlags line gatewayBudget ruleArea workArea results
+-- a match has for its rule and its line what it asks for
+pub lentHeld : {code workArea results : List ℕ} {entry groups : ℕ} → Lent code entry groups workArea results → (line : List ℕ) → length line ≤ lineLimit → Held code line workArea entry gatewayBudget
+unfolding lineLimit subjectLimit
+lentHeld l line short = record { tree = l .tree; stands = l .stands; code-size = l .code-size; subject-fits = omega arith; work-fits = l .work-area-fits }
 
-  -- what stands in the areas afterwards
-  pub leftLong : lineLimit < length line → Left lineCall ruleArea workArea results
-  unfolding unlessLong
-  leftLong h = let e = lt-ltb lineLimit (length line) h in record { rule-area-is = rw e; work-area-is = rw e; results-are = rw e }
+-- what is left of the result area
+module _ (tree : Rule) (line results : List ℕ) where
+  pub leftLong : lineLimit < length line → results ≡ resultsLeft tree line results
+  unfolding resultsLeft
+  leftLong h = rw (lt-ltb lineLimit (length line) h)
 
-  pub leftCalled : length line ≤ lineLimit → {o : MatchOutcome} {ruleArea′ workArea′ results′ : List ℕ} → Returned (matchCall lineCall) o ruleArea′ workArea′ results′ → Left lineCall ruleArea′ workArea′ results′
-  unfolding unlessLong
-  leftCalled h r = let e = le-ltb lineLimit (length line) h in record { rule-area-is = rw e (r .rule-area-is); work-area-is = rw e (r .work-area-is); results-are = rw e (r .result-area-is) }
+  pub leftShort : length line ≤ lineLimit → rowed (answer line tree gatewayBudget .outcome) results ≡ resultsLeft tree line results
+  unfolding resultsLeft
+  leftShort h = rw (le-ltb lineLimit (length line) h)
 
-  module _ {groups : ℕ} (lent : Lent rule groups ruleArea workArea results) (short : length line ≤ lineLimit) (tree : Rule) (reads : Reads rule tree groups) where
-    isAccepted : Accepted lineCall tree groups
-    unfolding gatewayFlags gatewayBudget lineLimit subjectLimit flagBits budgetLimit
-    isAccepted = record {
-      faultless = none-exactly lineCall .0 (sym (acceptable lineCall (soundFits rule reads) (omega arith) (omega arith) (omega arith) (lent .rule-area-fits) (lent .work-area-fits) (lent .results-fit)));
-      stop = reads .0;
-      reads = soundReads rule reads;
-    }
+module _ (tree : Rule) (groups : ℕ) (line : List ℕ) (short : length line ≤ lineLimit) where
+  abbrev told : Answer
+  told = answer line tree gatewayBudget
 
-    abbrev told : Outcome
-    told = answer line tree gatewayBudget .outcome
+  -- the line for the outcome, once that is known
+  says : (o : Outcome) → told .outcome ≡ o → answerLine (tree, groups) line ≡ outcomeLine groups o
+  says o e = shortAnswer (tree, groups) line short ∙ ap (λ (x : Outcome). outcomeLine groups x) e
 
-    -- the line for the outcome, once that is known
-    says : (o : Outcome) → told ≡ o → answerLine (tree, groups) line ≡ outcomeLine groups o
-    says o e = shortAnswer (tree, groups) line short ∙ ap (λ (x : Outcome). outcomeLine groups x) e
+  -- what the match tells is said as the answer
+  pub toldSays : (o : Told) (old new : List ℕ) → Reports old new o told → toldLine groups (outcomeOf o) (take rowLength new) ≡ answerLine (tree, groups) line
+  unfolding toldLine outcomeLine outcomeOf over
+  toldSays (Found steps) old new r =
+      let x = row (r .0) (r .1) in
+      rw (r .3) (ap (λ (y : List ℕ). matchedLine groups y) (take-at x (drop (length x) old) rowLength (r .4)) ∙ sym (says (matched (r .0) (r .1)) (ap (λ (a : Answer). a .outcome) (r .2))))
+  toldSays (Missed steps) old new r = sym (says notMatched (ap (λ (a : Answer). a .outcome) (r .0)))
+  toldSays (Spent start steps) old new r = sym (says (exhausted start) (ap (λ (a : Answer). a .outcome) (r .0)))
+  toldSays (Denied why) old new r = absurd r
 
-    -- what the match tells is said as the answer
-    pub toldSays : {o : MatchOutcome} {ruleArea′ workArea′ results′ : List ℕ} → Returned (matchCall lineCall) o ruleArea′ workArea′ results′ → toldLine groups o (take rowLength results′) ≡ answerLine (tree, groups) line
-    unfolding toldLine outcomeLine
-    toldSays {results′ = new} r = rw (r .outcome-is) (go told refl)
-      where
-        go : (x : Outcome) → told ≡ x → toldLine groups (matchCall lineCall .outcome) (take rowLength new) ≡ answerLine (tree, groups) line
-        go (matched n t) e =
-            let w = returns-matched lineCall tree groups isAccepted n t e in
-            let z = match-row lineCall tree groups isAccepted n t e .size in
-            rw (w .0, r .result-area-is, ← z) (ap (λ (x : List ℕ). matchedLine groups x) (w .1 .first) ∙ sym (says (matched n t) e))
-        go notMatched e = rw (returns-not-matched lineCall tree groups isAccepted e .0) (sym (says notMatched e))
-        go (exhausted n) e = rw (returns-exhausted lineCall tree groups isAccepted n e .0) (sym (says (exhausted n) e))
+  -- and its row is left
+  reported : (o : Told) (old new : List ℕ) → Reports old new o told → new ≡ rowed (told .outcome) old
+  unfolding rowed
+  reported (Found steps) old new r = rw (r .2) (r .3)
+  reported (Missed steps) old new r = rw (r .0) (r .1)
+  reported (Spent start steps) old new r = rw (r .0) (r .1)
+  reported (Denied why) old new r = absurd r
+
+  pub leftReported : (o : Told) (old new : List ℕ) → Reports old new o told → new ≡ resultsLeft tree line old
+  leftReported o old new r = reported o old new r ∙ leftShort tree line old short

@@ -1,6 +1,6 @@
 -- The gateway's rule: refused for its length, or as it reads.
 use mathlib.Core.Path.{_≡_, refl, sym, ap, _∙_}
-use mathlib.Core.List.{List}
+use mathlib.Core.List.{List, []}
 use mathlib.Core.Logic.{inl, inr}
 use mathlib.Core.Bool.{Bool, true, false}
 use Prim.Native.Nat.{ℕ, suc, _≤_, _<_}
@@ -10,7 +10,7 @@ use lib.ListN.{length, take, length-take}
 use lib.Seq.{take-all}
 use lib.Dec.{ltb}
 use Rattle.syntax.specs.declared.Reason.the-variants.{RuleTooLong}
-use Rattle.syntax.specs.Limits.{ruleLimit, groupLimit}
+use Rattle.syntax.specs.Limits.{ruleLimit, ruleAreaNeed, groupLimit}
 use Rattle.syntax.specs.Read.{if_then_else_, sound, refused}
 use Rattle.syntax.specs.Tree.{Rule}
 use Rattle.syntax.specs.Reading.{reading}
@@ -20,10 +20,12 @@ use Rattle.syntax.specs.declared.Refusal.{Refusal}
 use Rattle.semantics.specs.Laws.Cases.{le-or}
 use Rattle.reader.specs.declared.compiling.Compilation.{Compilation}
 use Rattle.reader.specs.declared.compiling.Compilation.the-variants.{Sound, Refused}
-use Rattle.reader.specs.Compiles.{Stands, Compiles}
+use Rattle.reader.specs.Compiles.{Compiles}
+use Rattle.frame.specs.Laws.Compiled.{compile-sound}
 use Rattle.gateway_line.specs.Limits.{gatewayFlags}
 use Rattle.gateway_line.specs.Answers.{gatewayRule}
-use Rattle.gateway_line.specs.Promises.{Reads}
+use Rattle.gateway_line.specs.Gateway.{answers, withRule}
+use Rattle.gateway_line.specs.Promises.{Reads, Standing}
 
 module _ (s : List ℕ) where
   pub longRule : ruleLimit < length s → gatewayRule s ≡ refused 0 RuleTooLong
@@ -56,11 +58,18 @@ module _ (s : List ℕ) where
     unfolding gatewayFlags
     compiledRefused f e = shortRule short ∙ rw e at (done .says)
 
-    pub compiledSound : (pc groups : ℕ) → x ≡ Sound pc groups → (tree : Rule) × Reads s tree groups
+    -- in an area that is no longer than is needed
+    pub compiledSound : (pc groups : ℕ) → x ≡ Sound pc groups → length new ≡ ruleAreaNeed → Standing s new pc groups
     unfolding gatewayFlags
-    compiledSound pc groups e =
-        let z : Stands s 0 new pc groups = rw e at (done .says) in
-        (z .tree, (z .stop, shortRule short ∙ z .reads))
+    compiledSound pc groups e l =
+        let z = compile-sound done pc groups e (omega arith) in
+        let r : Reads s (z .0) groups = (z .1, shortRule short ∙ z .2) in
+        record { tree = z .0; reads = r; stands = rw (take-all ruleAreaNeed new (omega arith)) at (z .3); few = fewGroups r }
+
+-- what is still to be written by a rule that stands is what the program writes
+pub standingAnswers : {rule code : List ℕ} {entry groups : ℕ} (h : Standing rule code entry groups) (input : List ℕ) → withRule (gatewayRule rule) input ≡ answers (h .tree, groups) [] input
+unfolding withRule
+standingAnswers h input = rw (h .reads .1)
 
 -- of a rule that is too long, one byte more than the limit is enough to read
 pub cutRule : (s : List ℕ) → gatewayRule (take (suc ruleLimit) s) ≡ gatewayRule s

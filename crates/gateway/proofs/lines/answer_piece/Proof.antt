@@ -9,25 +9,25 @@ use Rattle.gateway.proofs.lines.answer_piece.Statement.{statement}
 use Rattle.gateway.proofs.lines.answer_piece.Tie as tie
 
 abbrev Inv-loop : tie.InvT-loop
-Inv-loop rule groups piece line₀ rule-area₀ work-area₀ results₀ out₀ held at₀ have₀ put₀ line rule-area work-area results out at have put =
-    (at ≤ length piece) × (have ≤ heldLimit) × (put + answerRoom ≤ length out₀) × (length line ≡ length line₀) × (length rule-area ≡ length rule-area₀) × (length work-area ≡ length work-area₀) × (length results ≡ length results₀) × (length out ≡ length out₀)
+Inv-loop code entry groups piece line₀ work-area₀ results₀ out₀ held at₀ have₀ put₀ line work-area results out at have put =
+    (at ≤ length piece) × (have ≤ heldLimit) × (put + answerRoom ≤ length out₀) × (length line ≡ length line₀) × (length work-area ≡ length work-area₀) × (length results ≡ length results₀) × (length out ≡ length out₀)
 
 abbrev μ-loop : tie.MeasureT-loop
-μ-loop rule groups piece line₀ rule-area₀ work-area₀ results₀ out₀ held at₀ have₀ put₀ line rule-area work-area results out at have put =
+μ-loop code entry groups piece line₀ work-area₀ results₀ out₀ held at₀ have₀ put₀ line work-area results out at have put =
     length piece - at
 
 loop-holds : tie.Need-loop-holds Inv-loop μ-loop
-loop-holds c = (omega arith, omega arith, omega arith, refl, refl, refl, refl, refl)
+loop-holds c = (omega arith, omega arith, omega arith, refl, refl, refl, refl)
 
 advance-requires : tie.Need-advance-requires Inv-loop μ-loop
 advance-requires c κs =
-    let v = c .before .before .before .before .before .before .loop .inv in
-    (lentStill (c .before .before .before .before .before .before .before .before .before .before .before .before .before .before .pre .0) (v .4) (v .5) (v .6), (omega arith, omega arith, omega arith, omega arith))
+    let v = @loop .inv in
+    (lentStill (@start .pre .0) (v .4) (v .5), (omega arith, omega arith, omega arith, omega arith))
 
 make-room-requires : tie.Need-make-room-requires Inv-loop μ-loop
 make-room-requires c κs =
-    let v = c .before .before .before .before .before .before .before .before .before .before .before .before .before .before .before .before .before .before .loop .inv in
-    let o = c .before .before .before .before .before .before .before .before .before .before .before .advance .ensures .0 in
+    let v = @loop .inv in
+    let o = @advance .ensures .0 in
     (omega arith, omega arith)
 
 same-length : tie.Need-same-length Inv-loop μ-loop
@@ -42,24 +42,21 @@ same-length-3 c = omega arith
 same-length-4 : tie.Need-same-length-4 Inv-loop μ-loop
 same-length-4 c = omega arith
 
-same-length-5 : tie.Need-same-length-5 Inv-loop μ-loop
-same-length-5 c = omega arith
-
 returns : tie.Need-returns Inv-loop μ-loop
 returns c =
-    let o = c .before .before .before .before .before .before .before .before .before .before .before .before .before .before .advance .ensures .0 in
+    let o = @advance .ensures .0 in
     o .fits
 
 loop-less : tie.Need-loop-less Inv-loop μ-loop
 loop-less c =
-    let o = c .before .before .before .before .before .before .before .before .before .before .before .before .before .before .advance .ensures .0 in
-    let m = o .moves (c .before .before .before .before .before .before .before .before .before .before .before .before .before .before .before .before .before .before .before .before .loop-test .taken) in
+    let o = @advance .ensures .0 in
+    let m = o .moves (@loop-test .taken) in
     omega arith
 
 loop-again : tie.Need-loop-again Inv-loop μ-loop
 loop-again c =
-    let o = c .before .before .before .before .before .before .before .before .before .before .before .before .before .before .advance .ensures .0 in
-    (o .within, o .fits, omega (arith, c .before .before .make-room .ensures), omega arith, omega arith, omega arith, omega arith, omega arith)
+    let o = @advance .ensures .0 in
+    (o .within, o .fits, omega (arith, @make-room .ensures), omega arith, omega arith, omega arith, omega arith)
 
 slice-reshare-prefix-deliver : tie.Need-slice-reshare-prefix-deliver Inv-loop μ-loop
 slice-reshare-prefix-deliver c = omega arith
@@ -70,23 +67,20 @@ slice-aggregate-deliver c = simp length-take (omega arith)
 deliver-requires : tie.Need-deliver-requires Inv-loop μ-loop
 deliver-requires c κs = tt
 
+same-length-5 : tie.Need-same-length-5 Inv-loop μ-loop
+same-length-5 c = @loop .inv .3
+
 same-length-6 : tie.Need-same-length-6 Inv-loop μ-loop
-same-length-6 c = c .before .before .before .loop .inv .3
+same-length-6 c = @loop .inv .4
 
 same-length-7 : tie.Need-same-length-7 Inv-loop μ-loop
-same-length-7 c = c .before .before .before .loop .inv .4
+same-length-7 c = @loop .inv .5
 
 same-length-8 : tie.Need-same-length-8 Inv-loop μ-loop
-same-length-8 c = c .before .before .before .loop .inv .5
-
-same-length-9 : tie.Need-same-length-9 Inv-loop μ-loop
-same-length-9 c = c .before .before .before .loop .inv .6
-
-same-length-10 : tie.Need-same-length-10 Inv-loop μ-loop
-same-length-10 c = c .before .before .before .loop .inv .7
+same-length-8 c = @loop .inv .6
 
 returns-2 : tie.Need-returns-2 Inv-loop μ-loop
-returns-2 c = c .before .before .before .loop .inv .1
+returns-2 c = @loop .inv .1
 
 pub answer-piece-spec : {M : Type 1} → statement M
 answer-piece-spec =
@@ -111,6 +105,4 @@ answer-piece-spec =
     same-length-6
     same-length-7
     same-length-8
-    same-length-9
-    same-length-10
     returns-2)

@@ -12,15 +12,15 @@ finish-requires c κs = search needs
 slice-reshare-prefix-deliver : tie.Need-slice-reshare-prefix-deliver
 unfolding answerRoom
 slice-reshare-prefix-deliver c =
-    let s = c .before .before .before .before .before .before .before .before .before .before .before .before .before .before .before .before .before .before .before .pre .0 .sound-rule in
-    let n = c .before .before .before .before .before .before .before .before .finish .ensures (s .0) (s .1) .near in
+    let s = @start .pre .0 in
+    let n = @finish .ensures (s .tree) (s .stands) .near in
     omega arith
 
 slice-aggregate-deliver : tie.Need-slice-aggregate-deliver
 unfolding answerRoom
 slice-aggregate-deliver c =
-    let s = c .before .before .before .before .before .before .before .before .before .before .before .before .before .before .before .before .before .before .before .before .pre .0 .sound-rule in
-    let n = c .before .before .before .before .before .before .before .before .before .finish .ensures (s .0) (s .1) .near in
+    let s = @start .pre .0 in
+    let n = @finish .ensures (s .tree) (s .stands) .near in
     simp length-take (omega arith)
 
 deliver-requires : tie.Need-deliver-requires
@@ -34,9 +34,6 @@ same-length-2 c = search needs
 
 same-length-3 : tie.Need-same-length-3
 same-length-3 c = search needs
-
-same-length-4 : tie.Need-same-length-4
-same-length-4 c = search needs
 
 returns : tie.Need-returns
 returns c = search needs
@@ -52,5 +49,4 @@ end-input-spec =
     same-length
     same-length-2
     same-length-3
-    same-length-4
     returns)

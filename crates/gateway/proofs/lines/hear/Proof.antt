@@ -14,12 +14,12 @@ enum-known-input c = search needs
 
 slice-reshare-prefix-answer-piece : tie.Need-slice-reshare-prefix-answer-piece
 slice-reshare-prefix-answer-piece c =
-    let h = readBytes (c .before .before .before .before .before .read-some .ensures) (c .before .input .given .1) in
+    let h = readBytes (@read-some .ensures) (@input .given .1) in
     omega arith
 
 slice-aggregate-answer-piece : tie.Need-slice-aggregate-answer-piece
 slice-aggregate-answer-piece c =
-    let h = readBytes (c .before .before .before .before .before .before .read-some .ensures) (c .before .before .input .given .1) in
+    let h = readBytes (@read-some .ensures) (@input .given .1) in
     simp length-take (omega arith)
 
 answer-piece-requires : tie.Need-answer-piece-requires
@@ -88,14 +88,8 @@ same-length-13 c = search needs
 returns-3 : tie.Need-returns-3
 returns-3 c = search needs
 
-same-length-14 : tie.Need-same-length-14
-same-length-14 c = search needs
-
 returns-4 : tie.Need-returns-4
 returns-4 c = search needs
-
-same-length-15 : tie.Need-same-length-15
-same-length-15 c = search needs
 
 returns-5 : tie.Need-returns-5
 returns-5 c = search needs
@@ -114,23 +108,21 @@ hear-spec =
     same-length-3
     same-length-4
     same-length-5
-    same-length-6
     returns
     enum-told
     enum-told-2
     enum-told-3
     slice-aggregate-fail
     fail-requires
+    same-length-6
     same-length-7
     same-length-8
     same-length-9
     same-length-10
-    same-length-11
-    same-length-12
     returns-2
-    same-length-13
+    same-length-11
     returns-3
-    same-length-14
+    same-length-12
     returns-4
-    same-length-15
+    same-length-13
     returns-5)

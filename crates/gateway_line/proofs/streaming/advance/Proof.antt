@@ -22,8 +22,8 @@ part-gather-start c = search needs
 
 part-gather-end : tie.Need-part-gather-end
 part-gather-end c =
-    let a = c .before .before .before .before .before .before .before .before .before .args in
-    endWithin (now (a .piece)) (a .p .at) (c .before .line-end .result) (c .before .before .before .before .before .before .before .before .before .pre .1 .0) (c .before .line-end .ensures) .1
+    let a = c .before .before .before .before .before .before .before .before .args in
+    endWithin (now (a .piece)) (a .p .at) (c .before .line-end .result) (c .before .before .before .before .before .before .before .before .pre .1 .0) (c .before .line-end .ensures) .1
 
 gather-requires : tie.Need-gather-requires
 unfolding heldLimit
@@ -35,12 +35,12 @@ same-length c = search needs
 returns : tie.Need-returns
 unfolding heldLimit
 returns c =
-    let a = c .before .before .before .before .before .before .before .before .before .before .before .before .before .before .args in
-    let p = c .before .before .before .before .before .before .before .before .before .before .before .before .before .before .pre .1 in
+    let a = c .before .before .before .before .before .before .before .before .before .before .before .before .before .args in
+    let p = c .before .before .before .before .before .before .before .before .before .before .before .before .before .pre .1 in
     let w = endWithin (now (a .piece)) (a .p .at) (c .before .before .before .before .before .before .line-end .result) (p .0) (c .before .before .before .before .before .before .line-end .ensures) in
     let t = c .if1 .taken in (
       record { within = w .1; moves = λ h. omega arith; fits = c .before .before .before .gather .ensures .fits; near = omega arith },
-      λ tree reads. record {
+      λ tree stands. record {
         text = [];
         wrote = wroteNothing (now (a .out)) (a .p .put);
         goes-on = heldOn (tree, a .groups) (now (a .piece)) (now (a .line)) (a .p .at) (a .p .have) (c .before .before .before .before .before .before .line-end .result) (c .before .before .before .gather .result) (p .0) (c .before .before .before .before .before .before .line-end .ensures) (c .before .before .before .gather .ensures) t;
@@ -60,10 +60,10 @@ answer-requires c κs = search needs
 
 add-t19 : tie.Need-add-t19
 add-t19 c =
-    let a = c .before .before .before .before .before .before .before .before .before .before .before .before .before .before .before .before .before .before .before .before .before .before .before .before .before .before .before .before .args in
-    let w = endWithin (now (a .piece)) (a .p .at) (c .before .before .before .before .before .before .before .before .before .before .before .before .before .before .before .before .before .before .before .before .line-end .result) (c .before .before .before .before .before .before .before .before .before .before .before .before .before .before .before .before .before .before .before .before .before .before .before .before .before .before .before .before .pre .1 .0) (c .before .before .before .before .before .before .before .before .before .before .before .before .before .before .before .before .before .before .before .before .line-end .ensures) in
-    let t = c .before .before .before .before .before .before .before .before .before .before .before .before .before .before .if1 .left in
-    let g = c .before .before .before .before .before .before .before .before .before .before .before .before .before .before .before .before .before .before .before .before .before .before .before .before .before .before .before .before .good .1 .1 .0 in
+    let a = c .before .before .before .before .before .before .before .before .before .before .before .before .before .before .before .before .before .before .before .before .before .before .before .before .args in
+    let w = endWithin (now (a .piece)) (a .p .at) (c .before .before .before .before .before .before .before .before .before .before .before .before .before .before .before .before .before .line-end .result) (c .before .before .before .before .before .before .before .before .before .before .before .before .before .before .before .before .before .before .before .before .before .before .before .before .pre .1 .0) (c .before .before .before .before .before .before .before .before .before .before .before .before .before .before .before .before .before .line-end .ensures) in
+    let t = c .before .before .before .before .before .before .before .before .before .before .before .if1 .left in
+    let g = c .before .before .before .before .before .before .before .before .before .before .before .before .before .before .before .before .before .before .before .before .before .before .before .before .good .1 .1 .1 .0 in
     omega (arith, g .0)
 
 same-length-2 : tie.Need-same-length-2
@@ -78,22 +78,19 @@ same-length-4 c = search needs
 same-length-5 : tie.Need-same-length-5
 same-length-5 c = search needs
 
-same-length-6 : tie.Need-same-length-6
-same-length-6 c = search needs
-
 returns-2 : tie.Need-returns-2
 unfolding heldLimit
 returns-2 c =
-    let a = c .before .before .before .before .before .before .before .before .before .before .before .before .before .before .before .before .before .before .before .before .before .before .before .before .before .before .before .before .args in
-    let p = c .before .before .before .before .before .before .before .before .before .before .before .before .before .before .before .before .before .before .before .before .before .before .before .before .before .before .before .before .pre .1 in
-    let w = endWithin (now (a .piece)) (a .p .at) (c .before .before .before .before .before .before .before .before .before .before .before .before .before .before .before .before .before .before .before .before .line-end .result) (p .0) (c .before .before .before .before .before .before .before .before .before .before .before .before .before .before .before .before .before .before .before .before .line-end .ensures) in
-    let t = c .before .before .before .before .before .before .before .before .before .before .before .before .before .before .if1 .left in
-    let s = c .before .before .before .before .before .before .before .before .before .before .before .before .before .before .before .before .before .before .before .before .before .before .before .before .before .before .before .before .pre .0 .sound-rule in (
-      record { within = omega arith; moves = λ h. omega arith; fits = omega arith; near = c .before .before .before .before .before .before .before .before .answer .ensures .0 (s .0) (s .1) .near },
-      λ tree reads. record {
-        text = answerLine (tree, a .groups) (take (c .before .before .before .before .before .before .before .before .before .before .before .before .before .before .before .before .before .gather .result) (c .before .before .before .before .before .before .before .before .before .before .before .before .before .before .before .before .before .gather .last .0));
-        wrote = c .before .before .before .before .before .before .before .before .answer .ensures .0 tree reads .wrote;
-        goes-on = answeredAt (tree, a .groups) (now (a .piece)) (now (a .line)) (a .p .at) (a .p .have) (c .before .before .before .before .before .before .before .before .before .before .before .before .before .before .before .before .before .before .before .before .line-end .result) (c .before .before .before .before .before .before .before .before .before .before .before .before .before .before .before .before .before .gather .result) (p .0) (c .before .before .before .before .before .before .before .before .before .before .before .before .before .before .before .before .before .before .before .before .line-end .ensures) (c .before .before .before .before .before .before .before .before .before .before .before .before .before .before .before .before .before .gather .ensures) t;
+    let a = c .before .before .before .before .before .before .before .before .before .before .before .before .before .before .before .before .before .before .before .before .before .before .before .before .args in
+    let p = c .before .before .before .before .before .before .before .before .before .before .before .before .before .before .before .before .before .before .before .before .before .before .before .before .pre .1 in
+    let w = endWithin (now (a .piece)) (a .p .at) (c .before .before .before .before .before .before .before .before .before .before .before .before .before .before .before .before .before .line-end .result) (p .0) (c .before .before .before .before .before .before .before .before .before .before .before .before .before .before .before .before .before .line-end .ensures) in
+    let t = c .before .before .before .before .before .before .before .before .before .before .before .if1 .left in
+    let s = c .before .before .before .before .before .before .before .before .before .before .before .before .before .before .before .before .before .before .before .before .before .before .before .before .pre .0 in (
+      record { within = omega arith; moves = λ h. omega arith; fits = omega arith; near = c .before .before .before .before .before .before .answer .ensures .0 (s .tree) (s .stands) .near },
+      λ tree stands. record {
+        text = answerLine (tree, a .groups) (take (c .before .before .before .before .before .before .before .before .before .before .before .before .before .before .gather .result) (c .before .before .before .before .before .before .before .before .before .before .before .before .before .before .gather .last .0));
+        wrote = c .before .before .before .before .before .before .answer .ensures .0 tree stands .wrote;
+        goes-on = answeredAt (tree, a .groups) (now (a .piece)) (now (a .line)) (a .p .at) (a .p .have) (c .before .before .before .before .before .before .before .before .before .before .before .before .before .before .before .before .before .line-end .result) (c .before .before .before .before .before .before .before .before .before .before .before .before .before .before .gather .result) (p .0) (c .before .before .before .before .before .before .before .before .before .before .before .before .before .before .before .before .before .line-end .ensures) (c .before .before .before .before .before .before .before .before .before .before .before .before .before .before .gather .ensures) t;
       },
     )
 
@@ -116,5 +113,4 @@ advance-spec =
     same-length-3
     same-length-4
     same-length-5
-    same-length-6
     returns-2)

@@ -11,8 +11,8 @@ use Rattle.gateway_line.proofs.streaming.finish.Tie as tie
 
 returns : tie.Need-returns
 returns c =
-    λ tree reads.
-    (let a = c .before .before .before .before .before .before .before .args in
+    λ tree stands.
+    (let a = c .before .before .before .before .before .before .args in
     rw (nothingHeld (tree, a .groups) (now (a .held)) (c .if1 .taken)) (record { wrote = wroteNothing (now (a .out)) (a .put); near = omega arith }))
 
 answer-requires : tie.Need-answer-requires
@@ -27,16 +27,13 @@ same-length-2 c = search needs
 same-length-3 : tie.Need-same-length-3
 same-length-3 c = search needs
 
-same-length-4 : tie.Need-same-length-4
-same-length-4 c = search needs
-
 returns-2 : tie.Need-returns-2
 returns-2 c =
-    λ tree reads.
-    (let a = c .before .before .before .before .before .before .before .before .before .before .before .before .before .before .before .before .before .before .before .before .args in
-    let f = c .before .before .before .before .before .before .before .before .before .before .before .before .before .if1 .left in
+    λ tree stands.
+    (let a = c .before .before .before .before .before .before .before .before .before .before .before .before .before .before .before .before .args in
+    let f = c .before .before .before .before .before .before .before .before .before .before .if1 .left in
     let h : 0 < length (now (a .held)) = omega arith in
-    rw (lastOf (tree, a .groups) (now (a .held)) h) (c .before .before .before .before .before .before .before .before .answer .ensures .0 tree reads))
+    rw (lastOf (tree, a .groups) (now (a .held)) h) (c .before .before .before .before .before .before .answer .ensures .0 tree stands))
 
 pub finish-spec : {M : Type 1} → statement M
 finish-spec =
@@ -47,5 +44,4 @@ finish-spec =
     same-length
     same-length-2
     same-length-3
-    same-length-4
     returns-2)
