@@ -185,10 +185,18 @@ def refusals(t):
     refused("1001 bytes", b"a" * 1001, "1 at 0: the rule has more than 1000 bytes\n")
     refused("5000 bytes", b"a" * 5000, "1 at 0: the rule has more than 1000 bytes\n")
     refused("in the second window", b"a" * 70 + b"\\", "10 at 70: a backslash with nothing behind it\n  %s\n  aaaaaa\\\n        ^\n" % ("a" * 64))
-    rules = {11: b"\\q", 12: b"\\x", 14: b"[a", 16: b"[[:no:]]", 17: b"*", 18: b"a{256}", 22: b"(?a)", 23: b"()" * 33, 24: b"(" * 25}
-    for number, rule in rules.items():
-        ran = subprocess.run([str(PROGRAM), "rule", "lines"], capture_output=True) if Path("rule").write_bytes(rule) else None
-        t.same("refused rule %d" % number, ran.stderr.decode().split(" at ")[0], "readings: the rule is refused, %d" % number)
+    rules = {11: (b"\\q", "this escape may not stand here"), 12: (b"\\x", "the number or letter of this escape is missing, malformed, unclosed or too large"),
+             14: (b"[a", "this class is not closed by ]"), 16: (b"[[:no:]]", "no set has this name"),
+             17: (b"*", "a repeat with nothing before it that it could repeat"),
+             18: (b"a{256}", "a { that begins no repeat, or a repeat over 255 or with its bounds the wrong way round"),
+             22: (b"(?a)", "(? is not followed by :"), 23: (b"()" * 33, "the 33rd group; a rule has at most 32"),
+             24: (b"(" * 25, "the 25th bracket inside another; they nest at most 24 deep")}
+    for number, (rule, meaning) in rules.items():
+        Path("rule").write_bytes(rule)
+        ran = subprocess.run([str(PROGRAM), "rule", "lines"], capture_output=True)
+        first, place, told = ran.stderr.decode().split("\n")[0].partition(" at ")
+        t.same("refused rule %d" % number, first, "readings: the rule is refused, %d" % number)
+        t.same("meaning of %d" % number, told.partition(": ")[2], meaning)
     Path("rule").write_bytes(b"")
     Path("lines").write_bytes(b"\n")
     t.run("an empty rule file", ["rule", "lines"], "line 1: 1 reading\n" + summary(1, once=1), "")

@@ -58,17 +58,7 @@ fn answer_piece(
     let mut put: usize = 0;
     while at < piece.len() {
         let p = Progress { at, have, put };
-        let q = advance(
-            code,
-            entry,
-            groups,
-            piece,
-            line,
-            work_area,
-            results,
-            out,
-            p,
-        );
+        let q = advance(code, entry, groups, piece, line, work_area, results, out, p);
         at = q.at;
         have = q.have;
         let w = make_room(out, q.put);

@@ -1,2 +1,2 @@
--- What the program's own functions tell each other.
+-- What the contracts of the functions that read speak of.
 pub mod Parts

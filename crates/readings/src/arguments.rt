@@ -40,25 +40,18 @@ pub(crate) fn decimal(text: &[u8], limit: u32) -> Value
     Value::Is(n)
 }
 
-// The bit that a letter stands for, or 0.
-fn letter(b: u8) -> u32 {
-    match b {
-        b's' => 1,
-        b'm' => 2,
-        _ => 0,
-    }
-}
-
 // The flags that letters stand for.
 fn letters(text: &[u8]) -> Value {
     let mut flags: u32 = 0;
     let mut i: usize = 0;
     while i < text.len() {
-        let bit = letter(text[i]);
-        if bit == 0 {
+        if text[i] == b's' {
+            flags = flags | 1;
+        } else if text[i] == b'm' {
+            flags = flags | 2;
+        } else {
             return Value::Wrong;
         }
-        flags = flags | bit;
         i += 1;
     }
     Value::Is(flags)
@@ -74,8 +67,8 @@ pub(crate) fn flags(text: &[u8]) -> Value {
             return Value::Is(0);
         }
     }
-    if letter(text[0]) == 0 {
-        return decimal(text, 3);
+    match decimal(text, 3) {
+        Value::Is(n) => Value::Is(n),
+        Value::Wrong => letters(text),
     }
-    letters(text)
 }

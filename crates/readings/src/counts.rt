@@ -1,5 +1,7 @@
 // What is counted. Each line is counted in LINES and in one of ONCE, AMBIGUOUS, UNMATCHED, EXHAUSTED and TOO_LONG. MANY are those of the
 // ambiguous lines that have more readings than are shown, UNSETTLED those of the exhausted ones that had two or more readings until then.
+use crate::output::ROOM;
+use crate::output::flush;
 use crate::output::put;
 use crate::output::put_number;
 ghost use Prim.Native.Nat.{_<_};
@@ -25,46 +27,52 @@ pub const DOTTED: usize = 8;
 
 pub const KINDS: usize = 9;
 
-// One more. There are no 2^64 lines.
-fn more(n: u64) -> u64 {
-    if n < 18446744073709551615 { n + 1 } else { n }
-}
-
+// One more of a kind. There are no 2^64 lines.
 pub(crate) fn count(counts: &mut [u64; KINDS], kind: usize)
     requires { ⌜ kind < 9 ⌝ }
 {
-    counts[kind] = more(counts[kind]);
+    if counts[kind] < 18446744073709551615 {
+        counts[kind] += 1;
+    }
 }
 
-fn put_count(name: &[u8], n: u64) {
-    put(name);
-    put_number(n);
-}
-
-// A number of those that were counted just before, if there are any.
-fn put_some(before: &[u8], n: u64) {
+// How many there are of a kind, if there are any.
+fn put_some(out: &mut [u8; ROOM], at: usize, before: &[u8], n: u64, behind: &[u8]) -> usize {
     if n == 0 {
-        return;
+        return at;
     }
-    put(b" (");
-    put(before);
-    put_number(n);
-    put(b")");
+    put_number(out, at, before, n, behind)
 }
 
-// The summary. It says whether it could be written.
-pub(crate) fn summarize(counts: &[u64; KINDS]) -> bool {
-    put_count(b"\nlines: ", counts[LINES]);
-    put_count(b"\nmatched once: ", counts[ONCE]);
-    put_count(b"\nambiguous: ", counts[AMBIGUOUS]);
-    put_some(b"with more readings than are shown: ", counts[MANY]);
-    put_count(b"\nnot matched: ", counts[UNMATCHED]);
-    put_count(b"\nexhausted: ", counts[EXHAUSTED]);
-    put_some(b"ambiguous already: ", counts[UNSETTLED]);
-    put_count(b"\ntoo long: ", counts[TOO_LONG]);
-    if 0 < counts[DOTTED] {
-        put(b"\nA dot may stand for a byte that cannot be shown; lines shown with such a dot: ");
-        put_number(counts[DOTTED]);
-    }
-    put(b"\n")
+// The summary, with which the report ends. It says whether the report could be written.
+pub(crate) fn summarize(counts: &[u64; KINDS], out: &mut [u8; ROOM], at: usize) -> bool {
+    let mut p = put_number(out, at, b"\nlines: ", counts[LINES], b"\nmatched once: ");
+    p = put_number(out, p, b"", counts[ONCE], b"\nambiguous: ");
+    p = put_number(out, p, b"", counts[AMBIGUOUS], b"");
+    p = put_some(
+        out,
+        p,
+        b" (with more readings than are shown: ",
+        counts[MANY],
+        b")",
+    );
+    p = put_number(
+        out,
+        p,
+        b"\nnot matched: ",
+        counts[UNMATCHED],
+        b"\nexhausted: ",
+    );
+    p = put_number(out, p, b"", counts[EXHAUSTED], b"");
+    p = put_some(out, p, b" (ambiguous already: ", counts[UNSETTLED], b")");
+    p = put_number(out, p, b"\ntoo long: ", counts[TOO_LONG], b"");
+    p = put_some(
+        out,
+        p,
+        b"\nA dot may stand for a byte that cannot be shown; lines shown with such a dot: ",
+        counts[DOTTED],
+        b"",
+    );
+    p = put(out, p, b"\n");
+    flush(out, p)
 }

@@ -7,139 +7,100 @@
 // A reading and each of its set groups have lines of their own, so that groups in groups cannot be taken for one another. A line of more
 // than one window is shown window by window, each with its first column named and with all readings under it, where one sees in what they
 // differ.
+use crate::output::ROOM;
 use crate::output::put;
 use crate::output::put_number;
 use index::ROW_LENGTH;
-use index::UNSET;
-ghost use Prim.Native.Nat.{_+_, _≤_};
+ghost use Prim.Native.Nat.{_≤_};
 ghost use lib.ListN.{length};
 
-// Blanks up to a width, behind which so many columns are filled; at most 12.
-fn put_padding(columns: usize, width: usize) {
-    let blanks = [b' '; 12];
-    if columns < width {
-        if width - columns <= 12 {
-            let n = width - columns;
-            put(&blanks[..n]);
-        }
-    }
-}
-
-// A name and a number, right-aligned in front of the line's columns: `width` is how many the number may have.
-fn put_label(name: &[u8], width: usize, n: u64) {
+// A name and a number, in front of the columns of the line: the number takes the place of as many of the blanks that the name begins with.
+fn put_label(out: &mut [u8; ROOM], at: usize, name: &[u8], n: u64) -> usize {
     let mut digits = [0u8; 20];
     let k = io::decimal(n, &mut digits);
-    put_padding(k, width);
-    put(name);
-    put(&digits[..k]);
-    put(b"  ");
-}
-
-fn put_span(from: u32, to: u32) {
-    put(b"  ");
-    put_number(from as u64);
-    put(b"-");
-    put_number(to as u64);
-    if from == to {
-        put(b" empty");
+    if name.len() < k {
+        return at;
     }
-    put(b"\n");
+    let p = put(out, at, &name[k..]);
+    put_number(out, p, b"", n, b"  ")
 }
 
-// Marks a span under the window that begins at a column and shows so many bytes.
-fn put_marks(with: u8, from: u32, to: u32, column: u32, shown: usize)
+// The span that stands at a place of the rows, if there is something of it in the window that begins at a column and shows so many bytes: what
+// a reading took, or a group of it. A group that is not set has its span behind every window.
+fn put_span(
+    out: &mut [u8; ROOM],
+    at: usize,
+    place: usize,
+    from: u32,
+    to: u32,
+    column: u32,
+    shown: usize,
+) -> usize
     requires { ⌜ shown ≤ 64 ⌝ }
 {
+    if !report::touches(from, to, column) {
+        return at;
+    }
+    let group = place % ROW_LENGTH / 2;
+    let mut mark = b'^';
+    let mut p = at;
+    if group == 0 {
+        mark = b'-';
+        p = put_label(out, at, b"    reading ", (place / ROW_LENGTH) as u64 + 1);
+    } else {
+        p = put_label(out, at, b"      group ", group as u64);
+    }
     let mut marks = [0u8; report::WIDTH];
-    report::mark(with, from, to, column, &mut marks);
-    put(&marks[..shown]);
-    put_span(from, to);
+    report::mark(mark, from, to, column, &mut marks);
+    p = put(out, p, &marks[..shown]);
+    p = put_number(out, p, b"  ", from as u64, b"-");
+    if from == to {
+        return put_number(out, p, b"", to as u64, b" empty\n");
+    }
+    put_number(out, p, b"", to as u64, b"\n")
 }
 
-// What a reading took, if there is something of it in the window.
-fn put_whole(n: u64, from: u32, to: u32, column: u32, shown: usize)
+// The spans of all rows, under a window.
+fn put_spans(out: &mut [u8; ROOM], at: usize, rows: &[u32], column: u32, shown: usize) -> usize
     requires { ⌜ shown ≤ 64 ⌝ }
 {
-    if report::touches(from, to, column) {
-        put_label(b"reading ", 4, n);
-        put_marks(b'-', from, to, column, shown);
-    }
-}
-
-// What a group took, likewise.
-fn put_group(n: u64, from: u32, to: u32, column: u32, shown: usize)
-    requires { ⌜ shown ≤ 64 ⌝ }
-{
-    if from == UNSET {
-        return;
-    }
-    if report::touches(from, to, column) {
-        put_label(b"group ", 6, n);
-        put_marks(b'^', from, to, column, shown);
-    }
-}
-
-// The reading whose row stands at a position, and its groups.
-fn put_reading(results: &[u32], base: usize, n: u64, column: u32, shown: usize)
-    requires { ⌜ (base + 66 ≤ length (now results)) × (shown ≤ 64) ⌝ }
-{
-    put_whole(n, results[base], results[base + 1], column, shown);
-    let mut g: usize = 1;
-    while g < 33 {
-        put_group(
-            g as u64,
-            results[base + 2 * g],
-            results[base + 2 * g + 1],
-            column,
-            shown,
-        );
-        g += 1;
-    }
-}
-
-// The readings of so many rows, under a window.
-fn put_readings(results: &[u32], rows: usize, column: u32, shown: usize)
-    requires { ⌜ shown ≤ 64 ⌝ }
-{
+    let mut p = at;
     let mut i: usize = 0;
-    let mut base: usize = 0;
-    while i < rows {
-        // a listing has written as many rows as it says, so that this does not happen
-        if results.len() - base < ROW_LENGTH {
-            return;
-        }
-        i += 1;
-        put_reading(results, base, i as u64, column, shown);
-        base += ROW_LENGTH;
+    while 1 < rows.len() - i {
+        p = put_span(out, p, i, rows[i], rows[i + 1], column, shown);
+        i += 2;
     }
+    p
 }
 
 // The window of a line that begins at a position. A line of one window needs no column named.
-fn put_window(line: &[u8], at: usize, results: &[u32], rows: usize)
-    requires { ⌜ (at ≤ length (now line)) × (length (now line) ≤ 65536) ⌝ }
+fn put_window(out: &mut [u8; ROOM], at: usize, line: &[u8], from: usize, rows: &[u32]) -> usize
+    requires { ⌜ (from ≤ length (now line)) × (length (now line) ≤ 65536) ⌝ }
 {
+    let mut p = at;
     if line.len() <= report::WIDTH {
-        put(b"              ");
+        p = put(out, at, b"              ");
     } else {
-        put_label(b"column ", 5, at as u64);
+        p = put_label(out, at, b"     column ", from as u64);
     }
     let mut text = [0u8; report::WIDTH];
-    let n = report::show(&line[at..], &mut text);
-    put(&text[..n]);
-    put(b"\n");
-    put_readings(results, rows, at as u32, n);
+    let n = report::show(&line[from..], &mut text);
+    p = put(out, p, &text[..n]);
+    p = put(out, p, b"\n");
+    put_spans(out, p, rows, from as u32, n)
 }
 
-// A line, in windows, with the readings of so many rows under it.
-pub(crate) fn put_line(line: &[u8], results: &[u32], rows: usize)
+// A line, in windows, with the readings of the rows under it.
+pub(crate) fn put_line(out: &mut [u8; ROOM], at: usize, line: &[u8], rows: &[u32]) -> usize
     requires { ⌜ length (now line) ≤ 65536 ⌝ }
 {
-    let mut at: usize = 0;
+    let mut p = at;
+    let mut from: usize = 0;
     loop {
-        put_window(line, at, results, rows);
-        if line.len() - at <= report::WIDTH {
-            return;
+        p = put_window(out, p, line, from, rows);
+        if line.len() - from <= report::WIDTH {
+            return p;
         }
-        at += report::WIDTH;
+        from += report::WIDTH;
     }
 }

@@ -2,15 +2,18 @@
 mod arguments;
 mod counts;
 mod display;
+mod input;
 mod lines;
 mod messages;
 mod output;
-mod rule_file;
 mod telling;
 
 use arguments::Value;
 use counts::KINDS;
 use frame::BUDGET_LIMIT;
+use input::PIECE;
+use input::Rest;
+use input::next_line;
 use lines::RESULT_AREA;
 use lines::RULE_AREA;
 use lines::Setting;
@@ -18,8 +21,6 @@ use lines::WORK_AREA;
 use listing::Listing;
 use output::put;
 use output::say;
-use rule_file::ROOM;
-use rule_file::Rule;
 ghost use Prim.Native.Nat.{_≤_};
 ghost use lib.ListN.{length};
 
@@ -32,23 +33,22 @@ const FLAGS: usize = 3;
 
 const BUDGET: usize = 4;
 
-// The flags; none where the argument is missing.
-fn flags() -> Value {
-    if os::arg_count() <= FLAGS {
-        return Value::Is(0);
-    }
-    let mut text = io::buffer();
-    let n = os::arg(FLAGS, &mut text);
-    arguments::flags(&text[..n])
-}
+// One byte more than the longest rule: a rule that fills this is too long, whatever follows.
+const RULE: usize = frame::RULE_LIMIT + 1;
 
-// The budget; the largest where the argument is missing.
-fn budget() -> Value {
+// What an argument stands for: flags, or a budget; where it is missing, none, or the largest.
+fn value(argument: usize) -> Value {
+    let mut text = io::buffer();
+    let n = os::arg(argument, &mut text);
+    if argument == FLAGS {
+        if os::arg_count() <= FLAGS {
+            return Value::Is(0);
+        }
+        return arguments::flags(&text[..n]);
+    }
     if os::arg_count() <= BUDGET {
         return Value::Is(BUDGET_LIMIT);
     }
-    let mut text = io::buffer();
-    let n = os::arg(BUDGET, &mut text);
     arguments::decimal(&text[..n], BUDGET_LIMIT)
 }
 
@@ -73,17 +73,34 @@ fn report_lines(
     fd: i32,
     rule: &[u8],
     setting: Setting,
+    piece: &mut [u8; PIECE],
     area: &mut [u32; RULE_AREA],
     work: &mut [u32; WORK_AREA],
     results: &mut [u32; RESULT_AREA],
 ) {
     let mut counts = [0u64; KINDS];
-    let whole = lines::read_lines(fd, rule, setting, area, work, results, &mut counts);
-    if !whole {
+    let mut out = io::large_buffer();
+    let told = lines::tell_lines(
+        fd,
+        rule,
+        setting,
+        piece,
+        area,
+        work,
+        results,
+        &mut counts,
+        &mut out,
+    );
+    let mut at = told.at;
+    if !told.whole {
         os::fail(b"readings: the lines could not be read to their end");
-        put(b"\nThe lines could not be read to their end. Up to there:");
+        at = put(
+            &mut out,
+            at,
+            b"\nThe lines could not be read to their end. Up to there:",
+        );
     }
-    if !counts::summarize(&counts) {
+    if !counts::summarize(&counts, &mut out, at) {
         say(b"readings: the report could not be written\n");
     }
 }
@@ -92,6 +109,7 @@ fn report_lines(
 fn run(
     rule: &[u8],
     setting: Setting,
+    piece: &mut [u8; PIECE],
     area: &mut [u32; RULE_AREA],
     work: &mut [u32; WORK_AREA],
     results: &mut [u32; RESULT_AREA],
@@ -103,28 +121,42 @@ fn run(
         _ => {
             let fd = open(LINES_FILE);
             if 0 <= fd {
-                report_lines(fd, rule, setting, area, work, results);
+                report_lines(fd, rule, setting, piece, area, work, results);
             }
         }
     }
 }
 
-// With the flags and the budget, and the areas that are lent to all calls.
+// With the flags and the budget, and the areas that are lent to all calls. The rule is the first line of its file, or all of it.
 fn start(setting: Setting) {
     let fd = open(RULE_FILE);
     if fd < 0 {
         return;
     }
-    let mut rule = [0u8; ROOM];
-    match rule_file::read_rule(fd, &mut rule) {
-        Rule::Unreadable => os::fail(b"readings: the rule could not be read"),
-        Rule::Bytes(n) => {
-            let mut area = [0u32; RULE_AREA];
-            let mut work = [0u32; WORK_AREA];
-            let mut results = [0u32; RESULT_AREA];
-            run(&rule[..n], setting, &mut area, &mut work, &mut results);
-        }
+    let mut piece = io::large_buffer();
+    let mut rule = [0u8; RULE];
+    let nothing = Rest {
+        at: 0,
+        end: 0,
+        failed: false,
+    };
+    let line = next_line(fd, &mut piece, nothing, &mut rule, false);
+    if line.failed {
+        os::fail(b"readings: the rule could not be read");
+        return;
     }
+    let n = line.have;
+    let mut area = [0u32; RULE_AREA];
+    let mut work = [0u32; WORK_AREA];
+    let mut results = [0u32; RESULT_AREA];
+    run(
+        &rule[..n],
+        setting,
+        &mut piece,
+        &mut area,
+        &mut work,
+        &mut results,
+    );
 }
 
 fn main() {
@@ -137,8 +169,8 @@ fn main() {
         messages::usage();
         return;
     }
-    let f = flags();
-    let b = budget();
+    let f = value(FLAGS);
+    let b = value(BUDGET);
     match f {
         Value::Wrong => messages::usage(),
         Value::Is(flags) => match b {

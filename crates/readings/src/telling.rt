@@ -3,111 +3,112 @@ use crate::counts::AMBIGUOUS;
 use crate::counts::DOTTED;
 use crate::counts::EXHAUSTED;
 use crate::counts::KINDS;
-use crate::counts::LINES;
 use crate::counts::MANY;
 use crate::counts::ONCE;
-use crate::counts::TOO_LONG;
 use crate::counts::UNMATCHED;
 use crate::counts::UNSETTLED;
 use crate::counts::count;
 use crate::display::put_line;
+use crate::output::ROOM;
 use crate::output::put;
 use crate::output::put_number;
+use index::ROW_LENGTH;
 use listing::Listing;
 ghost use Prim.Native.Nat.{_≤_};
 ghost use lib.ListN.{length};
 
-fn put_readings(rows: usize) {
-    if rows == 1 {
-        put(b"1 reading");
-        return;
+// How many readings there are, between two texts.
+fn put_readings(
+    out: &mut [u8; ROOM],
+    at: usize,
+    before: &[u8],
+    rows: usize,
+    behind: &[u8],
+) -> usize {
+    let mut p = put_number(out, at, before, rows as u64, b" reading");
+    if rows != 1 {
+        p = put(out, p, b"s");
     }
-    put_number(rows as u64);
-    put(b" readings");
+    put(out, p, behind)
 }
 
 // Shows a line with the readings of so many rows.
-fn show(line: &[u8], results: &[u32], rows: usize, counts: &mut [u64; KINDS])
+fn show(
+    out: &mut [u8; ROOM],
+    at: usize,
+    line: &[u8],
+    results: &[u32],
+    rows: usize,
+    counts: &mut [u64; KINDS],
+) -> usize
     requires { ⌜ length (now line) ≤ 65536 ⌝ }
 {
-    put(b"\n");
-    put_line(line, results, rows);
     if report::is_odd(line) {
         count(counts, DOTTED);
     }
+    // a listing has written as many rows as it says, so that this does not happen
+    if results.len() / ROW_LENGTH < rows {
+        return at;
+    }
+    let n = rows * ROW_LENGTH;
+    put_line(out, at, line, &results[..n])
 }
 
 // A listing that is complete. One reading is as it should be, and is not shown.
-fn tell_complete(rows: usize, line: &[u8], results: &[u32], counts: &mut [u64; KINDS])
+fn tell_complete(
+    out: &mut [u8; ROOM],
+    at: usize,
+    line: &[u8],
+    results: &[u32],
+    rows: usize,
+    counts: &mut [u64; KINDS],
+) -> usize
     requires { ⌜ length (now line) ≤ 65536 ⌝ }
 {
-    if rows == 1 {
-        count(counts, ONCE);
-        put(b"1 reading\n");
-        return;
-    }
     if rows == 0 {
         count(counts, UNMATCHED);
-        put(b"not matched");
-    } else {
-        count(counts, AMBIGUOUS);
-        put_readings(rows);
+        let p = put(out, at, b"not matched\n");
+        return show(out, p, line, results, rows, counts);
     }
-    show(line, results, rows, counts);
-}
-
-fn tell_full(rows: usize, line: &[u8], results: &[u32], counts: &mut [u64; KINDS])
-    requires { ⌜ length (now line) ≤ 65536 ⌝ }
-{
+    let p = put_readings(out, at, b"", rows, b"\n");
+    if rows == 1 {
+        count(counts, ONCE);
+        return p;
+    }
     count(counts, AMBIGUOUS);
-    count(counts, MANY);
-    put(b"more than ");
-    put_readings(rows);
-    put(b", the first are shown");
-    show(line, results, rows, counts);
+    show(out, p, line, results, rows, counts)
 }
 
-// A listing that used up its budget at a start. It may have had readings until then, and more may follow: what is known is shown.
-fn tell_exhausted(start: u32, rows: usize, line: &[u8], results: &[u32], counts: &mut [u64; KINDS])
+// What a listing tells of a line. One that used up its budget at a start may have had readings until then, and more may follow: what is known is
+// shown.
+pub(crate) fn tell(
+    out: &mut [u8; ROOM],
+    at: usize,
+    line: &[u8],
+    results: &[u32],
+    listing: Listing,
+    counts: &mut [u64; KINDS],
+) -> usize
     requires { ⌜ length (now line) ≤ 65536 ⌝ }
 {
-    count(counts, EXHAUSTED);
-    if 1 < rows {
-        count(counts, UNSETTLED);
-    }
-    put(b"exhausted at start ");
-    put_number(start as u64);
-    put(b", ");
-    put_readings(rows);
-    put(b" until then");
-    show(line, results, rows, counts);
-}
-
-// A line has its number, from 1.
-fn begin(counts: &mut [u64; KINDS]) {
-    count(counts, LINES);
-    put(b"line ");
-    put_number(counts[LINES]);
-    put(b": ");
-}
-
-pub(crate) fn tell(listing: Listing, line: &[u8], results: &[u32], counts: &mut [u64; KINDS])
-    requires { ⌜ length (now line) ≤ 65536 ⌝ }
-{
-    begin(counts);
     match listing {
-        Listing::Complete(rows, _) => tell_complete(rows, line, results, counts),
-        Listing::Full(rows, _) => tell_full(rows, line, results, counts),
-        Listing::Exhausted(start, rows, _) => tell_exhausted(start, rows, line, results, counts),
-        // the rule was accepted before, and the line is short enough
-        Listing::Refused(_) => {
-            put(b"refused\n");
+        Listing::Complete(rows, _) => tell_complete(out, at, line, results, rows, counts),
+        Listing::Full(rows, _) => {
+            count(counts, AMBIGUOUS);
+            count(counts, MANY);
+            let p = put_readings(out, at, b"more than ", rows, b", the first are shown\n");
+            show(out, p, line, results, rows, counts)
         }
+        Listing::Exhausted(start, rows, _) => {
+            count(counts, EXHAUSTED);
+            if 1 < rows {
+                count(counts, UNSETTLED);
+            }
+            let p = put_number(out, at, b"exhausted at start ", start as u64, b", ");
+            let q = put_readings(out, p, b"", rows, b" until then\n");
+            show(out, q, line, results, rows, counts)
+        }
+        // the rule was accepted before, and the line is short enough
+        Listing::Refused(_) => put(out, at, b"refused\n"),
     }
-}
-
-pub(crate) fn tell_too_long(counts: &mut [u64; KINDS]) {
-    begin(counts);
-    count(counts, TOO_LONG);
-    put(b"too long, over 65535 bytes\n");
 }

@@ -6,10 +6,10 @@ use Rattle.readings.proofs.display.put_line.Statement.{statement}
 use Rattle.readings.proofs.display.put_line.Tie as tie
 
 abbrev Inv-loop : tie.InvT-loop
-Inv-loop line results rows at₀ at = at ≤ length line
+Inv-loop out₀ at line rows p₀ from₀ out p from = from ≤ length line
 
 abbrev μ-loop : tie.MeasureT-loop
-μ-loop line results rows at₀ at = length line - at
+μ-loop out₀ at line rows p₀ from₀ out p from = length line - from
 
 loop-holds : tie.Need-loop-holds Inv-loop μ-loop
 loop-holds c = search needs
@@ -23,8 +23,8 @@ sub-if1 c = search needs
 returns : tie.Need-returns Inv-loop μ-loop
 returns c = search needs
 
-add-at : tie.Need-add-at Inv-loop μ-loop
-add-at c = search needs
+add-from : tie.Need-add-from Inv-loop μ-loop
+add-from c = search needs
 
 loop-less : tie.Need-loop-less Inv-loop μ-loop
 loop-less c = search needs
@@ -42,6 +42,6 @@ put-line-spec =
     put-window-requires
     sub-if1
     returns
-    add-at
+    add-from
     loop-less
     loop-again)

@@ -47,11 +47,11 @@ slice-aggregate-put-3 c = search needs
 put-requires-3 : tie.Need-put-requires-3
 put-requires-3 c κs = search needs
 
-cast-put-readings : tie.Need-cast-put-readings
-cast-put-readings c = search needs
+cast-put-spans : tie.Need-cast-put-spans
+cast-put-spans c = search needs
 
-put-readings-requires : tie.Need-put-readings-requires
-put-readings-requires c κs = search needs
+put-spans-requires : tie.Need-put-spans-requires
+put-spans-requires c κs = search needs
 
 returns : tie.Need-returns
 returns c = search needs
@@ -74,6 +74,6 @@ put-window-spec =
     put-requires-2
     slice-aggregate-put-3
     put-requires-3
-    cast-put-readings
-    put-readings-requires
+    cast-put-spans
+    put-spans-requires
     returns)
