@@ -25,8 +25,8 @@ slice-aggregate-answer-input-4 c = search needs
 answer-input-requires : tie.Need-answer-input-requires
 unfolding workAreaNeed workPerStep gatewayBudget rowLength spansLength groupLimit heldLimit lineLimit
 answer-input-requires c κs =
-    let s = @start .pre .0 .1 in
-    (record { tree = s .tree; stands = s .stands; few = s .few; code-size = @start .pre .1 .0; work-area-fits = omega arith; results-fit = omega arith }, (omega arith, omega arith))
+    let s = c .before .before .before .before .before .before .before .before .pre .0 .1 in
+    (record { tree = s .tree; stands = s .stands; few = s .few; code-size = c .before .before .before .before .before .before .before .before .pre .1 .0; work-area-fits = omega arith; results-fit = omega arith }, (omega arith, omega arith))
 
 same-length : tie.Need-same-length
 same-length c = search needs

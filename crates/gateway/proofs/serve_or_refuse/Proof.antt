@@ -20,7 +20,7 @@ slice-aggregate-serve c = search needs
 
 serve-requires : tie.Need-serve-requires
 unfolding ruleAreaNeed
-serve-requires c κs = ((_, rw (@readiness .given .1) at (@prepare .ensures)), (omega arith, omega arith))
+serve-requires c κs = ((_, rw (c .before .before .before .readiness .given .1) at (c .before .before .before .before .before .before .prepare .ensures)), (omega arith, omega arith))
 
 enum-known-readiness-2 : tie.Need-enum-known-readiness-2
 enum-known-readiness-2 c = search needs

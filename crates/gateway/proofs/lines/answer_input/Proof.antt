@@ -26,8 +26,8 @@ sub-turns c = omega arith
 
 hear-requires : tie.Need-hear-requires Inv-loop μ-loop
 hear-requires c κs =
-    let v = @loop .inv in
-    (lentStill (@start .pre .0) (v .3) (v .4), (omega arith, omega arith, omega arith))
+    let v = c .before .before .before .before .before .before .loop .inv in
+    (lentStill (c .before .before .before .before .before .before .before .before .before .before .before .before .before .pre .0) (v .3) (v .4), (omega arith, omega arith, omega arith))
 
 enum-known-hearing : tie.Need-enum-known-hearing Inv-loop μ-loop
 enum-known-hearing c = search needs
@@ -37,7 +37,7 @@ loop-less c = omega arith
 
 loop-again : tie.Need-loop-again Inv-loop μ-loop
 loop-again c =
-    let h = heldOn (@hear .ensures) (@hearing .given .1) in
+    let h = heldOn (c .before .before .before .before .before .before .before .before .before .before .before .before .before .hear .ensures) (c .before .hearing .given .1) in
     (h, omega arith, omega arith, omega arith, omega arith, omega arith)
 
 enum-known-hearing-2 : tie.Need-enum-known-hearing-2 Inv-loop μ-loop
@@ -45,34 +45,34 @@ enum-known-hearing-2 c = search needs
 
 slice-reshare-prefix-end-input : tie.Need-slice-reshare-prefix-end-input Inv-loop μ-loop
 slice-reshare-prefix-end-input c =
-    let h = heldOver (@hear .ensures) (@hearing2 .given .1) in
+    let h = heldOver (c .before .before .before .before .before .before .before .before .before .before .before .before .before .hear .ensures) (c .before .hearing2 .given .1) in
     omega arith
 
 slice-aggregate-end-input : tie.Need-slice-aggregate-end-input Inv-loop μ-loop
 slice-aggregate-end-input c =
-    let h = heldOver (@hear .ensures) (@hearing2 .given .1) in
+    let h = heldOver (c .before .before .before .before .before .before .before .before .before .before .before .before .before .before .hear .ensures) (c .before .before .hearing2 .given .1) in
     simp length-take (omega arith)
 
 end-input-requires : tie.Need-end-input-requires Inv-loop μ-loop
 end-input-requires c κs =
-    let v = @loop .inv in
-    let r = @start .pre .1 .1 in
-    (lentStill (@start .pre .0) (omega arith) (omega arith), omega arith)
+    let v = c .before .before .before .before .before .before .before .before .before .before .before .before .before .before .before .before .before .before .before .before .before .before .before .before .loop .inv in
+    let r = c .before .before .before .before .before .before .before .before .before .before .before .before .before .before .before .before .before .before .before .before .before .before .before .before .before .before .before .before .before .before .before .pre .1 .1 in
+    (lentStill (c .before .before .before .before .before .before .before .before .before .before .before .before .before .before .before .before .before .before .before .before .before .before .before .before .before .before .before .before .before .before .before .pre .0) (omega arith) (omega arith), omega arith)
 
 same-length : tie.Need-same-length Inv-loop μ-loop
-same-length c = omega (arith, @loop .inv .1)
+same-length c = omega (arith, c .before .before .before .before .before .before .before .before .before .before .before .before .before .before .before .before .before .before .before .before .before .before .before .before .before .before .before .before .before .before .before .loop .inv .1)
 
 same-length-2 : tie.Need-same-length-2 Inv-loop μ-loop
-same-length-2 c = omega (arith, @loop .inv .2)
+same-length-2 c = omega (arith, c .before .before .before .before .before .before .before .before .before .before .before .before .before .before .before .before .before .before .before .before .before .before .before .before .before .before .before .before .before .before .before .loop .inv .2)
 
 same-length-3 : tie.Need-same-length-3 Inv-loop μ-loop
-same-length-3 c = omega (arith, @loop .inv .3)
+same-length-3 c = omega (arith, c .before .before .before .before .before .before .before .before .before .before .before .before .before .before .before .before .before .before .before .before .before .before .before .before .before .before .before .before .before .before .before .loop .inv .3)
 
 same-length-4 : tie.Need-same-length-4 Inv-loop μ-loop
-same-length-4 c = omega (arith, @loop .inv .4)
+same-length-4 c = omega (arith, c .before .before .before .before .before .before .before .before .before .before .before .before .before .before .before .before .before .before .before .before .before .before .before .before .before .before .before .before .before .before .before .loop .inv .4)
 
 same-length-5 : tie.Need-same-length-5 Inv-loop μ-loop
-same-length-5 c = omega (arith, @loop .inv .5)
+same-length-5 c = omega (arith, c .before .before .before .before .before .before .before .before .before .before .before .before .before .before .before .before .before .before .before .before .before .before .before .before .before .before .before .before .before .before .before .loop .inv .5)
 
 returns : tie.Need-returns Inv-loop μ-loop
 returns c = tt
@@ -99,19 +99,19 @@ returns-2 : tie.Need-returns-2 Inv-loop μ-loop
 returns-2 c = tt
 
 same-length-11 : tie.Need-same-length-11 Inv-loop μ-loop
-same-length-11 c = @loop .inv .1
+same-length-11 c = c .before .loop .inv .1
 
 same-length-12 : tie.Need-same-length-12 Inv-loop μ-loop
-same-length-12 c = @loop .inv .2
+same-length-12 c = c .before .loop .inv .2
 
 same-length-13 : tie.Need-same-length-13 Inv-loop μ-loop
-same-length-13 c = @loop .inv .3
+same-length-13 c = c .before .loop .inv .3
 
 same-length-14 : tie.Need-same-length-14 Inv-loop μ-loop
-same-length-14 c = @loop .inv .4
+same-length-14 c = c .before .loop .inv .4
 
 same-length-15 : tie.Need-same-length-15 Inv-loop μ-loop
-same-length-15 c = @loop .inv .5
+same-length-15 c = c .before .loop .inv .5
 
 returns-3 : tie.Need-returns-3 Inv-loop μ-loop
 returns-3 c = tt

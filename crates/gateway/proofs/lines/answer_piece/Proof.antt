@@ -21,13 +21,13 @@ loop-holds c = (omega arith, omega arith, omega arith, refl, refl, refl, refl)
 
 advance-requires : tie.Need-advance-requires Inv-loop μ-loop
 advance-requires c κs =
-    let v = @loop .inv in
-    (lentStill (@start .pre .0) (v .4) (v .5), (omega arith, omega arith, omega arith, omega arith))
+    let v = c .before .before .before .before .before .loop .inv in
+    (lentStill (c .before .before .before .before .before .before .before .before .before .before .before .before .pre .0) (v .4) (v .5), (omega arith, omega arith, omega arith, omega arith))
 
 make-room-requires : tie.Need-make-room-requires Inv-loop μ-loop
 make-room-requires c κs =
-    let v = @loop .inv in
-    let o = @advance .ensures .0 in
+    let v = c .before .before .before .before .before .before .before .before .before .before .before .before .before .before .before .loop .inv in
+    let o = c .before .before .before .before .before .before .before .before .before .advance .ensures .0 in
     (omega arith, omega arith)
 
 same-length : tie.Need-same-length Inv-loop μ-loop
@@ -44,19 +44,19 @@ same-length-4 c = omega arith
 
 returns : tie.Need-returns Inv-loop μ-loop
 returns c =
-    let o = @advance .ensures .0 in
+    let o = c .before .before .before .before .before .before .before .before .before .before .before .before .advance .ensures .0 in
     o .fits
 
 loop-less : tie.Need-loop-less Inv-loop μ-loop
 loop-less c =
-    let o = @advance .ensures .0 in
-    let m = o .moves (@loop-test .taken) in
+    let o = c .before .before .before .before .before .before .before .before .before .before .before .before .advance .ensures .0 in
+    let m = o .moves (c .before .before .before .before .before .before .before .before .before .before .before .before .before .before .before .before .before .loop-test .taken) in
     omega arith
 
 loop-again : tie.Need-loop-again Inv-loop μ-loop
 loop-again c =
-    let o = @advance .ensures .0 in
-    (o .within, o .fits, omega (arith, @make-room .ensures), omega arith, omega arith, omega arith, omega arith)
+    let o = c .before .before .before .before .before .before .before .before .before .before .before .before .advance .ensures .0 in
+    (o .within, o .fits, omega (arith, c .before .before .make-room .ensures), omega arith, omega arith, omega arith, omega arith)
 
 slice-reshare-prefix-deliver : tie.Need-slice-reshare-prefix-deliver Inv-loop μ-loop
 slice-reshare-prefix-deliver c = omega arith
@@ -68,19 +68,19 @@ deliver-requires : tie.Need-deliver-requires Inv-loop μ-loop
 deliver-requires c κs = tt
 
 same-length-5 : tie.Need-same-length-5 Inv-loop μ-loop
-same-length-5 c = @loop .inv .3
+same-length-5 c = c .before .before .before .loop .inv .3
 
 same-length-6 : tie.Need-same-length-6 Inv-loop μ-loop
-same-length-6 c = @loop .inv .4
+same-length-6 c = c .before .before .before .loop .inv .4
 
 same-length-7 : tie.Need-same-length-7 Inv-loop μ-loop
-same-length-7 c = @loop .inv .5
+same-length-7 c = c .before .before .before .loop .inv .5
 
 same-length-8 : tie.Need-same-length-8 Inv-loop μ-loop
-same-length-8 c = @loop .inv .6
+same-length-8 c = c .before .before .before .loop .inv .6
 
 returns-2 : tie.Need-returns-2 Inv-loop μ-loop
-returns-2 c = @loop .inv .1
+returns-2 c = c .before .before .before .loop .inv .1
 
 pub answer-piece-spec : {M : Type 1} → statement M
 answer-piece-spec =
@@ -95,13 +95,13 @@ answer-piece-spec =
     same-length-2
     same-length-3
     same-length-4
-    same-length-5
     returns
     loop-less
     loop-again
     slice-reshare-prefix-deliver
     slice-aggregate-deliver
     deliver-requires
+    same-length-5
     same-length-6
     same-length-7
     same-length-8

@@ -12,15 +12,15 @@ finish-requires c κs = search needs
 slice-reshare-prefix-deliver : tie.Need-slice-reshare-prefix-deliver
 unfolding answerRoom
 slice-reshare-prefix-deliver c =
-    let s = @start .pre .0 in
-    let n = @finish .ensures (s .tree) (s .stands) .near in
+    let s = c .before .before .before .before .before .before .before .before .before .before .before .before .before .before .before .pre .0 in
+    let n = c .before .before .before .before .before .before .finish .ensures (s .tree) (s .stands) .near in
     omega arith
 
 slice-aggregate-deliver : tie.Need-slice-aggregate-deliver
 unfolding answerRoom
 slice-aggregate-deliver c =
-    let s = @start .pre .0 in
-    let n = @finish .ensures (s .tree) (s .stands) .near in
+    let s = c .before .before .before .before .before .before .before .before .before .before .before .before .before .before .before .before .pre .0 in
+    let n = c .before .before .before .before .before .before .before .finish .ensures (s .tree) (s .stands) .near in
     simp length-take (omega arith)
 
 deliver-requires : tie.Need-deliver-requires

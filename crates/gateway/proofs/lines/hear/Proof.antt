@@ -14,12 +14,12 @@ enum-known-input c = search needs
 
 slice-reshare-prefix-answer-piece : tie.Need-slice-reshare-prefix-answer-piece
 slice-reshare-prefix-answer-piece c =
-    let h = readBytes (@read-some .ensures) (@input .given .1) in
+    let h = readBytes (c .before .before .before .before .before .read-some .ensures) (c .before .input .given .1) in
     omega arith
 
 slice-aggregate-answer-piece : tie.Need-slice-aggregate-answer-piece
 slice-aggregate-answer-piece c =
-    let h = readBytes (@read-some .ensures) (@input .given .1) in
+    let h = readBytes (c .before .before .before .before .before .before .read-some .ensures) (c .before .before .input .given .1) in
     simp length-take (omega arith)
 
 answer-piece-requires : tie.Need-answer-piece-requires
