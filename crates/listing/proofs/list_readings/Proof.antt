@@ -2,8 +2,8 @@
 use mathlib.Core.Path.{refl, sym}
 use native.Mathlib.Omega.{arith}
 use denote.Ref.{now}
-use Rattle.syntax.specs.Limits.{ruleAreaNeed, rowLength}
-use Rattle.semantics.specs.Calls.{ListRefused, listRule, listCall}
+use Rattle.syntax.specs.Limits.{ruleAreaNeed, workPerStep, rowLength}
+use Rattle.semantics.specs.Calls.{workAreaNeed, ListRefused, listRule, listCall}
 use Rattle.frame.specs.Inputs.{callOf}
 use Rattle.frame.specs.Laws.Preparing.{is-ready, is-denied, rule-area-long, work-area-long, readied-held, denied-returns, readied-returns}
 use Rattle.listing.specs.Listing.{listingOf}
@@ -43,7 +43,7 @@ list-held-requires c κs =
     readied-held p
 
 finish-requires : tie.Need-finish-requires
-unfolding rowLength
+unfolding rowLength workAreaNeed workPerStep
 finish-requires c κs =
     let a = c .before .before .before .before .before .before .before .before .before .before .before .before .before .before .before .before .before .before .before .before .before .before .before .before .before .args in
     let p = is-ready (c .before .before .before .before .before .before .before .before .before .before .before .before .before .before .before .before .before .prepare .ensures (now (a .subject)) (now (a .results)) refl refl) _ _ (c .before .before .before .before .before .before .before .before .before .before .before .entry .given .1) in

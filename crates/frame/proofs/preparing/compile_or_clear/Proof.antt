@@ -2,7 +2,8 @@
 -- where the rule is refused both areas are cleared as if nothing had been written.
 use mathlib.Core.Path.{refl, _∙_}
 use native.Mathlib.Omega.{arith}
-use Rattle.syntax.specs.Limits.{ruleAreaNeed}
+use Rattle.syntax.specs.Limits.{ruleAreaNeed, workPerStep}
+use Rattle.semantics.specs.Calls.{workAreaNeed}
 use Rattle.frame.specs.Preparing.{unsound}
 use Rattle.frame.specs.Laws.Areas.{cleared-alike}
 use Rattle.frame.specs.Laws.Compiled.{compile-refused, compile-near, compile-sound}
@@ -24,7 +25,8 @@ enum-known-compiled-2 : tie.Need-enum-known-compiled-2
 enum-known-compiled-2 c = search needs
 
 finish-requires : tie.Need-finish-requires
-finish-requires c κs = (omega (arith, c .before .before .before .before .before .before .before .compile .ensures .long, c .before .before .before .before .before .before .before .before .before .before .before .before .pre .rule-area-fits), c .before .before .before .before .before .before .before .before .before .before .before .before .pre .work-area-fits)
+unfolding workAreaNeed workPerStep
+finish-requires c κs = (omega (arith, c .before .before .before .before .before .before .before .compile .ensures .long, c .before .before .before .before .before .before .before .before .before .before .before .before .pre .rule-area-fits), omega (arith, c .before .before .before .before .before .before .before .before .before .before .before .before .pre .work-area-fits))
 
 same-length : tie.Need-same-length
 same-length c = search needs
