@@ -302,7 +302,9 @@ line 1: exhausted at start 0, 2 readings until then
         t.on("windows of a line of %d bytes" % length, rb"^(a*)(b*)(a*)(.*)$", b"a" * (length - 1) + b"b", budget=100000)
         t.on("an empty group at %d" % length, rb"^(?:(.*)|.*)()$", b"a" * length)
         t.on("a span up to %d" % length, rb"^(?:(a{%d})|(a{%d}a))" % (min(length, 255) - 1, min(length, 255) - 1), b"a" * length)
-    t.on("settled by the larger budget", rb"^(a*)(a*)(b?)$", b"a" * 30 + b"\n" + b"a" * 44)
+    t.on("a start of more than 1000 steps", rb"^(a*)(a*)(b?)$", b"a" * 30 + b"\n" + b"a" * 44)
+    full, many, few = b"a" * 44, b"a" * 12, b"a"
+    t.on("nothing is left of a line", rb"^(a*)(a*)(a*)(b?)$|^c(a*)*d", b"\n".join([few, full, few, many, full, b"c" + full, many, b"c" + full, few, b"", many, b"d", many]))
     t.on("more than 1000 readings", rb"^(a*)(a*)(a*)$", b"a" * 44 + b"\na\n")
     t.on("1000 readings", rb"(a*?)(a*)$", b"a" * 43 + b"\n" + b"a" * 44)
     t.on("32 groups", b"^" + b"(a?)" * 32 + b"$", b"a")

@@ -1,2 +1,3 @@
 -- What the functions' proofs cite.
 mod LineEnds
+mod Holding

@@ -13,9 +13,10 @@ use crate::output::put;
 use crate::output::put_number;
 use crate::output::say_number;
 use crate::telling::tell;
-use listing::Listing;
+use listing::list_held;
 ghost use Prim.Native.Nat.{_≤_};
 ghost use lib.ListN.{length};
+ghost use Rattle.readings.specs.Rules.{Holds};
 
 // What is lent to the calls: 16 numbers for each step of the largest budget, and 1,000 rows.
 pub const RULE_AREA: usize = frame::RULE_AREA_NEED;
@@ -30,44 +31,25 @@ pub const LINE: usize = frame::SUBJECT_LIMIT + 1;
 // How many lines pass between two messages.
 const PROGRESS: u64 = 10000;
 
-// What stays the same for all lines.
+// What stays the same for all lines: where the rule that stands compiled is entered, how many groups it has, and the budget.
 pub struct Setting {
-    pub flags: u32,
+    pub entry: u32,
+    pub groups: u32,
     pub budget: u32,
-}
-
-// The readings of a line, within the areas that are lent to all calls.
-pub(crate) fn list(
-    rule: &[u8],
-    setting: Setting,
-    line: &[u8],
-    area: &mut [u32; RULE_AREA],
-    work: &mut [u32; WORK_AREA],
-    results: &mut [u32; RESULT_AREA],
-) -> Listing {
-    lister::list(
-        rule,
-        setting.flags,
-        line,
-        setting.budget,
-        area,
-        work,
-        results,
-    )
 }
 
 // Tells of a line under its number, from 1, or of one that is too long and of which the beginning is there.
 fn tell_line(
-    rule: &[u8],
+    area: &[u32; RULE_AREA],
     setting: Setting,
     line: &[u8],
-    area: &mut [u32; RULE_AREA],
     work: &mut [u32; WORK_AREA],
     results: &mut [u32; RESULT_AREA],
     counts: &mut [u64; KINDS],
     out: &mut [u8; ROOM],
     at: usize,
 ) -> usize
+    requires { ⌜ Holds (now area) (setting .entry) (setting .budget) ⌝ }
     requires { ⌜ length (now line) ≤ 65536 ⌝ }
 {
     count(counts, LINES);
@@ -80,7 +62,15 @@ fn tell_line(
         count(counts, TOO_LONG);
         return put(out, p, b"too long, over 65535 bytes\n");
     }
-    let r = list(rule, setting, line, area, work, results);
+    let r = list_held(
+        area,
+        setting.entry,
+        setting.groups,
+        line,
+        setting.budget,
+        work,
+        results,
+    );
     tell(out, p, line, results, r, counts)
 }
 
@@ -93,15 +83,16 @@ pub struct Told {
 // Tells of all lines of a file, up to its end or to where nothing can be written any more.
 pub(crate) fn tell_lines(
     fd: i32,
-    rule: &[u8],
+    area: &[u32; RULE_AREA],
     setting: Setting,
     piece: &mut [u8; PIECE],
-    area: &mut [u32; RULE_AREA],
     work: &mut [u32; WORK_AREA],
     results: &mut [u32; RESULT_AREA],
     counts: &mut [u64; KINDS],
     out: &mut [u8; ROOM],
-) -> Told {
+) -> Told
+    requires { ⌜ Holds (now area) (setting .entry) (setting .budget) ⌝ }
+{
     let mut line = [0u8; LINE];
     let mut rest = Rest {
         at: 0,
@@ -132,17 +123,7 @@ pub(crate) fn tell_lines(
                 return Told { at, whole: true };
             }
         }
-        at = tell_line(
-            rule,
-            setting,
-            &line[..n],
-            area,
-            work,
-            results,
-            counts,
-            out,
-            at,
-        );
+        at = tell_line(area, setting, &line[..n], work, results, counts, out, at);
         if next.last {
             return Told { at, whole: true };
         }

@@ -11,6 +11,8 @@ mod telling;
 use arguments::Value;
 use counts::KINDS;
 use frame::BUDGET_LIMIT;
+use frame::Preparation;
+use frame::prepare;
 use input::PIECE;
 use input::Rest;
 use input::next_line;
@@ -18,11 +20,11 @@ use lines::RESULT_AREA;
 use lines::RULE_AREA;
 use lines::Setting;
 use lines::WORK_AREA;
-use listing::Listing;
 use output::put;
 use output::say;
 ghost use Prim.Native.Nat.{_≤_};
 ghost use lib.ListN.{length};
+ghost use Rattle.readings.specs.Rules.{Holds};
 
 // Where the arguments stand.
 const RULE_FILE: usize = 1;
@@ -68,24 +70,24 @@ fn open(argument: usize) -> i32 {
     fd
 }
 
-// Reports on the lines of a file, with a rule that is accepted.
+// Reports on the lines of a file, with a rule that stands compiled.
 fn report_lines(
     fd: i32,
-    rule: &[u8],
+    area: &[u32; RULE_AREA],
     setting: Setting,
     piece: &mut [u8; PIECE],
-    area: &mut [u32; RULE_AREA],
     work: &mut [u32; WORK_AREA],
     results: &mut [u32; RESULT_AREA],
-) {
+)
+    requires { ⌜ Holds (now area) (setting .entry) (setting .budget) ⌝ }
+{
     let mut counts = [0u64; KINDS];
     let mut out = io::large_buffer();
     let told = lines::tell_lines(
         fd,
-        rule,
+        area,
         setting,
         piece,
-        area,
         work,
         results,
         &mut counts,
@@ -105,10 +107,11 @@ fn report_lines(
     }
 }
 
-// Reports with a rule, if it is not refused: the answer to the empty line tells.
+// Reports with a rule, if it is not refused. It is compiled once, and then held over all lines.
 fn run(
     rule: &[u8],
-    setting: Setting,
+    flags: u32,
+    budget: u32,
     piece: &mut [u8; PIECE],
     area: &mut [u32; RULE_AREA],
     work: &mut [u32; WORK_AREA],
@@ -116,19 +119,24 @@ fn run(
 )
     requires { ⌜ length (now rule) ≤ 1001 ⌝ }
 {
-    match lines::list(rule, setting, b"", area, work, results) {
-        Listing::Refused(f) => messages::say_refusal(f, rule),
-        _ => {
+    match prepare(rule, flags, 0, budget, area, work, false) {
+        Preparation::Refused(f) => messages::say_refusal(f, rule),
+        Preparation::Ready(entry, groups) => {
             let fd = open(LINES_FILE);
             if 0 <= fd {
-                report_lines(fd, rule, setting, piece, area, work, results);
+                let setting = Setting {
+                    entry,
+                    groups,
+                    budget,
+                };
+                report_lines(fd, area, setting, piece, work, results);
             }
         }
     }
 }
 
-// With the flags and the budget, and the areas that are lent to all calls. The rule is the first line of its file, or all of it.
-fn start(setting: Setting) {
+// With the flags and the budget, and the areas that are lent. The rule is the first line of its file, or all of it.
+fn start(flags: u32, budget: u32) {
     let fd = open(RULE_FILE);
     if fd < 0 {
         return;
@@ -151,7 +159,8 @@ fn start(setting: Setting) {
     let mut results = [0u32; RESULT_AREA];
     run(
         &rule[..n],
-        setting,
+        flags,
+        budget,
         &mut piece,
         &mut area,
         &mut work,
@@ -175,7 +184,7 @@ fn main() {
         Value::Wrong => messages::usage(),
         Value::Is(flags) => match b {
             Value::Wrong => messages::usage(),
-            Value::Is(budget) => start(Setting { flags, budget }),
+            Value::Is(budget) => start(flags, budget),
         },
     }
 }

@@ -3,7 +3,6 @@ use mathlib.Core.Path.{_≡_}
 use Prim.Native.Nat.{_≤_}
 use native.Mathlib.Omega.{arith}
 use lib.ListN.{length, length-take}
-use Rattle.report.specs.Laws.Gathering.{count-within}
 use Rattle.readings.specs.Parts.{Within}
 use Rattle.readings.proofs.LineEnds.{ends-before}
 use borrow.Author.Needs.{needs}
@@ -47,13 +46,13 @@ part-gather-start : tie.Need-part-gather-start Inv-loop μ-loop
 part-gather-start c = search needs
 
 part-gather-end : tie.Need-part-gather-end Inv-loop μ-loop
-part-gather-end c = omega (arith, ends-before _ _ _ (c .before .line-end .ensures) (c .before .before .before .before .before .before .fill .ensures .ordered) (omega arith))
+part-gather-end c = omega (arith, ends-before _ _ _ (c .before .before .line-end .ensures) (c .before .before .before .before .before .before .before .fill .ensures .ordered) (omega arith))
 
 gather-requires : tie.Need-gather-requires Inv-loop μ-loop
 gather-requires c κs = search needs
 
-add-t24 : tie.Need-add-t24 Inv-loop μ-loop
-add-t24 c = search needs
+add-t25 : tie.Need-add-t25 Inv-loop μ-loop
+add-t25 c = search needs
 
 same-length-3 : tie.Need-same-length-3 Inv-loop μ-loop
 same-length-3 c = search needs
@@ -62,7 +61,7 @@ same-length-4 : tie.Need-same-length-4 Inv-loop μ-loop
 same-length-4 c = search needs
 
 returns-2 : tie.Need-returns-2 Inv-loop μ-loop
-returns-2 c = (omega (arith, count-within _ _ _ (c .before .before .before .gather .ensures .0)), search needs)
+returns-2 c = (omega (arith, c .before .before .before .gather .ensures .fits), search needs)
 
 same-length-5 : tie.Need-same-length-5 Inv-loop μ-loop
 same-length-5 c = search needs
@@ -71,7 +70,7 @@ same-length-6 : tie.Need-same-length-6 Inv-loop μ-loop
 same-length-6 c = search needs
 
 returns-3 : tie.Need-returns-3 Inv-loop μ-loop
-returns-3 c = (omega (arith, count-within _ _ _ (c .before .before .before .before .before .gather .ensures .0)), search needs)
+returns-3 c = (omega (arith, c .before .before .before .before .before .gather .ensures .fits), search needs)
 
 sub-left : tie.Need-sub-left Inv-loop μ-loop
 sub-left c = search needs
@@ -80,7 +79,7 @@ loop-less : tie.Need-loop-less Inv-loop μ-loop
 loop-less c = search needs
 
 loop-again : tie.Need-loop-again Inv-loop μ-loop
-loop-again c = (search needs, search needs, search needs, omega (arith, count-within _ _ _ (c .before .before .before .before .gather .ensures .0)))
+loop-again c = (search needs, search needs, search needs, omega (arith, c .before .before .before .before .gather .ensures .fits))
 
 same-length-7 : tie.Need-same-length-7 Inv-loop μ-loop
 same-length-7 c = search needs
@@ -109,7 +108,7 @@ next-line-spec =
     part-gather-start
     part-gather-end
     gather-requires
-    add-t24
+    add-t25
     same-length-3
     same-length-4
     returns-2

@@ -8,10 +8,10 @@ use Rattle.readings.proofs.lines.tell_lines.Statement.{statement}
 use Rattle.readings.proofs.lines.tell_lines.Tie as tie
 
 abbrev Inv-loop : tie.InvT-loop
-Inv-loop fd rule setting piece₀ area₀ work₀ results₀ counts₀ out₀ line₀ rest₀ at₀ left₀ piece area work results counts out line rest at left = (length line ≡ 65536) × Within 65536 (rest .at) (rest .end)
+Inv-loop fd area setting piece₀ work₀ results₀ counts₀ out₀ line₀ rest₀ at₀ left₀ piece work results counts out line rest at left = (length line ≡ 65536) × Within 65536 (rest .at) (rest .end)
 
 abbrev μ-loop : tie.MeasureT-loop
-μ-loop fd rule setting piece₀ area₀ work₀ results₀ counts₀ out₀ line₀ rest₀ at₀ left₀ piece area work results counts out line rest at left = left
+μ-loop fd area setting piece₀ work₀ results₀ counts₀ out₀ line₀ rest₀ at₀ left₀ piece work results counts out line rest at left = left
 
 loop-holds : tie.Need-loop-holds Inv-loop μ-loop
 loop-holds c = search needs
@@ -41,7 +41,7 @@ slice-aggregate-tell-line : tie.Need-slice-aggregate-tell-line Inv-loop μ-loop
 slice-aggregate-tell-line c = simp length-take (omega arith)
 
 tell-line-requires : tie.Need-tell-line-requires Inv-loop μ-loop
-tell-line-requires c κs = simp length-take (omega arith)
+tell-line-requires c κs = (c .before .before .before .before .before .before .before .before .before .before .before .before .before .pre, simp length-take (omega arith))
 
 returns-4 : tie.Need-returns-4 Inv-loop μ-loop
 returns-4 c = search needs

@@ -1,0 +1,56 @@
+-- A rule that is ready is held: so `prepare` promises, of any line and of any result area that is not too short.
+use mathlib.Core.Path.{refl}
+use mathlib.Core.Bool.{false}
+use mathlib.Core.List.{[]}
+use native.Mathlib.Omega.{arith}
+use Rattle.syntax.specs.Limits.{ruleAreaNeed}
+use Rattle.frame.specs.Laws.Calls.{some-results}
+use Rattle.frame.specs.Laws.Preparing.{is-ready}
+use Rattle.readings.proofs.Holding.{readied-holds}
+use borrow.Author.Needs.{needs}
+use Rattle.readings.proofs.run.Statement.{statement}
+use Rattle.readings.proofs.run.Tie as tie
+
+prepare-requires : tie.Need-prepare-requires
+prepare-requires c κs = search needs
+
+enum-known-f : tie.Need-enum-known-f
+enum-known-f c = search needs
+
+say-refusal-requires : tie.Need-say-refusal-requires
+say-refusal-requires c κs = search needs
+
+enum-known-entry : tie.Need-enum-known-entry
+enum-known-entry c = search needs
+
+open-requires : tie.Need-open-requires
+open-requires c κs = search needs
+
+report-lines-requires : tie.Need-report-lines-requires
+unfolding ruleAreaNeed
+report-lines-requires c κs =
+    let results = some-results false in
+    readied-holds (is-ready (c .before .before .before .before .before .before .before .before .before .prepare .ensures [] (results .0) refl (results .1)) _ _ (c .before .before .before .before .before .before .before .entry .given .1)) (omega arith)
+
+returns : tie.Need-returns
+returns c = search needs
+
+returns-2 : tie.Need-returns-2
+returns-2 c = search needs
+
+returns-3 : tie.Need-returns-3
+returns-3 c = search needs
+
+pub run-spec : {M : Type 1} → statement M
+run-spec =
+    tie.close
+    (tie.spec
+    prepare-requires
+    enum-known-f
+    say-refusal-requires
+    enum-known-entry
+    open-requires
+    report-lines-requires
+    returns
+    returns-2
+    returns-3)
