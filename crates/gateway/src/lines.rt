@@ -2,14 +2,15 @@
 use crate::input::Input;
 use crate::input::read_some;
 use crate::output::deliver;
-use gateway_line::ANSWER_ROOM;
 use gateway_line::Progress;
 use gateway_line::advance;
 use gateway_line::finish;
+use gateway_text::ANSWER_ROOM;
 use libc::STDIN_FILENO;
 ghost use Prim.Native.Nat.{_+_, _≤_};
 ghost use lib.ListN.{length};
-ghost use Rattle.gateway_line.specs.Limits.{heldLimit, answerRoom};
+ghost use Rattle.gateway_text.specs.Limits.{answerRoom};
+ghost use Rattle.gateway_line.specs.Limits.{heldLimit};
 ghost use Rattle.gateway_line.specs.Promises.{Lent};
 ghost use Rattle.gateway.specs.Counts.{Held};
 

@@ -6,8 +6,8 @@ mod rule_file;
 
 use gateway_line::Readiness;
 use gateway_line::prepare;
-use gateway_line::write_refusal;
-use gateway_line::write_unreadable;
+use gateway_text::write_refusal;
+use gateway_text::write_unreadable;
 use lines::answer_input;
 use output::deliver;
 use rule_file::Loading;
@@ -17,7 +17,7 @@ ghost use mathlib.Core.List.{List};
 ghost use Prim.Native.Nat.{ℕ, _≤_};
 ghost use lib.ListN.{length};
 ghost use Rattle.syntax.specs.Limits.{ruleAreaNeed};
-ghost use Rattle.gateway_line.specs.Limits.{answerRoom};
+ghost use Rattle.gateway_text.specs.Limits.{answerRoom};
 ghost use Rattle.gateway_line.specs.Promises.{Standing};
 
 // One byte more than a rule may have: with so many, it is known to be too long.

@@ -1,61 +1,16 @@
--- The lines that the gateway program writes: 01, "The gateway program".
-use mathlib.Core.List.{List, [], _∷_, _++_}
-use Prim.Native.Nat.{ℕ, zero, suc, _+_, _*_}
-use lib.ListN.{length, getD}
-use lib.Dec.{ltb, eqb}
+-- The rule that the gateway program reads, and its answer to a line: 01, "The gateway program".
+use mathlib.Core.List.{List}
+use Prim.Native.Nat.{ℕ}
+use lib.ListN.{length}
+use lib.Dec.{ltb}
 use Rattle.syntax.specs.declared.Reason.the-variants.{RuleTooLong}
-use Rattle.syntax.specs.Limits.{ruleLimit, unset}
-use Rattle.syntax.specs.Read.{if_then_else_, bytes, Read, refused}
+use Rattle.syntax.specs.Limits.{ruleLimit}
+use Rattle.syntax.specs.Read.{if_then_else_, Read, refused}
 use Rattle.syntax.specs.Tree.{Rule}
 use Rattle.syntax.specs.Reading.{reading}
-use Rattle.semantics.specs.States.{Row, row}
-use Rattle.semantics.specs.Answers.{Outcome, matched, notMatched, exhausted, answer}
-use Rattle.text.specs.Lines.{newline}
-use Rattle.text.specs.Numbers.{decimal}
+use Rattle.semantics.specs.Answers.{answer}
+use Rattle.gateway_text.specs.Lines.{tooLongLine, outcomeLine}
 use Rattle.gateway_line.specs.Limits.{lineLimit, gatewayBudget, gatewayFlags}
-
--- a line of output
-unfoldable pub line : List ℕ → List ℕ
-line text = text ++ (newline ∷ [])
-
--- " s-e` or ` -`": a group's span, where `-` stands for a group that is not set
-unfoldable pub span : ℕ → ℕ → List ℕ
-span from to = if eqb from unset then bytes " -" else bytes " " ++ decimal from ++ bytes "-" ++ decimal to
-
--- "for each group the rule has": the spans of groups 1 to n, of which the last stands at 2n in the row
-unfoldable pub spans : Row → ℕ → List ℕ
-spans x zero = []
-spans x (suc n) = spans x n ++ span (getD x (2 * suc n) 0) (getD x (2 * suc n + 1) 0)
-
--- "`M start end` with ` s-e` or ` -` for each group the rule has"
-unfoldable pub matchedLine : ℕ → Row → List ℕ
-matchedLine groups x = line (bytes "M " ++ decimal (getD x 0 0) ++ bytes " " ++ decimal (getD x 1 0) ++ spans x groups)
-
--- "`N`"
-unfoldable pub notMatchedLine : List ℕ
-notMatchedLine = line (bytes "N")
-
--- "or `X start`"
-unfoldable pub exhaustedLine : ℕ → List ℕ
-exhaustedLine start = line (bytes "X " ++ decimal start)
-
--- "A line over 256 bytes: `L`."
-unfoldable pub tooLongLine : List ℕ
-tooLongLine = line (bytes "L")
-
--- "Refused rule: `R number place`."
-unfoldable pub refusalLine : (number place : ℕ) → List ℕ
-refusalLine number place = line (bytes "R " ++ decimal number ++ bytes " " ++ decimal place)
-
--- "Unreadable file: `F`."
-unfoldable pub unreadableLine : List ℕ
-unreadableLine = line (bytes "F")
-
--- the line for what a match gives, of a rule with so many groups
-unfoldable pub outcomeLine : ℕ → Outcome → List ℕ
-outcomeLine groups (matched start t) = matchedLine groups (row start t)
-outcomeLine groups notMatched = notMatchedLine
-outcomeLine groups (exhausted start) = exhaustedLine start
 
 -- The rule that the gateway reads: its tree and its number of groups, or the refusal that a call gives.
 unfoldable pub gatewayRule : List ℕ → Read (Rule × ℕ)

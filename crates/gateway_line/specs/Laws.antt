@@ -1,5 +1,4 @@
 -- Facts about answers that proofs cite.
-pub mod Lines
 pub mod Rules
 pub mod Calls
 pub mod Streams

@@ -13,17 +13,15 @@ use Rattle.semantics.specs.Answers.{Outcome, matched, notMatched, exhausted, an
 use Rattle.semantics.specs.Calls.{workAreaNeed, over, MatchOutcome, Matched, NotMatched, Exhausted, Refused}
 use Rattle.machine.specs.Theorem.{Stands}
 use Rattle.text.specs.Writing.{Wrote}
+use Rattle.gateway_text.specs.Limits.{answerRoom}
+use Rattle.gateway_text.specs.Lines.{matchedLine, notMatchedLine, exhaustedLine, refusalLine}
+use Rattle.gateway_text.specs.Promises.{WroteLine}
 use Rattle.gateway_line.specs.declared.streaming.Progress.{Progress}
 use Rattle.gateway_line.specs.declared.rules.Readiness.{Readiness}
 use Rattle.gateway_line.specs.declared.rules.Readiness.the-variants.{Ready, Refused as Denied}
-use Rattle.gateway_line.specs.Limits.{lineLimit, heldLimit, gatewayBudget, answerRoom}
-use Rattle.gateway_line.specs.Answers.{matchedLine, notMatchedLine, exhaustedLine, refusalLine, gatewayRule, answerLine}
+use Rattle.gateway_line.specs.Limits.{lineLimit, heldLimit, gatewayBudget}
+use Rattle.gateway_line.specs.Answers.{gatewayRule, answerLine}
 use Rattle.gateway_line.specs.Gateway.{answers}
-
--- a line of output was written, in the room that every line finds
-pub record WroteLine (old : List ℕ) (at : ℕ) (text new : List ℕ) (end : ℕ) : Type 0 where
-  pub wrote : Wrote old at text new end
-  pub near : end ≤ at + answerRoom
 
 -- The rule ------------------------------------------------------------------
 

@@ -1,9 +1,9 @@
 // The answer to one line.
-use crate::lines::write_exhausted;
-use crate::lines::write_matched;
-use crate::lines::write_not_matched;
-use crate::lines::write_refusal;
-use crate::lines::write_too_long;
+use gateway_text::write_exhausted;
+use gateway_text::write_matched;
+use gateway_text::write_not_matched;
+use gateway_text::write_refusal;
+use gateway_text::write_too_long;
 use index::ROW_LENGTH;
 use matching::Outcome;
 use matching::match_held;
@@ -11,8 +11,9 @@ ghost use Prim.Native.Nat.{_+_, _≤_};
 ghost use lib.ListN.{length};
 ghost use Rattle.syntax.specs.Limits.{rowLength, groupLimit};
 ghost use Rattle.matching.specs.Outcomes.{outcomeOf};
-ghost use Rattle.gateway_line.specs.Limits.{answerRoom};
-ghost use Rattle.gateway_line.specs.Promises.{WroteLine, Lent, toldLine, Answered, Left};
+ghost use Rattle.gateway_text.specs.Limits.{answerRoom};
+ghost use Rattle.gateway_text.specs.Promises.{WroteLine};
+ghost use Rattle.gateway_line.specs.Promises.{Lent, toldLine, Answered, Left};
 
 pub const BUDGET: u32 = 1000;
 

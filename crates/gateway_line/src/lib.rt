@@ -1,14 +1,10 @@
-// The answers of the gateway program as bytes.
+// The gateway program's rule, and its answers to lines, also to those that come in pieces.
 mod answering;
-mod lines;
 mod rules;
 mod streaming;
 
 pub use answering::BUDGET;
 pub use answering::answer;
-pub use lines::ANSWER_ROOM;
-pub use lines::write_refusal;
-pub use lines::write_unreadable;
 pub use rules::Readiness;
 pub use rules::prepare;
 pub use streaming::HELD_LIMIT;

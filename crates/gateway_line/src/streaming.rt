@@ -5,7 +5,8 @@ use text::gather;
 use text::line_end;
 ghost use Prim.Native.Nat.{_+_, _≤_};
 ghost use lib.ListN.{length, take};
-ghost use Rattle.gateway_line.specs.Limits.{heldLimit, answerRoom};
+ghost use Rattle.gateway_text.specs.Limits.{answerRoom};
+ghost use Rattle.gateway_line.specs.Limits.{heldLimit};
 ghost use Rattle.gateway_line.specs.Promises.{Lent, Onward, Advanced, Finished};
 
 // How many bytes of a line are held: with one more than the limit, a line is known to be over it.

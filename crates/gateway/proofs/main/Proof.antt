@@ -1,7 +1,7 @@
 -- The first line of the file fits what it was read into, and every line fits the output.
 use native.Mathlib.Omega.{arith}
 use lib.ListN.{length-take}
-use Rattle.gateway_line.specs.Limits.{answerRoom}
+use Rattle.gateway_text.specs.Limits.{answerRoom}
 use Rattle.gateway.specs.Counts.{loadedWhole}
 use borrow.Author.Needs.{needs}
 use Rattle.gateway.proofs.main.Statement.{statement}

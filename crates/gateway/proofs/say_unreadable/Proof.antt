@@ -1,7 +1,7 @@
 -- The line fits the output.
 use native.Mathlib.Omega.{arith}
 use lib.ListN.{length-take}
-use Rattle.gateway_line.specs.Limits.{answerRoom}
+use Rattle.gateway_text.specs.Limits.{answerRoom}
 use borrow.Author.Needs.{needs}
 use Rattle.gateway.proofs.say_unreadable.Statement.{statement}
 use Rattle.gateway.proofs.say_unreadable.Tie as tie

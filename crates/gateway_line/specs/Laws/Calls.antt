@@ -15,8 +15,9 @@ use Rattle.frame.specs.Inputs.{Held}
 use Rattle.matching.specs.declared.Outcome.{Outcome as Told}
 use Rattle.matching.specs.declared.Outcome.the-variants.{Matched as Found, NotMatched as Missed, Exhausted as Spent, Refused as Denied}
 use Rattle.matching.specs.Outcomes.{outcomeOf, Reports}
+use Rattle.gateway_text.specs.Lines.{matchedLine, tooLongLine, outcomeLine}
 use Rattle.gateway_line.specs.Limits.{lineLimit, gatewayBudget}
-use Rattle.gateway_line.specs.Answers.{matchedLine, tooLongLine, outcomeLine, answerLine}
+use Rattle.gateway_line.specs.Answers.{answerLine}
 use Rattle.gateway_line.specs.Promises.{Lent, toldLine, rowed, resultsLeft}
 
 -- a line that is too long, and one that is not

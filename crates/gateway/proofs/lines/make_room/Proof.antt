@@ -1,7 +1,7 @@
 -- There is room, or all of it is free.
 use native.Mathlib.Omega.{arith}
 use lib.ListN.{length-take}
-use Rattle.gateway_line.specs.Limits.{answerRoom}
+use Rattle.gateway_text.specs.Limits.{answerRoom}
 use borrow.Author.Needs.{needs}
 use Rattle.gateway.proofs.lines.make_room.Statement.{statement}
 use Rattle.gateway.proofs.lines.make_room.Tie as tie

@@ -1,12 +1,12 @@
 -- The parts of the line, one behind another.
 use native.Mathlib.Omega.{arith}
 use Rattle.text.specs.Laws.Numbers.{tenDigits, twentyDigits}
-use Rattle.gateway_line.specs.Limits.{answerRoom}
-use Rattle.gateway_line.specs.Laws.Lines.{refusalWrote}
+use Rattle.gateway_text.specs.Limits.{answerRoom}
+use Rattle.gateway_text.specs.Laws.Lines.{refusalWrote}
 use Rattle.text.specs.Lines.{newline}
 use borrow.Author.Needs.{needs}
-use Rattle.gateway_line.proofs.lines.write_refused.Statement.{statement}
-use Rattle.gateway_line.proofs.lines.write_refused.Tie as tie
+use Rattle.gateway_text.proofs.write_refused.Statement.{statement}
+use Rattle.gateway_text.proofs.write_refused.Tie as tie
 
 slice-aggregate-append : tie.Need-slice-aggregate-append
 slice-aggregate-append c = search needs

@@ -11,9 +11,9 @@ ghost use lib.ListN.{length};
 ghost use Rattle.text.specs.Writing.{Wrote};
 ghost use Rattle.syntax.specs.Limits.{rowLength, groupLimit};
 ghost use Rattle.syntax.specs.Refusals.{numberOf};
-ghost use Rattle.gateway_line.specs.Limits.{spanRoom, answerRoom};
-ghost use Rattle.gateway_line.specs.Answers.{span, spans, matchedLine, notMatchedLine, exhaustedLine, tooLongLine, refusalLine, unreadableLine};
-ghost use Rattle.gateway_line.specs.Promises.{WroteLine};
+ghost use Rattle.gateway_text.specs.Limits.{spanRoom, answerRoom};
+ghost use Rattle.gateway_text.specs.Lines.{span, spans, matchedLine, notMatchedLine, exhaustedLine, tooLongLine, refusalLine, unreadableLine};
+ghost use Rattle.gateway_text.specs.Promises.{WroteLine};
 
 // The bytes of a group's span at most, and of an answer: a letter, two numbers, a span for each group of a row, and the 0A.
 const SPAN_ROOM: usize = 22;
@@ -21,7 +21,7 @@ const SPAN_ROOM: usize = 22;
 pub const ANSWER_ROOM: usize = 24 + SPAN_ROOM * ((index::ROW_LENGTH - 2) / 2);
 
 // A group's span.
-pub fn write_span(from: u32, to: u32, out: &mut [u8], at: usize) -> usize
+fn write_span(from: u32, to: u32, out: &mut [u8], at: usize) -> usize
     requires { ⌜ at + spanRoom ≤ length (now out) ⌝ }
     ensures { λ r. ⌜ Wrote (now (out .entry)) at (span from to) (now (out .exit)) r × (r ≤ at + spanRoom) ⌝ }
 {
@@ -35,7 +35,7 @@ pub fn write_span(from: u32, to: u32, out: &mut [u8], at: usize) -> usize
 }
 
 // The spans of all groups that the rule has.
-pub fn write_spans(row: &[u32], groups: u32, out: &mut [u8], at: usize) -> usize
+fn write_spans(row: &[u32], groups: u32, out: &mut [u8], at: usize) -> usize
     requires { ⌜ (rowLength ≤ length (now row)) × (groups ≤ groupLimit) × (at + spanRoom * groups ≤ length (now out)) ⌝ }
     ensures { λ r. ⌜ Wrote (now (out .entry)) at (spans (now (row .entry)) groups) (now (out .exit)) r × (r ≤ at + spanRoom * groups) ⌝ }
 {

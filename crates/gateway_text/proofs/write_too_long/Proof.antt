@@ -1,10 +1,10 @@
 -- One text of two bytes.
 use native.Mathlib.Omega.{arith}
-use Rattle.gateway_line.specs.Limits.{answerRoom}
-use Rattle.gateway_line.specs.Laws.Lines.{unreadableWrote}
+use Rattle.gateway_text.specs.Limits.{answerRoom}
+use Rattle.gateway_text.specs.Laws.Lines.{tooLongWrote}
 use borrow.Author.Needs.{needs}
-use Rattle.gateway_line.proofs.lines.write_unreadable.Statement.{statement}
-use Rattle.gateway_line.proofs.lines.write_unreadable.Tie as tie
+use Rattle.gateway_text.proofs.write_too_long.Statement.{statement}
+use Rattle.gateway_text.proofs.write_too_long.Tie as tie
 
 slice-aggregate-append : tie.Need-slice-aggregate-append
 slice-aggregate-append c = search needs
@@ -17,8 +17,8 @@ same-length : tie.Need-same-length
 same-length c = search needs
 
 returns : tie.Need-returns
-returns c = unreadableWrote (c .before .before .append .ensures)
+returns c = tooLongWrote (c .before .before .append .ensures)
 
-pub write-unreadable-spec : {M : Type 1} → statement M
-write-unreadable-spec =
+pub write-too-long-spec : {M : Type 1} → statement M
+write-too-long-spec =
     tie.close (tie.spec slice-aggregate-append append-requires same-length returns)

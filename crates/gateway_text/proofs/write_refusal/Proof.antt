@@ -1,7 +1,7 @@
 -- The number of the reason stands for it.
 use borrow.Author.Needs.{needs}
-use Rattle.gateway_line.proofs.lines.write_refusal.Statement.{statement}
-use Rattle.gateway_line.proofs.lines.write_refusal.Tie as tie
+use Rattle.gateway_text.proofs.write_refusal.Statement.{statement}
+use Rattle.gateway_text.proofs.write_refusal.Tie as tie
 
 number-requires : tie.Need-number-requires
 number-requires c κs = search needs

@@ -1,12 +1,12 @@
 -- A span that is not set is one text; any other is its parts, one behind another.
 use native.Mathlib.Omega.{arith}
 use Rattle.text.specs.Laws.Numbers.{tenDigits}
-use Rattle.gateway_line.specs.Limits.{spanRoom}
-use Rattle.gateway_line.specs.Laws.Lines.{spanUnset, spanSet}
+use Rattle.gateway_text.specs.Limits.{spanRoom}
+use Rattle.gateway_text.specs.Laws.Lines.{spanUnset, spanSet}
 use Rattle.syntax.specs.Limits.{unset}
 use borrow.Author.Needs.{needs}
-use Rattle.gateway_line.proofs.lines.write_span.Statement.{statement}
-use Rattle.gateway_line.proofs.lines.write_span.Tie as tie
+use Rattle.gateway_text.proofs.write_span.Statement.{statement}
+use Rattle.gateway_text.proofs.write_span.Tie as tie
 
 slice-aggregate-append : tie.Need-slice-aggregate-append
 slice-aggregate-append c = search needs

@@ -1,17 +1,17 @@
 -- The loop's invariant: the spans of the first i groups stand behind the position, in their room.
 use native.Mathlib.Omega.{arith}
 use denote.Ref.{now}
-use Rattle.gateway_line.specs.Limits.{spanRoom}
-use Rattle.gateway_line.specs.Laws.Lines.{spansMore}
+use Rattle.gateway_text.specs.Limits.{spanRoom}
+use Rattle.gateway_text.specs.Laws.Lines.{spansMore}
 use mathlib.Core.Path.{_≡_, refl}
 use Prim.Native.Nat.{_≤_, _+_, _*_, _-_}
 use lib.ListN.{length}
 use Rattle.syntax.specs.Limits.{rowLength, groupLimit, spansLength}
 use Rattle.text.specs.Writing.{Wrote}
 use Rattle.text.specs.Laws.Writing.{wroteNothing}
-use Rattle.gateway_line.specs.Answers.{spans}
-use Rattle.gateway_line.proofs.lines.write_spans.Statement.{statement}
-use Rattle.gateway_line.proofs.lines.write_spans.Tie as tie
+use Rattle.gateway_text.specs.Lines.{spans}
+use Rattle.gateway_text.proofs.write_spans.Statement.{statement}
+use Rattle.gateway_text.proofs.write_spans.Tie as tie
 
 abbrev Inv-loop : tie.InvT-loop
 Inv-loop row groups out₀ at last i₀ end₀ out i end = (i ≤ last) × Wrote out₀ at (spans row i) out end × (end ≤ at + spanRoom * i) × (length out ≡ length out₀)

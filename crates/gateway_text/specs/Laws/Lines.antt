@@ -13,9 +13,9 @@ use Rattle.text.specs.Numbers.{decimal}
 use Rattle.text.specs.Writing.{Wrote}
 use Rattle.text.specs.Laws.Numbers.{tenDigits, twentyDigits}
 use Rattle.text.specs.Laws.Writing.{wroteBoth}
-use Rattle.gateway_line.specs.Limits.{spanRoom, answerRoom}
-use Rattle.gateway_line.specs.Answers.{line, span, spans, matchedLine, notMatchedLine, exhaustedLine, tooLongLine, refusalLine, unreadableLine}
-use Rattle.gateway_line.specs.Promises.{WroteLine}
+use Rattle.gateway_text.specs.Limits.{spanRoom, answerRoom}
+use Rattle.gateway_text.specs.Lines.{line, span, spans, matchedLine, notMatchedLine, exhaustedLine, tooLongLine, refusalLine, unreadableLine}
+use Rattle.gateway_text.specs.Promises.{WroteLine}
 
 -- Spans ---------------------------------------------------------------------
 

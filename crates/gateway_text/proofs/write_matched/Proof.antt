@@ -2,14 +2,14 @@
 use native.Mathlib.Omega.{arith}
 use denote.Ref.{now}
 use Rattle.text.specs.Laws.Numbers.{tenDigits}
-use Rattle.gateway_line.specs.Limits.{spanRoom, answerRoom}
-use Rattle.gateway_line.specs.Laws.Lines.{matchedWrote}
+use Rattle.gateway_text.specs.Limits.{spanRoom, answerRoom}
+use Rattle.gateway_text.specs.Laws.Lines.{matchedWrote}
 use lib.ListN.{getD}
 use Rattle.text.specs.Lines.{newline}
 use Rattle.syntax.specs.Limits.{rowLength, groupLimit}
 use borrow.Author.Needs.{needs}
-use Rattle.gateway_line.proofs.lines.write_matched.Statement.{statement}
-use Rattle.gateway_line.proofs.lines.write_matched.Tie as tie
+use Rattle.gateway_text.proofs.write_matched.Statement.{statement}
+use Rattle.gateway_text.proofs.write_matched.Tie as tie
 
 slice-aggregate-append : tie.Need-slice-aggregate-append
 slice-aggregate-append c = search needs

@@ -1,0 +1,2 @@
+-- Facts about the lines that proofs cite.
+pub mod Lines
