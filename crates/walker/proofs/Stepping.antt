@@ -27,46 +27,63 @@ only-loop n h a b c d e f g i = high n h (low n a b c d) e f g i
     high : (n : ℕ) → n ≤ 8 → 4 ≤ n → (n ≡ 4 → ⊥) → (n ≡ 5 → ⊥) → (n ≡ 6 → ⊥) → (n ≡ 7 → ⊥) → n ≡ 8
     high n h l e f g i = omega arith
 
+-- The steps used, where `rest` of `left` are left.
+pub used-none : (left : ℕ) → left - left ≡ 0
+used-none left = omega arith
+
+pub used-all : (left rest : ℕ) → rest ≡ 0 → left - rest ≡ left
+used-all left rest e = omega arith
+
+pub rest-again : (left rest : ℕ) → rest ≤ left → left - (left - rest) ≡ rest
+rest-again left rest h = omega arith
+
+pub used-more : (left rest n : ℕ) → rest ≤ left → n ≤ rest → left - (rest - n) ≡ (left - rest) + n
+used-more left rest n h k = omega arith
+
 -- A walk that begins with the registers regs₀ and the work area work₀, at m₀.
 module _ (p sub regs₀ work₀ : List ℕ) (m₀ : Machine) (left : ℕ) where
-  pub record Stepping (regs work : List ℕ) (used : ℕ) (m : Machine) : Type 0 where
+  pub record Stepping (regs work : List ℕ) (rest : ℕ) (m : Machine) : Type 0 where
     pub size : length regs ≡ length regs₀
     pub wide : length work ≡ length work₀
-    pub few : used ≤ left
+    pub few : rest ≤ left
     pub some : ReadyForSome p sub regs₀ work₀ m₀ left
-    pub begins : used ≡ 0 → m ≡ m₀
-    pub leads : Leads p sub (nowOf regs₀ work₀ m₀) used (nowOf regs work m)
+    pub begins : rest ≡ left → m ≡ m₀
+    pub leads : Leads p sub (nowOf regs₀ work₀ m₀) (left - rest) (nowOf regs work m)
 
-  pub stepping-start : ReadyForSome p sub regs₀ work₀ m₀ left → Stepping regs₀ work₀ 0 m₀
-  stepping-start x = record { size = refl; wide = refl; few = omega arith; some = x; begins = λ e. refl; leads = stay }
+  pub stepping-start : ReadyForSome p sub regs₀ work₀ m₀ left → Stepping regs₀ work₀ left m₀
+  stepping-start x = record { size = refl; wide = refl; few = omega arith; some = x; begins = λ e. refl; leads = rw (used-none left) stay }
 
-module _ {p sub regs₀ work₀ : List ℕ} {m₀ : Machine} {left : ℕ} {regs work : List ℕ} {used : ℕ} {m : Machine} (g : Stepping p sub regs₀ work₀ m₀ left regs work used m) where
-  running : Running p sub (length work₀) left (g .some .0) (g .some .1) used (nowOf regs work m)
-  running = ready-led p sub (length work₀) left (g .some .0) (g .some .1) (g .some .2) (g .leads) (g .few)
+module _ {p sub regs₀ work₀ : List ℕ} {m₀ : Machine} {left : ℕ} {regs work : List ℕ} {rest : ℕ} {m : Machine} (g : Stepping p sub regs₀ work₀ m₀ left regs work rest m) where
+  running : Running p sub (length work₀) left (g .some .0) (g .some .1) (left - rest) (nowOf regs work m)
+  running = ready-led p sub (length work₀) left (g .some .0) (g .some .1) (g .some .2) (g .leads) (omega arith)
 
-  pub stepping-ready : (first : List ℕ) × (t : Trace) × Ready p sub (length work) (left - used) first (nowOf regs work m) t
-  stepping-ready = (g .some .0, running .rest, rw (g .wide) (running .ready))
+  pub stepping-ready : (first : List ℕ) × (t : Trace) × Ready p sub (length work) rest first (nowOf regs work m) t
+  stepping-ready = (g .some .0, running .rest, rw (g .wide) (rw (rest-again left rest (g .few)) at (running .ready)))
+
+  -- where no step is left
+  pub stepping-out : rest ≡ 0 → Leads p sub (nowOf regs₀ work₀ m₀) left (nowOf regs work m)
+  stepping-out e = rw (used-all left rest e) at (g .leads)
 
   -- where it does not stand at such a node, at least one was walked
-  some-steps : (used ≡ 0 → ⊥) → 1 ≤ used
-  some-steps h = omega arith
+  some-steps : (rest ≡ left → ⊥) → 1 ≤ left - rest
+  some-steps h = omega (arith, g .few)
 
-  pub stepping-past : getD p (m₀ .pc) 0 ≤ 8 → 8 < getD p (m .pc) 0 → 1 ≤ used
+  pub stepping-past : getD p (m₀ .pc) 0 ≤ 8 → 8 < getD p (m .pc) 0 → 1 ≤ left - rest
   stepping-past h k = some-steps (λ e. let z : m .pc ≡ m₀ .pc = ap (λ (x : Machine). x .pc) (g .begins e) in let k′ : 8 < getD p (m₀ .pc) 0 = rw z at k in omega arith)
 
-  pub stepping-idle : m₀ .live ≡ true → m .live ≡ false → 1 ≤ used
+  pub stepping-idle : m₀ .live ≡ true → m .live ≡ false → 1 ≤ left - rest
   stepping-idle h k = some-steps (λ e. let z : m .live ≡ m₀ .live = ap (λ (x : Machine). x .live) (g .begins e) in let y : _≡_ {A = ℕ} 0 1 = cc in omega arith)
 
   -- nodes in a row
-  pub stepping-more : (regs′ work′ : List ℕ) (m′ : Machine) (n : ℕ) → 1 ≤ n → n ≤ left - used → Leads p sub (nowOf regs work m) n (nowOf regs′ work′ m′) → length regs′ ≡ length regs → length work′ ≡ length work
-      → Stepping p sub regs₀ work₀ m₀ left regs′ work′ (used + n) m′
+  pub stepping-more : (regs′ work′ : List ℕ) (m′ : Machine) (n : ℕ) → 1 ≤ n → n ≤ rest → Leads p sub (nowOf regs work m) n (nowOf regs′ work′ m′) → length regs′ ≡ length regs → length work′ ≡ length work
+      → Stepping p sub regs₀ work₀ m₀ left regs′ work′ (rest - n) m′
   stepping-more regs′ work′ m′ n one h l s s′ = record {
     size = s ∙ g .size;
     wide = s′ ∙ g .wide;
     few = omega (arith, g .few);
     some = g .some;
-    begins = λ e. absurd (omega arith);
-    leads = leads-join p sub (g .leads) l;
+    begins = λ e. absurd (omega (arith, g .few));
+    leads = rw (used-more left rest n (g .few) h) (leads-join p sub (g .leads) l);
   }
 
   module _ (live : m .live ≡ true) where
@@ -76,12 +93,9 @@ module _ {p sub regs₀ work₀ : List ℕ} {m₀ : Machine} {left : ℕ} {regs 
     pub stepping-stack : StackFits p (stackOf work (m .height))
     stepping-stack = running-stack regs work m live running
 
-    pub stepping-low : 4 * m .height + 8 * (left - used) ≤ length work
-    stepping-low = rw (g .wide) (running-low regs work m live running)
+    pub stepping-low : 4 * m .height + 8 * rest ≤ length work
+    stepping-low = rw (g .wide) (rw (rest-again left rest (g .few)) at (running-low regs work m live running))
 
-    -- one node
-    pub stepping-on : (regs′ work′ : List ℕ) (m′ : Machine) → used < left → getD p (m .pc) 0 ≤ 8 → nowOf regs′ work′ m′ ≡ movedOn p sub regs work m → length regs′ ≡ length regs → length work′ ≡ length work
-        → Stepping p sub regs₀ work₀ m₀ left regs′ work′ (used + 1) m′
-    stepping-on regs′ work′ m′ h k e s s′ =
-        let l : Leads p sub (nowOf regs work m) 1 (nowOf regs′ work′ m′) = rw (e, live) (onward stay k) in
-        stepping-more regs′ work′ m′ 1 (omega arith) (omega (arith, g .few)) l s s′
+-- one node
+pub one-node : (p sub regs work regs′ work′ : List ℕ) (m m′ : Machine) → m .live ≡ true → getD p (m .pc) 0 ≤ 8 → nowOf regs′ work′ m′ ≡ movedOn p sub regs work m → Leads p sub (nowOf regs work m) 1 (nowOf regs′ work′ m′)
+one-node p sub regs work regs′ work′ m m′ live k e = rw (e, live) (onward stay k)

@@ -16,6 +16,7 @@ use Rattle.machine.specs.Moves.{Configuration, idle, busy}
 use Rattle.machine.specs.Words.{stackOf, configurationOf, nowOf}
 use Rattle.machine.specs.Ready.{until, Leads, RanBy, StackFits, Ready, Reached, Agrees, atEnd, allTried, outOfSteps}
 use Rattle.machine.specs.Laws.Loop.{Running, running-start, running-idle, running-out, running-end, running-led, running-led-cut, running-fits, running-stack, running-low}
+use Rattle.walker.proofs.Stepping.{used-none, used-all, rest-again, used-more}
 
 -- A run that begins with the registers regs₀ and the work area work₀, at m₀.
 module _ (p sub regs₀ work₀ : List ℕ) (m₀ : Machine) (budget : ℕ) where
@@ -26,59 +27,59 @@ module _ (p sub regs₀ work₀ : List ℕ) (m₀ : Machine) (budget : ℕ) wher
   abbrev pub Promised : Stop → List ℕ → List ℕ → Type 0
   Promised r regs work = (first : List ℕ) (t : Trace) → ReadyAtFirst first t → Agrees p sub (length work₀) budget first regs work (until budget 0 t) r
 
-  pub record Walking (regs work : List ℕ) (used : ℕ) (m : Machine) : Type 0 where
+  pub record Walking (regs work : List ℕ) (rest : ℕ) (m : Machine) : Type 0 where
     pub size : length regs ≡ length regs₀
     pub wide : length work ≡ length work₀
-    pub few : used ≤ budget
+    pub few : rest ≤ budget
     pub some : (first : List ℕ) × (t : Trace) × ReadyAtFirst first t
-    pub runs : (first : List ℕ) (t : Trace) → ReadyAtFirst first t → Running p sub (length work₀) budget first t used (nowOf regs work m)
+    pub runs : (first : List ℕ) (t : Trace) → ReadyAtFirst first t → Running p sub (length work₀) budget first t (budget - rest) (nowOf regs work m)
 
-  pub walking-start : (first : List ℕ) × (t : Trace) × ReadyAtFirst first t → Walking regs₀ work₀ 0 m₀
-  walking-start x = record { size = refl; wide = refl; few = omega arith; some = x; runs = λ first t r. running-start p sub (length work₀) budget first t _ r }
+  pub walking-start : (first : List ℕ) × (t : Trace) × ReadyAtFirst first t → Walking regs₀ work₀ budget m₀
+  walking-start x = record { size = refl; wide = refl; few = omega arith; some = x; runs = λ first t r. rw (used-none budget) (running-start p sub (length work₀) budget first t _ r) }
 
-module _ {p sub regs₀ work₀ : List ℕ} {m₀ : Machine} {budget : ℕ} {regs work : List ℕ} {used : ℕ} {m : Machine} (g : Walking p sub regs₀ work₀ m₀ budget regs work used m) where
+module _ {p sub regs₀ work₀ : List ℕ} {m₀ : Machine} {budget : ℕ} {regs work : List ℕ} {rest : ℕ} {m : Machine} (g : Walking p sub regs₀ work₀ m₀ budget regs work rest m) where
   abbrev here : Configuration
   here = configurationOf regs work m
 
-  pub walking-none : m .live ≡ false → Promised p sub regs₀ work₀ m₀ budget (Nothing used) regs work
+  pub walking-none : m .live ≡ false → Promised p sub regs₀ work₀ m₀ budget (Nothing (budget - rest)) regs work
   walking-none e first t x =
-      let y : Running p sub (length work₀) budget first t used (idle regs) = rw e at (g .runs first t x) in
-      rw (running-idle p sub (length work₀) budget first t used regs y) (allTried (g .few) (y .ready .back))
+      let y : Running p sub (length work₀) budget first t (budget - rest) (idle regs) = rw e at (g .runs first t x) in
+      rw (running-idle p sub (length work₀) budget first t (budget - rest) regs y) (allTried {used = budget - rest} (omega arith) (y .ready .back))
 
-  at-work : Running p sub (length work₀) budget (g .some .0) (g .some .1) used (nowOf regs work m)
+  at-work : Running p sub (length work₀) budget (g .some .0) (g .some .1) (budget - rest) (nowOf regs work m)
   at-work = g .runs (g .some .0) (g .some .1) (g .some .2)
 
-  pub walking-ready : (first : List ℕ) × (t : Trace) × Ready p sub (length work) (budget - used) first (nowOf regs work m) t
-  walking-ready = (g .some .0, at-work .rest, rw (g .wide) (at-work .ready))
+  pub walking-ready : (first : List ℕ) × (t : Trace) × Ready p sub (length work) rest first (nowOf regs work m) t
+  walking-ready = (g .some .0, at-work .rest, rw (g .wide) (rw (rest-again budget rest (g .few)) at (at-work .ready)))
 
   -- nodes in a row
-  pub walking-on : (regs′ work′ : List ℕ) (m′ : Machine) (n : ℕ) → n ≤ budget - used → Leads p sub (nowOf regs work m) n (nowOf regs′ work′ m′) → length regs′ ≡ length regs → length work′ ≡ length work
-      → Walking p sub regs₀ work₀ m₀ budget regs′ work′ (used + n) m′
+  pub walking-on : (regs′ work′ : List ℕ) (m′ : Machine) (n : ℕ) → n ≤ rest → Leads p sub (nowOf regs work m) n (nowOf regs′ work′ m′) → length regs′ ≡ length regs → length work′ ≡ length work
+      → Walking p sub regs₀ work₀ m₀ budget regs′ work′ (rest - n) m′
   walking-on regs′ work′ m′ n h l s s′ = record {
     size = s ∙ g .size;
     wide = s′ ∙ g .wide;
     few = omega (arith, g .few);
     some = g .some;
-    runs = λ first t x. running-led p sub (length work₀) budget first t used n _ _ l (omega (arith, g .few)) (g .runs first t x);
+    runs = λ first t x. rw (used-more budget rest n (g .few) h) (running-led p sub (length work₀) budget first t (budget - rest) n _ _ l (omega (arith, g .few)) (g .runs first t x));
   }
 
-  module _ (regs′ work′ : List ℕ) (r : Ran) (x : RanBy p sub (nowOf regs work m) (budget - used) regs′ work′ r) where
+  module _ (regs′ work′ : List ℕ) (r : Ran) (x : RanBy p sub (nowOf regs work m) rest regs′ work′ r) where
     -- a run that the steps are not enough for
     pub walking-cut : r ≡ TooLong → Promised p sub regs₀ work₀ m₀ budget Spent regs′ work′
     walking-cut e first t y =
-        let w : RanBy p sub (nowOf regs work m) (budget - used) regs′ work′ TooLong = rw e at x in
-        rw (running-led-cut p sub (length work₀) budget first t used (w .0) _ (w .1) (w .3) (g .few) (omega (arith, w .2)) (g .runs first t y)) outOfSteps
+        let w : RanBy p sub (nowOf regs work m) rest regs′ work′ TooLong = rw e at x in
+        rw (running-led-cut p sub (length work₀) budget first t (budget - rest) (w .0) _ (w .1) (w .3) (omega arith) (omega (arith, w .2, g .few)) (g .runs first t y)) outOfSteps
 
     -- a run that is made
     module _ (n : ℕ) (m′ : Machine) (e : r ≡ Made n m′) where
-      pub made : RanBy p sub (nowOf regs work m) (budget - used) regs′ work′ (Made n m′)
+      pub made : RanBy p sub (nowOf regs work m) rest regs′ work′ (Made n m′)
       made = rw e at x
 
-      pub walking-run : length regs′ ≡ length regs → length work′ ≡ length work → Walking p sub regs₀ work₀ m₀ budget regs′ work′ (used + n) m′
+      pub walking-run : length regs′ ≡ length regs → length work′ ≡ length work → Walking p sub regs₀ work₀ m₀ budget regs′ work′ (rest - n) m′
       walking-run s s′ = walking-on regs′ work′ m′ n (made .1) (made .2) s s′
 
   module _ (live : m .live ≡ true) where
-    running : (first : List ℕ) (t : Trace) → ReadyAtFirst p sub regs₀ work₀ m₀ budget first t → Running p sub (length work₀) budget first t used (busy here)
+    running : (first : List ℕ) (t : Trace) → ReadyAtFirst p sub regs₀ work₀ m₀ budget first t → Running p sub (length work₀) budget first t (budget - rest) (busy here)
     running first t x = rw live at (g .runs first t x)
 
     pub walking-fits : Fits p (m .pc)
@@ -87,14 +88,14 @@ module _ {p sub regs₀ work₀ : List ℕ} {m₀ : Machine} {budget : ℕ} {reg
     walking-stack : StackFits p (stackOf work (m .height))
     walking-stack = running-stack regs work m live at-work
 
-    walking-low : 4 * m .height + 8 * (budget - used) ≤ length work₀
-    walking-low = running-low regs work m live at-work
+    walking-low : 4 * m .height + 8 * rest ≤ length work₀
+    walking-low = rw (rest-again budget rest (g .few)) at (running-low regs work m live at-work)
 
-    pub walking-out : used ≡ budget → Promised p sub regs₀ work₀ m₀ budget Spent regs work
-    walking-out h first t x = rw (running-out p sub (length work₀) budget first t used here (running first t x) h) outOfSteps
+    pub walking-out : rest ≡ 0 → Promised p sub regs₀ work₀ m₀ budget Spent regs work
+    walking-out h first t x = rw (running-out p sub (length work₀) budget first t (budget - rest) here (running first t x) (used-all budget rest h)) outOfSteps
 
-    pub walking-end : used < budget → 8 < getD p (m .pc) 0 → (getD p (m .pc) 0 ≡ 10 → ⊥) → Promised p sub regs₀ work₀ m₀ budget (End (used + 1) m) regs work
+    pub walking-end : 0 < rest → 8 < getD p (m .pc) 0 → (getD p (m .pc) 0 ≡ 10 → ⊥) → Promised p sub regs₀ work₀ m₀ budget (End (budget - rest + 1) m) regs work
     walking-end h k k′ first t x =
-        let e = running-end p sub (length work₀) budget first t used here (running first t x) h k k′ in
-        let x : Reached p sub (length work₀) budget first (used + 1) (e .met) (e .rest) m regs work = record { few = omega arith; at = e .at; spans = e .spans; low = omega (arith, walking-low); fits = walking-stack; ready = e .ready } in
-        rw (e .until-is) (atEnd {used = used + 1} {s = e .met} {rest = e .rest} {m = m} x)
+        let e = running-end p sub (length work₀) budget first t (budget - rest) here (running first t x) (omega (arith, g .few)) k k′ in
+        let x : Reached p sub (length work₀) budget first (budget - rest + 1) (e .met) (e .rest) m regs work = record { few = omega (arith, g .few); at = e .at; spans = e .spans; low = omega (arith, walking-low, g .few); fits = walking-stack; ready = e .ready } in
+        rw (e .until-is) (atEnd {used = budget - rest + 1} {s = e .met} {rest = e .rest} {m = m} x)

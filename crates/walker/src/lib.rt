@@ -81,7 +81,7 @@ fn advance(
 }
 
 // Walks on until it comes to a run or an end, the steps are used or nothing is left. It is a loop of its own, apart from runs and ends, so that
-// the compiler keeps in registers what each step needs.
+// the compiler keeps in registers what each step needs. The steps are counted down, since one number is then enough.
 fn walk(
     code: &[u32],
     sub: &[u8],
@@ -94,12 +94,12 @@ fn walk(
     requires { ⌜ ((first : List ℕ) × (t : Trace) × Ready (now code) (now sub) (length (now work)) left first (nowOf (now regs) (now work) m) t) ⌝ }
     ensures { λ r. ⌜ (1 ≤ r .used) × (r .used ≤ left) × Leads (now (code .entry)) (now (sub .entry)) (nowOf (now (regs .entry)) (now (work .entry)) m) (r .used) (nowOf (now (regs .exit)) (now (work .exit)) (r .head)) ⌝ }
 {
-    let mut used: u32 = 0;
+    let mut rest = left;
     let mut head = m;
     while head.live {
-        if used == left {
+        if rest == 0 {
             return Walked {
-                used: used,
+                used: left,
                 head: head,
             };
         }
@@ -107,16 +107,16 @@ fn walk(
         let kind = code[pc];
         if 8 < kind {
             return Walked {
-                used: used,
+                used: left - rest,
                 head: head,
             };
         }
-        let on = advance(code, sub, regs, work, kind, head, left - used);
-        used += on.used;
+        let on = advance(code, sub, regs, work, kind, head, rest);
+        rest -= on.used;
         head = on.head;
     }
     Walked {
-        used: used,
+        used: left - rest,
         head: head,
     }
 }
@@ -135,28 +135,28 @@ pub fn run_to_end(
     ensures { λ r. ⌜ ((first : List ℕ) (t : Trace) → Ready (now (code .entry)) (now (sub .entry)) (length (now (work .entry))) budget first (nowOf (now (regs .entry)) (now (work .entry)) m) t
         → Agrees (now (code .entry)) (now (sub .entry)) (length (now (work .entry))) budget first (now (regs .exit)) (now (work .exit)) (until budget 0 t) r) ⌝ }
 {
-    let mut used: u32 = 0;
+    let mut rest = budget;
     let mut head = m;
     while head.live {
-        if used == budget {
+        if rest == 0 {
             return Stop::Spent;
         }
         let pc = head.pc as usize;
         let kind = code[pc];
         if 8 < kind {
             if kind != RUN {
-                return Stop::End(used + 1, head);
+                return Stop::End(budget - rest + 1, head);
             }
-            let Ran::Made(n, made) = take_run(code, sub, regs, work, head, budget - used) else {
+            let Ran::Made(n, made) = take_run(code, sub, regs, work, head, rest) else {
                 return Stop::Spent;
             };
-            used += n;
+            rest -= n;
             head = made;
             continue;
         }
-        let w = walk(code, sub, regs, work, head, budget - used);
-        used += w.used;
+        let w = walk(code, sub, regs, work, head, rest);
+        rest -= w.used;
         head = w.head;
     }
-    Stop::Nothing(used)
+    Stop::Nothing(budget - rest)
 }

@@ -2,7 +2,7 @@
 use mathlib.Core.Path.{sym, _∙_}
 use native.Mathlib.Omega.{arith}
 use denote.Ref.{now}
-use Rattle.walker.proofs.Stepping.{stepping-start, stepping-fits, stepping-stack, stepping-low, stepping-on}
+use Rattle.walker.proofs.Stepping.{stepping-start, stepping-fits, stepping-stack, stepping-low, one-node}
 use Rattle.walker.proofs.advance.Statement.{statement}
 use Rattle.walker.proofs.advance.Tie as tie
 
@@ -33,9 +33,8 @@ same-length-3 c = c .before .before .before .before .step .kept .1 .1 .1 .0
 returns-2 : tie.Need-returns-2
 returns-2 c =
     let s = c .before .before .before .before .before .before .before .before .before .before .before .before in
-    let g = stepping-start (now (s .args .code)) (now (s .args .sub)) (now (s .args .regs)) (now (s .args .work)) (s .args .m) (s .args .left) (s .pre .1) in
     let r = c .before .before .before .before .step in
-    (omega arith, s .pre .0 .3, stepping-on g (s .pre .0 .2) (r .last .1 .1 .0) (r .last .1 .1 .1 .0) (r .result) (omega (arith, s .pre .0 .3)) (omega (arith, s .pre .0 .0, s .pre .0 .1)) (r .ensures) (r .kept .1 .1 .0) (r .kept .1 .1 .1 .0) .leads)
+    (omega arith, s .pre .0 .3, one-node (now (s .args .code)) (now (s .args .sub)) (now (s .args .regs)) (now (s .args .work)) (r .last .1 .1 .0) (r .last .1 .1 .1 .0) (s .args .m) (r .result) (s .pre .0 .2) (omega (arith, s .pre .0 .0, s .pre .0 .1)) (r .ensures))
 
 pub advance-spec : {M : Type 1} → statement M
 advance-spec =

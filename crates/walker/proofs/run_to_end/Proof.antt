@@ -1,7 +1,6 @@
 -- `run_to_end` meets its contract. The loop's invariant: the machine is ready for the steps that are left, and what it finds from here on is what
 -- it finds from the start. The measure is the steps that are left.
 use mathlib.Core.Path.{_∙_}
-use Prim.Native.Nat.{_-_}
 use native.Mathlib.Omega.{arith}
 use denote.Ref.{now}
 use borrow.Author.Needs.{needs}
@@ -10,10 +9,10 @@ use Rattle.walker.proofs.run_to_end.Statement.{statement}
 use Rattle.walker.proofs.run_to_end.Tie as tie
 
 abbrev Inv-loop : tie.InvT-loop
-Inv-loop code sub regs₀ work₀ budget used₀ head₀ regs work used head = Walking code sub regs₀ work₀ head₀ budget regs work used head
+Inv-loop code sub regs₀ work₀ budget rest₀ head₀ regs work rest head = Walking code sub regs₀ work₀ head₀ budget regs work rest head
 
 abbrev μ-loop : tie.MeasureT-loop
-μ-loop code sub regs₀ work₀ budget used₀ head₀ regs work used head = budget - used
+μ-loop code sub regs₀ work₀ budget rest₀ head₀ regs work rest head = rest
 
 loop-holds : tie.Need-loop-holds Inv-loop μ-loop
 loop-holds c =
@@ -38,8 +37,11 @@ mul-kind c = omega (arith, walking-fits (c .before .before .before .loop .inv) (
 shared-slice-read-kind : tie.Need-shared-slice-read-kind Inv-loop μ-loop
 shared-slice-read-kind c = walking-fits (c .before .before .before .before .loop .inv) (c .before .before .before .loop-test .taken) .here
 
-add-t19 : tie.Need-add-t19 Inv-loop μ-loop
-add-t19 c = omega (arith, c .before .before .before .before .before .before .loop .inv .few)
+sub-t19 : tie.Need-sub-t19 Inv-loop μ-loop
+sub-t19 c = c .before .before .before .before .before .before .loop .inv .few
+
+add-t20 : tie.Need-add-t20 Inv-loop μ-loop
+add-t20 c = omega (arith, c .before .before .before .before .before .before .loop .inv .few, c .before .before .before .before .if1 .left)
 
 same-length-3 : tie.Need-same-length-3 Inv-loop μ-loop
 same-length-3 c = c .before .before .before .before .before .before .loop .inv .size
@@ -48,17 +50,14 @@ same-length-4 : tie.Need-same-length-4 Inv-loop μ-loop
 same-length-4 c = c .before .before .before .before .before .before .loop .inv .wide
 
 returns-2 : tie.Need-returns-2 Inv-loop μ-loop
-returns-2 c = walking-end (c .before .before .before .before .before .before .loop .inv) (c .before .before .before .before .before .loop-test .taken) (omega (arith, c .before .before .before .before .before .before .loop .inv .few, c .before .before .before .before .if1 .left)) (c .before .if2 .taken) (c .if3 .taken)
-
-sub-take-run : tie.Need-sub-take-run Inv-loop μ-loop
-sub-take-run c = omega (arith, c .before .before .before .before .before .before .before .before .loop .inv .few)
+returns-2 c = walking-end (c .before .before .before .before .before .before .loop .inv) (c .before .before .before .before .before .loop-test .taken) (omega (arith, c .before .before .before .before .if1 .left)) (c .before .if2 .taken) (c .if3 .taken)
 
 take-run-requires : tie.Need-take-run-requires Inv-loop μ-loop
 take-run-requires c κs =
     let s = c .before .before .before .before .before .before .before .before .before .before .before .before .before in
     let g = c .before .before .before .before .before .before .before .before .loop .inv in
     let t = c .before .before .before .before .before .before .before .loop-test .taken in
-    ((c .before .before .if3 .left, t, omega (arith, g .few, c .before .before .before .before .before .before .if1 .left), s .pre .0 .1, s .pre .0 .2, g .size ∙ s .pre .0 .0), walking-ready g)
+    ((c .before .before .if3 .left, t, omega (arith, c .before .before .before .before .before .before .if1 .left), s .pre .0 .1, s .pre .0 .2, g .size ∙ s .pre .0 .0), walking-ready g)
 
 enum-known-n : tie.Need-enum-known-n Inv-loop μ-loop
 enum-known-n c = search needs
@@ -75,40 +74,38 @@ same-length-6 c = c .before .before .before .before .before .before .take-run .k
 returns-3 : tie.Need-returns-3 Inv-loop μ-loop
 returns-3 c = walking-cut (c .before .before .before .before .before .before .before .before .before .before .before .before .before .before .before .loop .inv) _ _ _ (c .before .before .before .before .before .before .take-run .ensures) (c .enum-told .given .1)
 
-add-used : tie.Need-add-used Inv-loop μ-loop
-add-used c =
-    let r = made (c .before .before .before .before .before .before .before .before .before .before .before .before .before .before .before .before .loop .inv) _ _ _ (c .before .before .before .before .before .before .before .take-run .ensures) _ _ (c .before .n .given .1) in
-    omega (arith, c .before .before .before .before .before .before .before .before .before .before .before .before .before .before .before .before .loop .inv .few, r .1)
+sub-rest : tie.Need-sub-rest Inv-loop μ-loop
+sub-rest c = made (c .before .before .before .before .before .before .before .before .before .before .before .before .before .before .before .before .loop .inv) _ _ _ (c .before .before .before .before .before .before .before .take-run .ensures) _ _ (c .before .n .given .1) .1
 
 loop-less : tie.Need-loop-less Inv-loop μ-loop
 loop-less c =
     let r = made (c .before .before .before .before .before .before .before .before .before .before .before .before .before .before .before .before .loop .inv) _ _ _ (c .before .before .before .before .before .before .before .take-run .ensures) _ _ (c .before .n .given .1) in
-    omega (arith, c .before .before .before .before .before .before .before .before .before .before .before .before .before .before .before .before .loop .inv .few, r .0, r .1)
+    omega (arith, r .0, r .1)
 
 loop-again : tie.Need-loop-again Inv-loop μ-loop
 loop-again c =
     let k = c .before .before .before .before .before .before .before .take-run .kept in
     walking-run (c .before .before .before .before .before .before .before .before .before .before .before .before .before .before .before .before .loop .inv) _ _ _ (c .before .before .before .before .before .before .before .take-run .ensures) _ _ (c .before .n .given .1) (k .1 .1 .0) (k .1 .1 .1 .0)
 
-sub-walk : tie.Need-sub-walk Inv-loop μ-loop
-sub-walk c = omega (arith, c .before .before .before .before .before .before .before .loop .inv .few)
-
 walk-requires : tie.Need-walk-requires Inv-loop μ-loop
 walk-requires c κs =
     let s = c .before .before .before .before .before .before .before .before .before .before .before .before in
     let g = c .before .before .before .before .before .before .before .loop .inv in
-    ((c .before .before .before .before .before .before .loop-test .taken, c .before .before .if2 .left, omega (arith, g .few, c .before .before .before .before .before .if1 .left), g .size ∙ s .pre .0 .0, s .pre .0 .1, s .pre .0 .2), walking-ready g)
+    ((c .before .before .before .before .before .before .loop-test .taken, c .before .before .if2 .left, omega (arith, c .before .before .before .before .before .if1 .left), g .size ∙ s .pre .0 .0, s .pre .0 .1, s .pre .0 .2), walking-ready g)
 
-add-used-2 : tie.Need-add-used-2 Inv-loop μ-loop
-add-used-2 c = omega (arith, c .before .before .before .before .before .before .before .before .before .before .before .before .before .loop .inv .few, c .before .before .before .before .before .walk .ensures .1)
+sub-rest-2 : tie.Need-sub-rest-2 Inv-loop μ-loop
+sub-rest-2 c = c .before .before .before .before .before .walk .ensures .1
 
 loop-less-2 : tie.Need-loop-less-2 Inv-loop μ-loop
-loop-less-2 c = omega (arith, c .before .before .before .before .before .before .before .before .before .before .before .before .before .before .loop .inv .few, c .before .before .before .before .before .before .walk .ensures .0, c .before .before .before .before .before .before .walk .ensures .1)
+loop-less-2 c = omega (arith, c .before .before .before .before .before .before .walk .ensures .0, c .before .before .before .before .before .before .walk .ensures .1)
 
 loop-again-2 : tie.Need-loop-again-2 Inv-loop μ-loop
 loop-again-2 c =
     let r = c .before .before .before .before .before .before .walk in
     walking-on (c .before .before .before .before .before .before .before .before .before .before .before .before .before .before .loop .inv) (r .last .1 .1 .0) (r .last .1 .1 .1 .0) (r .result .head) (r .result .used) (r .ensures .1) (r .ensures .2) (r .kept .1 .1 .0) (r .kept .1 .1 .1 .0)
+
+sub-t30 : tie.Need-sub-t30 Inv-loop μ-loop
+sub-t30 c = c .before .loop .inv .few
 
 same-length-7 : tie.Need-same-length-7 Inv-loop μ-loop
 same-length-7 c = c .before .loop .inv .size
@@ -132,25 +129,25 @@ run-to-end-spec =
     cast-pc
     mul-kind
     shared-slice-read-kind
-    add-t19
+    sub-t19
+    add-t20
     same-length-3
     same-length-4
     returns-2
-    sub-take-run
     take-run-requires
     enum-known-n
     enum-told
     same-length-5
     same-length-6
     returns-3
-    add-used
+    sub-rest
     loop-less
     loop-again
-    sub-walk
     walk-requires
-    add-used-2
+    sub-rest-2
     loop-less-2
     loop-again-2
+    sub-t30
     same-length-7
     same-length-8
     returns-4)

@@ -1,20 +1,18 @@
 -- `walk` meets its contract. The loop's invariant: the steps used lead from the beginning to where the machine stands, and it stands elsewhere only
 -- if there are some. The measure is the steps that are left.
 use mathlib.Core.Path.{refl, _∙_}
-use Prim.Native.Nat.{_-_}
 use native.Mathlib.Omega.{arith}
 use denote.Ref.{now}
 use borrow.Author.Needs.{needs}
-use Rattle.walker.proofs.Stepping.{Stepping, stepping-start, stepping-ready, stepping-past, stepping-idle, stepping-more, stepping-fits}
+use Rattle.walker.proofs.Stepping.{Stepping, stepping-start, stepping-ready, stepping-out, stepping-past, stepping-idle, stepping-more, stepping-fits}
 use Rattle.walker.proofs.walk.Statement.{statement}
 use Rattle.walker.proofs.walk.Tie as tie
 
 abbrev Inv-loop : tie.InvT-loop
-Inv-loop code sub regs₀ work₀ left used₀ head₀ regs work used head = Stepping code sub regs₀ work₀ head₀ left regs work used head
+Inv-loop code sub regs₀ work₀ left rest₀ head₀ regs work rest head = Stepping code sub regs₀ work₀ head₀ left regs work rest head
 
 abbrev μ-loop : tie.MeasureT-loop
-μ-loop code sub regs₀ work₀ left used₀ head₀ regs work used head =
-    left - used
+μ-loop code sub regs₀ work₀ left rest₀ head₀ regs work rest head = rest
 
 loop-holds : tie.Need-loop-holds Inv-loop μ-loop
 loop-holds c =
@@ -28,7 +26,7 @@ same-length-2 : tie.Need-same-length-2 Inv-loop μ-loop
 same-length-2 c = c .before .before .loop .inv .wide
 
 returns : tie.Need-returns Inv-loop μ-loop
-returns c = (omega (arith, c .before .before .before .before .before .before .before .pre .0 .2, c .if1 .taken), c .before .before .loop .inv .few, c .before .before .loop .inv .leads)
+returns c = (c .before .before .before .before .before .before .before .pre .0 .2, omega arith, stepping-out (c .before .before .loop .inv) (c .if1 .taken))
 
 cast-pc : tie.Need-cast-pc Inv-loop μ-loop
 cast-pc c = search needs
@@ -39,6 +37,9 @@ mul-kind c = omega (arith, stepping-fits (c .before .before .before .loop .inv) 
 shared-slice-read-kind : tie.Need-shared-slice-read-kind Inv-loop μ-loop
 shared-slice-read-kind c = stepping-fits (c .before .before .before .before .loop .inv) (c .before .before .before .loop-test .taken) .here
 
+sub-t16 : tie.Need-sub-t16 Inv-loop μ-loop
+sub-t16 c = c .before .before .before .before .before .loop .inv .few
+
 same-length-3 : tie.Need-same-length-3 Inv-loop μ-loop
 same-length-3 c = c .before .before .before .before .before .loop .inv .size
 
@@ -46,25 +47,25 @@ same-length-4 : tie.Need-same-length-4 Inv-loop μ-loop
 same-length-4 c = c .before .before .before .before .before .loop .inv .wide
 
 returns-2 : tie.Need-returns-2 Inv-loop μ-loop
-returns-2 c = (stepping-past (c .before .before .before .before .before .loop .inv) (c .before .before .before .before .before .before .before .before .before .before .pre .0 .1) (c .if2 .taken), c .before .before .before .before .before .loop .inv .few, c .before .before .before .before .before .loop .inv .leads)
-
-sub-advance : tie.Need-sub-advance Inv-loop μ-loop
-sub-advance c = omega (arith, c .before .before .before .before .before .before .before .loop .inv .few)
+returns-2 c = (stepping-past (c .before .before .before .before .before .loop .inv) (c .before .before .before .before .before .before .before .before .before .before .pre .0 .1) (c .if2 .taken), omega arith, c .before .before .before .before .before .loop .inv .leads)
 
 advance-requires : tie.Need-advance-requires Inv-loop μ-loop
 advance-requires c κs =
     let s = c .before .before .before .before .before .before .before .before .before .before .before .before in
     let g = c .before .before .before .before .before .before .before .loop .inv in
-    ((refl, c .before .before .if2 .left, c .before .before .before .before .before .before .loop-test .taken, omega (arith, g .few, c .before .before .before .before .before .if1 .left), g .size ∙ s .pre .0 .3, s .pre .0 .4, s .pre .0 .5), stepping-ready g)
+    ((refl, c .before .before .if2 .left, c .before .before .before .before .before .before .loop-test .taken, omega (arith, c .before .before .before .before .before .if1 .left), g .size ∙ s .pre .0 .3, s .pre .0 .4, s .pre .0 .5), stepping-ready g)
 
-add-used : tie.Need-add-used Inv-loop μ-loop
-add-used c = omega (arith, c .before .before .before .before .before .before .before .before .before .before .before .before .before .loop .inv .few, c .before .before .before .before .before .advance .ensures .1)
+sub-rest : tie.Need-sub-rest Inv-loop μ-loop
+sub-rest c = c .before .before .before .before .before .advance .ensures .1
 
 loop-less : tie.Need-loop-less Inv-loop μ-loop
-loop-less c = omega (arith, c .before .before .before .before .before .before .before .before .before .before .before .before .before .before .loop .inv .few, c .before .before .before .before .before .before .advance .ensures .0, c .before .before .before .before .before .before .advance .ensures .1)
+loop-less c = omega (arith, c .before .before .before .before .before .before .advance .ensures .0, c .before .before .before .before .before .before .advance .ensures .1)
 
 loop-again : tie.Need-loop-again Inv-loop μ-loop
 loop-again c = let r = c .before .before .before .before .before .before .advance in stepping-more (c .before .before .before .before .before .before .before .before .before .before .before .before .before .before .loop .inv) _ _ _ _ (r .ensures .0) (r .ensures .1) (r .ensures .2) (r .kept .1 .1 .0) (r .kept .1 .1 .1 .0)
+
+sub-t21 : tie.Need-sub-t21 Inv-loop μ-loop
+sub-t21 c = c .before .loop .inv .few
 
 same-length-5 : tie.Need-same-length-5 Inv-loop μ-loop
 same-length-5 c = c .before .loop .inv .size
@@ -73,7 +74,7 @@ same-length-6 : tie.Need-same-length-6 Inv-loop μ-loop
 same-length-6 c = c .before .loop .inv .wide
 
 returns-3 : tie.Need-returns-3 Inv-loop μ-loop
-returns-3 c = (stepping-idle (c .before .loop .inv) (c .before .before .before .before .before .before .pre .0 .0) (c .loop-test .left), c .before .loop .inv .few, c .before .loop .inv .leads)
+returns-3 c = (stepping-idle (c .before .loop .inv) (c .before .before .before .before .before .before .pre .0 .0) (c .loop-test .left), omega arith, c .before .loop .inv .leads)
 
 pub walk-spec : {M : Type 1} → statement M
 walk-spec =
@@ -88,14 +89,15 @@ walk-spec =
     cast-pc
     mul-kind
     shared-slice-read-kind
+    sub-t16
     same-length-3
     same-length-4
     returns-2
-    sub-advance
     advance-requires
-    add-used
+    sub-rest
     loop-less
     loop-again
+    sub-t21
     same-length-5
     same-length-6
     returns-3)
