@@ -81,7 +81,8 @@ fn advance(
 }
 
 // Walks on until it comes to a run or an end, the steps are used or nothing is left. It is a loop of its own, apart from runs and ends, so that
-// the compiler keeps in registers what each step needs. The steps are counted down, since one number is then enough.
+// the compiler keeps in registers what each step needs. The steps are counted down, since one number is then enough, and the machine is made from
+// its fields, so that the bytes which only fill it up are not carried along.
 fn walk(
     code: &[u32],
     sub: &[u8],
@@ -95,7 +96,12 @@ fn walk(
     ensures { λ r. ⌜ (1 ≤ r .used) × (r .used ≤ left) × Leads (now (code .entry)) (now (sub .entry)) (nowOf (now (regs .entry)) (now (work .entry)) m) (r .used) (nowOf (now (regs .exit)) (now (work .exit)) (r .head)) ⌝ }
 {
     let mut rest = left;
-    let mut head = m;
+    let mut head = Machine {
+        pc: m.pc,
+        at: m.at,
+        height: m.height,
+        live: m.live,
+    };
     while head.live {
         if rest == 0 {
             return Walked {
@@ -136,7 +142,12 @@ pub fn run_to_end(
         → Agrees (now (code .entry)) (now (sub .entry)) (length (now (work .entry))) budget first (now (regs .exit)) (now (work .exit)) (until budget 0 t) r) ⌝ }
 {
     let mut rest = budget;
-    let mut head = m;
+    let mut head = Machine {
+        pc: m.pc,
+        at: m.at,
+        height: m.height,
+        live: m.live,
+    };
     while head.live {
         if rest == 0 {
             return Stop::Spent;
