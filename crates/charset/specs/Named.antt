@@ -1,4 +1,6 @@
--- 01, "Named sets": which bytes each set has.
+-- 01, "Named sets": which bytes each set has, "with bytes 80 to FF in no named set". 02, request a), takes two of them out of that: "in
+-- perlrecharclass `\h` and `\v` don't change with `/a`. So `\h` also has A0 and `\v` also has 85; `\H` and `\V` lose them. `\s`, blank, space
+-- and `\w` stay." `\H` and `\V` are complements of these sets, so that they have no lines of their own.
 use mathlib.Core.List.{List, [], _∷_}
 use mathlib.Core.Bool.{Bool, true, false, _&&_, _||_}
 use Prim.Native.Nat.{ℕ}
@@ -15,8 +17,8 @@ unfoldable pub ranges : Named → List Range
 ranges Digit = 0x30 to 0x39 ∷ []
 ranges Word = 0x30 to 0x39 ∷ 0x41 to 0x5A ∷ 0x5F to 0x5F ∷ 0x61 to 0x7A ∷ []
 ranges Space = 0x09 to 0x0D ∷ 0x20 to 0x20 ∷ []
-ranges Horizontal = 0x09 to 0x09 ∷ 0x20 to 0x20 ∷ []
-ranges Vertical = 0x0A to 0x0D ∷ []
+ranges Horizontal = 0x09 to 0x09 ∷ 0x20 to 0x20 ∷ 0xA0 to 0xA0 ∷ []  -- A0 by 02
+ranges Vertical = 0x0A to 0x0D ∷ 0x85 to 0x85 ∷ []  -- 85 by 02
 ranges Alpha = 0x41 to 0x5A ∷ 0x61 to 0x7A ∷ []
 ranges Upper = 0x41 to 0x5A ∷ []
 ranges Lower = 0x61 to 0x7A ∷ []

@@ -1,4 +1,4 @@
--- 01's traps and the inputs that tell the readings of its open points apart (docs/DECISIONS.md), of the calls themselves, as in Starred.
+-- 01's traps and the inputs that tell the readings of open points of 01 and 02 apart (docs/DECISIONS.md), of the calls themselves, as in Starred.
 use mathlib.Core.Path.{_≡_, refl}
 use mathlib.Core.List.{List, [], _∷_, map}
 use Rattle.syntax.specs.declared.Reason.the-variants.{UnknownFlag, BudgetTooLarge}
@@ -60,6 +60,22 @@ traps =
     -- refusals 3 and 4
     ∷ matching "(" 4 "" 99 (Refused 0 UnknownFlag) []
     ∷ matching "(" 0 "" 100001 (Refused 0 BudgetTooLarge) []
+    -- 02 A1: `\h` has A0 and `\v` has 85, in classes too; `\H` and `\V` do not
+    ∷ matching "\\h" 0 "\u{a0}" 99 (Matched 2) (rowOf 0 1 [] ∷ [])
+    ∷ matching "[\\h]" 0 "\u{a0}" 99 (Matched 2) (rowOf 0 1 [] ∷ [])
+    ∷ matching "[^\\H]" 0 "\u{a0}" 99 (Matched 2) (rowOf 0 1 [] ∷ [])
+    ∷ matching "\\H" 0 "\u{a0}" 99 (NotMatched 2) []
+    ∷ matching "\\v" 0 "\u{85}" 99 (Matched 2) (rowOf 0 1 [] ∷ [])
+    ∷ matching "[^\\V]" 0 "\u{85}" 99 (Matched 2) (rowOf 0 1 [] ∷ [])
+    ∷ matching "[\\V]" 0 "\u{85}" 99 (NotMatched 2) []
+    -- 02 A2: no other set has them, and neither ends a line
+    ∷ matching "[[:blank:]]" 0 "\u{a0}" 99 (NotMatched 2) []
+    ∷ matching "\\s" 0 "\u{a0}" 99 (NotMatched 2) []
+    ∷ matching "\\s" 0 "\u{85}" 99 (NotMatched 2) []
+    ∷ matching "[[:space:]\\w]" 0 "\u{85}" 99 (NotMatched 2) []
+    ∷ matching ".\\N" 0 "\u{85}\u{85}" 99 (Matched 3) (rowOf 0 2 [] ∷ [])
+    ∷ matching "a$" 0 "a\u{85}" 99 (NotMatched 4) []
+    ∷ matching "^b" 2 "a\u{85}b" 99 (NotMatched 5) []
     ∷ []
 
 pub traps-avoided : map calls traps ≡ map expected traps

@@ -28,7 +28,7 @@ is c b = eqb b (code c)
 abbrev pub between : Char → Char → ℕ → Bool
 between c d b = leb (code c) b && leb b (code d)
 
--- the bytes of an ASCII text
+-- the bytes of a text in Latin-1: ASCII, and "\u{A0}" for the byte A0
 abbrev pub bytes : String → List ℕ
 bytes noChar = []
 bytes (char c cs) = code c ∷ bytes cs
