@@ -1,7 +1,7 @@
 #!/usr/bin/env python3
 """Writes the calls that crates/call_vectors is run on, and what it must say of them: outcomes, steps and rows, and refusals 1 to 7.
 
-What must be said comes from reference.py, an independent reading of document 01: no line of it is shared with the library.
+What must be said comes from reference.py, an independent reading of documents 01 and 02: no line of it is shared with the library.
 Usage: harness/call_vectors.py (in the repository's root)
 """
 import sys

@@ -1,5 +1,6 @@
 #!/usr/bin/env python3
-"""Compares the matches of reference.py with those of the machine's Perl on random rules: start, end and captures.
+"""Compares the matches of reference.py with those of the machine's Perl, start, end and captures: each escape for a set on all 256 bytes, and
+random rules.
 
 Each difference must be one of docs/DECISIONS.md, "Where Perl 5.36 and PCRE2 10.42 differ", or it is a fault of reference.py.
 Usage: harness/compare_perl.py [SEED [CASES]]
@@ -34,24 +35,42 @@ def shown(answer, groups):
     return " ".join(["%d %d" % (row[0], row[1])] + spans)
 
 
+def set_cases():
+    """Each escape for a set, alone, in a class and in a complemented one, on each single byte."""
+    for letter in "dDwWsShHvV":
+        for form in ("\\%s", "[\\%s]", "[^\\%s]"):
+            for b in range(256):
+                yield (form % letter).encode(), 0, bytes([b])
+
+
+def random_case():
+    rule, flags = random_rule(3).encode(), random.randint(0, 3)
+    return rule, flags, "".join(random.choice("aab1\nc") for _ in range(random.randint(0, 6))).encode()
+
+
+def with_answer(rule, flags, subject):
+    """The case with what reference.py answers, or none where it refuses the rule or is exhausted."""
+    try:
+        groups = reference.read(rule, flags)[1]
+    except reference.Refuse:
+        return None
+    answer = reference.match(rule, flags, subject, 20000)
+    return None if answer[0] == "X" else (rule, flags, subject, groups, shown(answer, groups))
+
+
 def main():
     random.seed(int(sys.argv[1]) if len(sys.argv) > 1 else 1)
-    cases, wanted = [], int(sys.argv[2]) if len(sys.argv) > 2 else 5000
+    cases = [with_answer(*case) for case in set_cases()]
+    wanted = len(cases) + (int(sys.argv[2]) if len(sys.argv) > 2 else 5000)
     while len(cases) < wanted:
-        rule, flags = random_rule(3).encode(), random.randint(0, 3)
-        subject = "".join(random.choice("aab1\nc") for _ in range(random.randint(0, 6))).encode()
-        try:
-            groups = reference.read(rule, flags)[1]
-        except reference.Refuse:
-            continue
-        answer = reference.match(rule, flags, subject, 20000)
-        if answer[0] != "X":
-            cases.append((rule, flags, subject, groups, shown(answer, groups)))
+        case = with_answer(*random_case())
+        if case:
+            cases.append(case)
     asked = "".join("%d\t%s\t%s\t%d\n" % (flags, rule.hex(), subject.hex(), groups) for rule, flags, subject, groups, _ in cases)
     lines = subprocess.run(["perl", "-e", PERL], input=asked, capture_output=True, text=True, check=True).stdout.split("\n")
     differ = [(case, line) for case, line in zip(cases, lines) if case[4] != line]
     for (rule, flags, subject, _, ours), theirs in differ:
-        print("%r flags %d on %r: here %s, Perl %s" % (rule.decode(), flags, subject.decode(), ours, theirs))
+        print("%r flags %d on %r: here %s, Perl %s" % (rule, flags, subject, ours, theirs))
     print("%d matches compared, %d differ" % (len(cases), len(differ)))
 
 

@@ -1,5 +1,5 @@
 #!/usr/bin/env python3
-"""An independent matcher written from document 01: parse, walk, match, list."""
+"""An independent matcher written from documents 01 and 02: parse, walk, match, list."""
 import sys
 sys.setrecursionlimit(1000000)
 U=4294967295
@@ -11,7 +11,7 @@ def rng(*ps):
     return frozenset(out)
 D=rng((0x30,0x39)); UP=rng((0x41,0x5a)); LO=rng((0x61,0x7a)); AL=UP|LO
 SETS={'digit':D,'word':D|AL|{0x5f},'space':rng((9,13),(32,32)),'alpha':AL,'upper':UP,'lower':LO,'alnum':D|AL,'xdigit':rng((0x30,0x39),(0x41,0x46),(0x61,0x66)),'blank':frozenset({9,32}),'cntrl':rng((0,31),(127,127)),'ascii':rng((0,127)),'print':rng((0x20,0x7e)),'graph':rng((0x21,0x7e)),'punct':rng((0x21,0x2f),(0x3a,0x40),(0x5b,0x60),(0x7b,0x7e))}
-H=frozenset({9,32}); V=rng((10,13)); ALL=frozenset(range(256))
+H=frozenset({9,32,0xa0}); V=rng((10,13),(0x85,0x85)); ALL=frozenset(range(256))
 LET={'d':D,'w':SETS['word'],'s':SETS['space'],'h':H,'v':V}
 class Parser:
     def __init__(s,r,flags): s.r=r; s.flags=flags; s.i=0; s.opened=0; s.refs=[]

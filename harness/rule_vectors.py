@@ -1,7 +1,7 @@
 #!/usr/bin/env python3
 """Writes the rules that crates/rule_vectors is run on, and what it must say of them.
 
-The verdicts come from reference.py, an independent reading of document 01: no line of it is shared with the library.
+The verdicts come from reference.py, an independent reading of documents 01 and 02: no line of it is shared with the library.
 Usage: harness/rule_vectors.py (in the repository's root)
 """
 import re
@@ -208,6 +208,9 @@ PRECEDENCE = [
     b"\\_", b"\\-", b"\\ ", b"\\\x00", b"\\\x80", b"\\\xff", b"[\\_]", b"[\\-]", b"[\\B]", b"[\\A]", b"[\\z]", b"[\\Z]", b"[\\N]", b"[\\g]", b"[\\8]", b"[\\9]", b"[\\1]", b"[\\7]", b"[\\18]", b"[\\b-\\n]",
 ]
 
+# Sets with a byte above 7F: no name for them, and no end of a range.
+NO_BREAK_SPACES = [b"^(\\d+)\\h(\\d{3}) L$", b"[\\h\xa0\\v\x85]", b"[^\\H\\V]", b"\\h\xa0*", b"[\\h-\xa0]", b"[\x85-\\v]", b"[\x85-\xa0]", b"[\xa0-\x85]", b"[[:horizspace:]]"]
+
 
 def verdict(rule, flags):
     try:
@@ -227,6 +230,7 @@ def rules():
     yield from (line.encode("latin1") for line in DOCUMENTS.split("\n"))
     yield from BOUNDARIES
     yield from PRECEDENCE
+    yield from NO_BREAK_SPACES
     for first in FAULTS.values():
         for second in FAULTS.values():
             yield first + second

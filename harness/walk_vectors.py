@@ -1,7 +1,7 @@
 #!/usr/bin/env python3
 """Writes the walks that crates/walk_vectors is run on, and what it must say of them: each end with its captures and steps.
 
-What must be said comes from reference.py, an independent reading of document 01: no line of it is shared with the library.
+What must be said comes from reference.py, an independent reading of documents 01 and 02: no line of it is shared with the library.
 Usage: harness/walk_vectors.py (in the repository's root)
 """
 import random
@@ -12,7 +12,7 @@ import reference
 
 TARGET = Path(__file__).resolve().parent.parent / "crates" / "walk_vectors"
 
-# The readings of document 01, its traps, and the inputs that tell the readings of its open points apart: rule, flags, subject.
+# The readings of document 01, its traps, and the inputs that tell the readings of open points of 01 and 02 apart: rule, flags, subject.
 READINGS = [
     (b"", 0, b""), (b"a", 0, b"a"), (b"a", 0, b"b"), (b"a|b", 0, b"b"), (b"a*", 0, b"aa"), (b"(\\d+),(\\d+)", 0, b"1,5"), (b"(a?)*", 0, b"b"),
     (b"^(?:(\\d{1,3},\\d{3})|(\\d+,\\d+)) L$", 0, b"1,500 L"), (b"[][]", 0, b"]"), (b"[[]]", 0, b"[]"), (b".", 0, b"\n"), (b".", 1, b"\n"), (b"(", 0, b""),
@@ -23,6 +23,7 @@ READINGS = [
     (b"(?:a|ab)(?:c|bcd)", 0, b"abcd"), (b"(.)(.)\\g{-2}\\g{-1}", 0, b"ABAB"), (b"(\\w+)\\s+\\1", 0, b"the the"), (b"(a*)*", 0, b"aa"), (b"(a*)+", 0, b"b"), (b"(?:a*?)*?b", 0, b"aab"),
     (b"(a|ab)(c|bcd)(d*)", 0, b"abcd"), (b"x*", 0, b"aaa"), (b"(?:a?){3}a{3}", 0, b"aaa"), (b"(a+)(a+)(a+)", 0, b"aaaaa"), (b"[^a]", 0, b"\n"), (b"[\\x80-\\xff]", 0, b"\x80"), (b"\\x00", 0, b"\x00"),
     (b"(?:a{0,2}){0,2}", 0, b"aaaa"), (b"(a){2,}?", 0, b"aaaa"), (b"\\d+(?:,\\d{3})*", 0, b"1,500,000"), (b"(foo|foobar)(bar)?", 0, b"foobar"),
+    (b"^(\\d+)\\h(\\d{3}) L$", 0, b"1\xa0500 L"), (b"[^\\H]|\\s", 0, b"\xa0"), (b"(\\v|[\\H])*", 0, b"\x85\xa0"), (b"[[:blank:]\\s\\w]", 0, b"\xa0\x85"), (b"a$", 2, b"a\x85"),
 ]
 ATOMS = ["a", "b", "c", ".", "^", "$", "\\b", "\\B", "\\A", "\\z", "\\Z", "\\d", "\\w", "[ab]", "[^a]", "[a-c]", "\\1", "\\2", "\\g-1", "\\n", "1", "\\N"]
 REPEATS = ["*", "+", "?", "*?", "+?", "??", "{2}", "{0,2}", "{1,}", "{1,2}?", "{0}"]

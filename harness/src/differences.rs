@@ -1,4 +1,4 @@
-//! Where Perl 5.36 and PCRE2 10.42 differ from document 01: docs/DECISIONS.md has the list, with these numbers. A difference that has the
+//! Where Perl 5.36 and PCRE2 10.42 differ from documents 01 and 02: docs/DECISIONS.md has the list, with these numbers. A difference that has the
 //! marks of one of them is set aside and counted; any other is a fault.
 
 use std::collections::BTreeMap;
@@ -14,8 +14,6 @@ pub enum Class {
     EnteredAgain = 1,
     /// 2: Perl keeps spans from a try that was given up.
     GivenUp = 2,
-    /// 3: `\h` and `\v` of Perl and PCRE2 have the bytes A0 and 85.
-    WideSpace = 3,
     /// 4: Perl panics on a class with no byte under a repeat, or leaves it out.
     EmptyClass = 4,
     /// 5: `$` directly before a byte 00.
@@ -33,19 +31,15 @@ pub enum Class {
 /// PCRE2's error "POSIX named classes are supported only within a class".
 const PCRE2_NAMED_SET_OUTSIDE: i32 = 112;
 
-/// One comparison: what both matchers were given.
+/// The rule of one comparison: what was read of it, and its bytes.
 pub struct Compared<'a> {
     pub tree: &'a Rule,
     pub rule: &'a [u8],
-    pub subject: &'a [u8],
 }
 
 impl Compared<'_> {
     /// The class of a difference from Perl, if it has the marks of one. Rows are none where nothing matched.
     pub fn perl_class(&self, ours: Option<&Row>, perls: Option<&Row>) -> Option<Class> {
-        if self.has_wide_space() {
-            return Some(Class::WideSpace);
-        }
         if self.rule.windows(2).any(|pair| pair == b"$\0") {
             return Some(Class::DollarBeforeZero);
         }
@@ -77,22 +71,13 @@ impl Compared<'_> {
     /// The class of a difference from PCRE2.
     pub fn pcre2_class(&self) -> Option<Class> {
         let shape = shape(self.tree);
-        let classes = [
-            (self.has_wide_space(), Class::WideSpace),
-            (shape.has_bounded_repeat_of_empty, Class::Unrolled),
-            (shape.has_skipped_start, Class::SkippedStart),
-        ];
+        let classes = [(shape.has_bounded_repeat_of_empty, Class::Unrolled), (shape.has_skipped_start, Class::SkippedStart)];
         classes.into_iter().find(|(marked, _)| *marked).map(|(_, class)| class)
     }
 
     /// The class of a rule that PCRE2 refuses with this error.
     pub fn pcre2_refusal_class(&self, error: i32) -> Option<Class> {
         (error == PCRE2_NAMED_SET_OUTSIDE && self.rule.windows(2).any(|pair| pair == b"[:")).then_some(Class::ColonClass)
-    }
-
-    fn has_wide_space(&self) -> bool {
-        let in_rule = self.rule.windows(2).any(|pair| pair[0] == b'\\' && b"hHvV".contains(&pair[1]));
-        in_rule && self.subject.iter().any(|&byte| byte == 0xA0 || byte == 0x85)
     }
 }
 

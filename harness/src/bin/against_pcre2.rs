@@ -25,6 +25,7 @@ fn main() -> std::process::ExitCode {
         rows: 0,
         left_out: 0,
     };
+    shared::set_cases().iter().for_each(|case| tester.judge(case));
     for seed in arguments.seeds.clone() {
         (0..arguments.cases).filter_map(|number| shared::case(seed, number)).for_each(|case| tester.judge(&case));
     }
@@ -43,7 +44,7 @@ struct Tester {
 impl Tester {
     fn judge(&mut self, case: &Shared) {
         let (Some(matched), Some(listed)) = (self.ours(Call::Match, case, 1), self.ours(Call::List, case, ROWS)) else { return };
-        let compared = Compared { tree: &case.tree, rule: &case.rule, subject: &case.subject };
+        let compared = Compared { tree: &case.tree, rule: &case.rule };
         let pattern = match Pattern::new(&case.rule, case.flags) {
             Ok(pattern) => pattern,
             Err(error) => return self.refused(case, &compared, error),

@@ -1,4 +1,4 @@
-//! An independent matcher, written from document 01 and the readings of its open points alone. It shares no line with the library and is
+//! An independent matcher, written from documents 01 and 02 and the readings of their open points alone. It shares no line with the library and is
 //! simple rather than fast: what it answers is what the library's answers are held against.
 
 mod calls;

@@ -1,4 +1,4 @@
-//! Sets of bytes: 256 marks, one for each byte value, and the named sets of document 01, "Named sets".
+//! Sets of bytes: 256 marks, one for each byte value, and the named sets of document 01, "Named sets", as request a) of document 02 moved them.
 
 #[derive(Clone, PartialEq, Eq)]
 pub struct ByteSet(Box<[bool; 256]>);
@@ -48,19 +48,20 @@ impl ByteSet {
     }
 }
 
-/// Is the byte one of `\w`? Bytes 80 to FF are in no named set.
+/// Is the byte one of `\w`? Of the bytes 80 to FF none is.
 pub fn is_word(byte: u8) -> bool {
     byte.is_ascii_alphanumeric() || byte == b'_'
 }
 
-/// The set of `\d`, `\w`, `\s`, `\h`, `\v`, or the complement that the upper-case letter stands for.
+/// The set of `\d`, `\w`, `\s`, `\h`, `\v`, or the complement that the upper-case letter stands for. 02: "`\h` also has A0 and `\v` also has
+/// 85", which `\s` and the named sets of a class have not.
 pub fn by_escape(letter: u8) -> Option<ByteSet> {
     let set = match letter.to_ascii_lowercase() {
         b'd' => ByteSet::of(&[(0x30, 0x39)]),
         b'w' => ByteSet::of(&[(0x30, 0x39), (0x41, 0x5A), (0x5F, 0x5F), (0x61, 0x7A)]),
         b's' => ByteSet::of(&[(0x09, 0x0D), (0x20, 0x20)]),
-        b'h' => ByteSet::of(&[(0x09, 0x09), (0x20, 0x20)]),
-        b'v' => ByteSet::of(&[(0x0A, 0x0D)]),
+        b'h' => ByteSet::of(&[(0x09, 0x09), (0x20, 0x20), (0xA0, 0xA0)]),
+        b'v' => ByteSet::of(&[(0x0A, 0x0D), (0x85, 0x85)]),
         _ => return None,
     };
     Some(if letter.is_ascii_uppercase() { set.complement() } else { set })

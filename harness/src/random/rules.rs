@@ -17,7 +17,8 @@ pub struct Style {
 
 pub const ALPHABETS: [&[u8]; 5] = [b"ab", b"ab", b"ab1\n", b"a1, -_", b"\x00a\n\x7F\x80\x85\xA0\xFF]"];
 
-const SETS: &[u8] = b"dDwWsShHvV";
+/// The letters of the escapes for sets.
+pub const SETS: &[u8] = b"dDwWsShHvV";
 const NAMES: [&str; 14] =
     ["alpha", "upper", "lower", "alnum", "xdigit", "blank", "cntrl", "ascii", "print", "graph", "punct", "digit", "word", "space"];
 

@@ -1,4 +1,4 @@
-//! Random sound rules that other matchers read as document 01 does, each with a subject.
+//! Sound rules that other matchers read as document 01 does, each with a subject: random ones, and the escapes for sets.
 
 use super::{rules, subjects, Rng};
 use crate::independent::{self, tree::Rule};
@@ -25,7 +25,17 @@ pub fn case(seed: u64, number: u64) -> Option<Shared> {
 pub fn class_cases(seed: u64, number: u64) -> Vec<Shared> {
     let rng = &mut Rng::new(!seed, number);
     let style = rules::plain_style(rng);
-    let rule = rules::class(rng, style);
-    let case = |byte| Some(Shared { rule: rule.clone(), flags: 0, tree: independent::read(&rule, 0).ok()?, subject: vec![byte] });
+    on_every_byte(&rules::class(rng, style))
+}
+
+/// Each escape for a set on each of the 256 subjects of one byte: alone, in a class and in a complemented one.
+pub fn set_cases() -> Vec<Shared> {
+    let escapes = rules::SETS.iter().map(|&letter| char::from(letter));
+    let rules = escapes.flat_map(|letter| [format!("\\{letter}"), format!("[\\{letter}]"), format!("[^\\{letter}]")]);
+    rules.flat_map(|rule| on_every_byte(rule.as_bytes())).collect()
+}
+
+fn on_every_byte(rule: &[u8]) -> Vec<Shared> {
+    let case = |byte| Some(Shared { rule: rule.to_vec(), flags: 0, tree: independent::read(rule, 0).ok()?, subject: vec![byte] });
     (0..=255).filter_map(case).collect()
 }
