@@ -83,16 +83,9 @@ fn put_refusal(f: Refusal) {
     put(b"\n");
 }
 
-fn tell_match(
-    rule: &[u8],
-    flags: u32,
-    sub: &[u8],
-    budget: u32,
-    area: &mut [u32],
-    work: &mut [u32],
-    results: &mut [u32],
-) {
-    match matching::match_line(rule, flags, sub, budget, area, work, results) {
+// What a match tells, with its row.
+fn put_outcome(outcome: Outcome, results: &[u32]) {
+    match outcome {
         Outcome::Matched(steps) => {
             put(b"matched ");
             put_steps(steps);
@@ -112,7 +105,7 @@ fn tell_match(
     }
 }
 
-fn tell_list(
+fn tell_match(
     rule: &[u8],
     flags: u32,
     sub: &[u8],
@@ -121,7 +114,13 @@ fn tell_list(
     work: &mut [u32],
     results: &mut [u32],
 ) {
-    match listing::list_readings(rule, flags, sub, budget, area, work, results) {
+    let outcome = matching::match_line(rule, flags, sub, budget, area, work, results);
+    put_outcome(outcome, results);
+}
+
+// What a listing tells, with its rows.
+fn put_listing(told: Listing, results: &[u32]) {
+    match told {
         Listing::Complete(rows, steps) => {
             put(b"complete ");
             put_steps(steps);
@@ -141,6 +140,19 @@ fn tell_list(
         }
         Listing::Refused(f) => put_refusal(f),
     }
+}
+
+fn tell_list(
+    rule: &[u8],
+    flags: u32,
+    sub: &[u8],
+    budget: u32,
+    area: &mut [u32],
+    work: &mut [u32],
+    results: &mut [u32],
+) {
+    let told = listing::list_readings(rule, flags, sub, budget, area, work, results);
+    put_listing(told, results);
 }
 
 // A word of a line.
