@@ -5,7 +5,7 @@ use Prim.Native.Nat.{ℕ, zero, suc, _+_, _-_}
 use lib.ListN.{length, getD}
 use lib.Dec.{ltb, leb, eqb}
 use Rattle.syntax.specs.Limits.{unset, slot}
-use Rattle.syntax.specs.Read.{byte}
+use Rattle.syntax.specs.Read.{if_then_else_, byte}
 use Rattle.syntax.specs.Sets.{inClass}
 use Rattle.syntax.specs.Tree.{Item, byteIn, assert, reference}
 use Rattle.semantics.specs.Assertions.{holds}
@@ -29,6 +29,20 @@ unfoldable pub refer : List ℕ → ℕ → ℕ → State → Tried
 refer sub start stop s =
     let n = stop - start in
     when (ltb start unset) (when (leb (s .at + n) (length sub)) (when (sameAt sub n start (s .at)) (goes (moved (s .at + n) s))))
+
+-- 02, request b): "one for each byte compared, the first unequal byte included", and "a subject too short costs 1 and the bytes compared up to its
+-- end". The n bytes at a are compared with those at b, byte by byte.
+unfoldable pub compared : List ℕ → ℕ → ℕ → ℕ → ℕ
+compared sub zero a b = 0
+compared sub (suc n) a b = if ltb b (length sub) then suc (if eqb (byte sub a) (byte sub b) then compared sub n (suc a) (suc b) else 0) else 0
+
+-- the steps that trying an item costs beside its own: "an unset group costs 1"
+unfoldable pub toll : List ℕ → Item → State → ℕ
+toll sub (byteIn c) s = 0
+toll sub (assert a) s = 0
+toll sub (reference group) s =
+    let start = getD (s .spans) (slot group) unset in
+    if ltb start unset then compared sub (getD (s .spans) (slot group + 1) unset - start) start (s .at) else 0
 
 unfoldable pub try : List ℕ → Item → State → Tried
 -- "a byte item takes the next byte, which must be in its set"

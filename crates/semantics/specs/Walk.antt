@@ -10,13 +10,14 @@ use Rattle.syntax.specs.declared.Greed.the-variants.{Greedy, Lazy}
 use Rattle.syntax.specs.declared.Most.{Most}
 use Rattle.syntax.specs.Tree.{Rule, empty, item, seq, alt, group, repeat, Branches, one, also}
 use Rattle.semantics.specs.States.{branch, again, goOn, State, starting, chose, closed}
-use Rattle.semantics.specs.Items.{Tried, fails, goes, try}
+use Rattle.semantics.specs.Items.{Tried, fails, goes, toll, try}
 use Rattle.semantics.specs.Repeats.{Next, round, leave, either, decision}
 use Rattle.semantics.specs.Derivations.{branchCount}
 
 infixl 60 _▹_
 -- "One step each: a byte item tried, a place tried, a reference tried, a capturing group opened, one closed, a branch begun (two or more
--- branches), a repeat decision reached, the rule's end reached. Falling back costs nothing."
+-- branches), a repeat decision reached, the rule's end reached. Falling back costs nothing." A reference also pays for the bytes that it compares
+-- (02, request b).
 pub data Event : Type 0 where
   step : Event
   miss : ℕ → ℕ → Event  -- an item tried that failed: its place in the rule, and the position in the subject
@@ -43,6 +44,11 @@ unfoldable pub tried : ℕ → State → Tried → Trace
 tried place s fails = miss place (s .at) ∷ []
 tried place s (goes t) = step ∷ done t
 
+-- so many steps, and then a trace
+unfoldable pub paying : ℕ → Trace → Trace
+paying zero es = es
+paying (suc n) es = step ∷ paying n es
+
 -- what a decision at s leads to: rounds are walked by r, and going on ends the repeat
 unfoldable pub decide : Next → State → Go → Trace
 decide round s r = r s
@@ -65,7 +71,7 @@ module _ (sub : List ℕ) where
   unfoldable mutual
     pub walk : Rule → State → Trace
     walk empty s = done s
-    walk (item place i) s = tried place s (try sub i s)
+    walk (item place i) s = paying (toll sub i s) (tried place s (try sub i s))
     walk (seq a b) s = walk a s ▹ (λ t. walk b t)
     walk (alt bs b) s = walks bs s ++ (step ∷ walk b (chose (branch (branchCount bs)) s))
     walk (group n a) s = step ∷ (walk a s ▹ (λ t. step ∷ done (closed n (s .at) t)))

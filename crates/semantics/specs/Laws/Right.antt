@@ -3,7 +3,7 @@ use mathlib.Core.Path.{_≡_, refl, ap, sym, _∙_}
 use mathlib.Core.List.{List, [], _∷_, _++_, append-assoc, append-nil}
 use mathlib.Core.Logic.{_⊎_, inl, inr}
 use mathlib.Core.Bool.{Bool, true, false}
-use Prim.Native.Nat.{ℕ, suc, _≤_}
+use Prim.Native.Nat.{ℕ, zero, suc, _≤_}
 use native.Mathlib.Omega.{arith}
 use lib.ListN.{length}
 use lib.Dec.{ltb, leb}
@@ -14,7 +14,7 @@ use Rattle.semantics.specs.States.{Choice, again, goOn, Sooner, roundFir
 use Rattle.semantics.specs.Items.{Tried, fails, goes, when, refer, try}
 use Rattle.semantics.specs.Repeats.{Next, round, leave, either}
 use Rattle.semantics.specs.Derivations.{Again, On}
-use Rattle.semantics.specs.Walk.{step, Trace, Go, _▹_, done, tried, decide}
+use Rattle.semantics.specs.Walk.{step, Trace, Go, _▹_, done, tried, paying, decide}
 use Rattle.semantics.specs.Laws.Traces.{Ends, Ordered, Extends, before-extends, fork, ends-split, ends-left, ends-right, ordered-append, bind-split, bind-join, bind-ordered}
 
 -- Reach ------------------------------------------------------------------
@@ -86,6 +86,12 @@ module _ {N : ℕ} {s : State} where
         rw (c .2 .1, d .2 .1) (before-extends (c .2 .0) (d .2 .0) (fork (s .path) (c .0) (d .0) (f (c .0) (d .0) (c .1) (d .1)))));
     reach = λ u d. elim d [ inl h ↦ x .reach u h | inr h ↦ y .reach u h ];
   }
+
+  -- steps before a trace reach no end
+  pub right-paying : (n : ℕ) {es : Trace} {D : State → Type 0} → Right N s es D → Right N s (paying n es) D
+  unfolding paying
+  right-paying zero r = r
+  right-paying (suc n) r = right-step (right-paying n r)
 
   -- an item tried
   pub right-tried : (place : ℕ) (x : Tried) → ((t : State) → x ≡ goes t → Reach N s t) → Right N s (tried place s x) (λ t. x ≡ goes t)

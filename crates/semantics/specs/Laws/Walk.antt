@@ -12,12 +12,12 @@ use Rattle.syntax.specs.declared.Greed.{Greed}
 use Rattle.syntax.specs.declared.Most.{Most}
 use Rattle.syntax.specs.Tree.{Rule, empty, item, seq, alt, group, repeat, Branches, one, also}
 use Rattle.semantics.specs.States.{Choice, branch, earlier, State, chose, closed}
-use Rattle.semantics.specs.Items.{try}
+use Rattle.semantics.specs.Items.{toll, try}
 use Rattle.semantics.specs.Repeats.{decision}
 use Rattle.semantics.specs.Derivations.{branchCount, Derives, Picks}
 use Rattle.semantics.specs.Walk.{step, Trace, _▹_, decide, rounds, enough, walk, walks}
 use Rattle.semantics.specs.Laws.Traces.{bind-same}
-use Rattle.semantics.specs.Laws.Right.{reach-still, reach-self, Right, Makes, right-step, right-done, right-bind, right-append, right-tried, right-chose, makes-chose, try-reach, again-reach}
+use Rattle.semantics.specs.Laws.Right.{reach-still, reach-self, Right, Makes, right-step, right-done, right-bind, right-append, right-paying, right-tried, right-chose, makes-chose, try-reach, again-reach}
 use Rattle.semantics.specs.Laws.Rounds.{unlessIdle, left, fewer-states, decide-same, right-rounds, rounds-same}
 
 -- a branch whose number is below n
@@ -42,7 +42,7 @@ module _ (sub : List ℕ) where
 
     pub right : (r : Rule) (s : State) → s .at ≤ length sub → Right (length sub) s (walk sub r s) (Derives sub r s)
     right empty s l = right-done s (reach-self _ s l)
-    right (item place i) s l = right-tried place (try sub i s) (λ t e. try-reach sub i s t l e)
+    right (item place i) s l = right-paying (toll sub i s) (right-tried place (try sub i s) (λ t e. try-reach sub i s t l e))
     right (seq a b) s l = let x = right a s l in right-bind x (λ t d. right b t (x .reach t d .inside))
     right (alt bs b) s l = right-also l (rights bs s l) (right b (chose (branch (branchCount bs)) s) l) .0
     right (group n a) s l = let x = right a s l in right-step (right-bind x (λ t d. right-step (right-done (closed n (s .at) t) (reach-still (x .reach t d .inside) refl refl))))
