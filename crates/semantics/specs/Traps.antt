@@ -32,7 +32,7 @@ traps =
     -- D1: a round keeps a span that it doesn't set again
     ∷ matching "((a)*)*" 0 "a" 99 (Matched 18) (rowOf 0 1 (1 ∷ 1 ∷ 0 ∷ 1 ∷ []) ∷ [])
     -- a reference inside its own group sees the former span
-    ∷ matching "(a|b\\1)+" 0 "aba" 99 (Matched 20) (rowOf 0 3 (1 ∷ 3 ∷ []) ∷ [])
+    ∷ matching "(a|b\\1)+" 0 "aba" 99 (Matched 21) (rowOf 0 3 (1 ∷ 3 ∷ []) ∷ [])
     -- S1: the decision at the maximum costs its step
     ∷ matching "a?" 0 "a" 99 (Matched 4) (rowOf 0 1 [] ∷ [])
     ∷ matching "a{1}" 0 "a" 99 (Matched 4) (rowOf 0 1 [] ∷ [])
@@ -76,6 +76,18 @@ traps =
     ∷ matching ".\\N" 0 "\u{85}\u{85}" 99 (Matched 3) (rowOf 0 2 [] ∷ [])
     ∷ matching "a$" 0 "a\u{85}" 99 (NotMatched 4) []
     ∷ matching "^b" 2 "a\u{85}b" 99 (NotMatched 5) []
+    -- 02 B1: bytes are compared up to the first unequal one or the subject's end, whichever comes first; that reference costs 2 in both
+    ∷ matching "(abc)\\1" 0 "abcxx" 99 (NotMatched 17) []
+    ∷ matching "(ab)\\1" 0 "aba" 99 (NotMatched 13) []
+    -- 02 B2: a walk is exhausted within a reference too, and where only the unequal byte's step is missing
+    ∷ matching "(aa)\\1" 0 "aaaa" 8 (Matched 8) (rowOf 0 4 (0 ∷ 2 ∷ []) ∷ [])
+    ∷ matching "(aa)\\1" 0 "aaaa" 7 (Exhausted 0 7) []
+    ∷ matching "(aa)\\1" 0 "aaaa" 6 (Exhausted 0 6) []
+    ∷ matching "(aa)\\1" 0 "aaaa" 5 (Exhausted 0 5) []
+    ∷ matching "(a)\\1" 0 "ab" 5 (NotMatched 9) []
+    ∷ matching "(a)\\1" 0 "ab" 4 (Exhausted 0 4) []
+    -- 02 B3: an empty span costs one step
+    ∷ matching "()\\1" 0 "" 99 (Matched 4) (rowOf 0 0 (0 ∷ 0 ∷ []) ∷ [])
     ∷ []
 
 pub traps-avoided : map calls traps ≡ map expected traps
