@@ -28,13 +28,13 @@ begins groups r a p s =
     let n = part-here a (s .tree) (s .lo) (s .top) p (s .holds) in
     record { some = n .some; fits = omega (arith, n .high, s .within); small = omega (arith, n .high, s .small); longer = λ e. let w = n .longer e in omega (arith, s .within) }
 
-pub reference-fits : (groups r : ℕ) (a : List ℕ) (p : ℕ) → Stands (Part a) groups r a p → getD a p 0 ≡ 2 → (p + 4 ≤ length a) × (groups ≤ groupLimit)
+pub reference-fits : (groups r : ℕ) (a : List ℕ) (p : ℕ) → Stands (Part a) groups r a p → getD a p 0 ≡ 11 → (p + 4 ≤ length a) × (groups ≤ groupLimit)
 unfolding Part
 reference-fits groups r a p s e =
     (for-reference a (s .lo) (s .top) p (λ t. p + 4 ≤ length a) (λ place n h. omega (arith, h .node .high, s .within)) e (s .tree) (s .holds), s .fits .few)
 
 module _ (groups r : ℕ) (a b : List ℕ) (p next sofar : ℕ) where
-  pub reference-links : (found : ℕ) → getD a p 0 ≡ 2 → Referred groups a b p next sofar found → Links (Part a) groups r a b p next sofar p found
+  pub reference-links : (found : ℕ) → getD a p 0 ≡ 11 → Referred groups a b p next sofar found → Links (Part a) groups r a b p next sofar p found
   unfolding Links Part unresolved Compiled
   reference-links found e w t lo top h f = for-reference a lo top p (λ t. Made groups r t lo top a b next sofar p found) go e t h
     where
@@ -56,9 +56,9 @@ module _ (groups r : ℕ) (a b : List ℕ) (p next sofar : ℕ) where
             first = w .first ∙ ap (λ o. noted o sofar) d;
           }
 
-  pub item-links : (getD a p 0 ≡ 4 → ⊥) → (getD a p 0 ≡ 7 → ⊥) → (getD a p 0 ≡ 10 → ⊥) → (getD a p 0 ≡ 2 → ⊥) → Put a b (p + 1) next → Links (Part a) groups r a b p next sofar p sofar
+  pub item-links : (getD a p 0 ≡ 4 → ⊥) → (getD a p 0 ≡ 7 → ⊥) → (getD a p 0 ≡ 10 → ⊥) → (getD a p 0 ≡ 11 → ⊥) → Put a b (p + 1) next → Links (Part a) groups r a b p next sofar p sofar
   unfolding Links Part unresolved dangling Compiled noted
-  item-links e₄ e₇ e₁₀ e₂ w t lo top h f = for-item a lo top p (λ t. Made groups r t lo top a b next sofar p sofar) go e₄ e₇ e₁₀ e₂ t h
+  item-links e₄ e₇ e₁₀ e₁₁ w t lo top h f = for-item a lo top p (λ t. Made groups r t lo top a b next sofar p sofar) go e₄ e₇ e₁₀ e₁₁ t h
     where
       go : (place : ℕ) (i : Item) → itemKind i ≤ 1 → Part a (item place i) lo top p → Made groups r (item place i) lo top a b next sofar p sofar
       go place (byteIn c) l k =

@@ -38,7 +38,7 @@ here a lo top p size kind l w n =
 item-here : (a : List ℕ) (i : Item) (lo top p place : ℕ) → ItemPart a i lo top p place → Here a lo top p
 item-here a (byteIn c) lo top p place h = here a lo top p 11 0 (omega arith) (λ e. omega arith) (h .node)
 item-here a (assert k) lo top p place h = here a lo top p 4 1 (omega arith) (λ e. omega arith) (h .node)
-item-here a (reference n) lo top p place h = here a lo top p 4 2 (omega arith) (λ e. omega arith) (h .node)
+item-here a (reference n) lo top p place h = here a lo top p 4 11 (omega arith) (λ e. omega arith) (h .node)
 
 pub part-here : (a : List ℕ) (t : Rule) (lo top p : ℕ) → Part a t lo top p → Here a lo top p
 unfolding Part
@@ -118,9 +118,9 @@ module _ (a b : List ℕ) where
       }
   item-same (reference n) lo top p place s h =
       record {
-        node = last-same lo top p 4 2 (omega arith) s (h .node);
-        origin = word lo top p 4 2 2 (omega arith) s (h .node) (h .origin);
-        number = word lo top p 4 2 3 (omega arith) s (h .node) (h .number);
+        node = last-same lo top p 4 11 (omega arith) s (h .node);
+        origin = word lo top p 4 11 2 (omega arith) s (h .node) (h .origin);
+        number = word lo top p 4 11 3 (omega arith) s (h .node) (h .number);
       }
 
   -- what holds of a region in one area holds of it in the other

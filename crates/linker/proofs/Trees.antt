@@ -12,7 +12,7 @@ use Rattle.linker.specs.Nodes.{Plain, Part, Inside}
 abbrev pub itemKind : Item → ℕ
 itemKind (byteIn c) = 0
 itemKind (assert k) = 1
-itemKind (reference n) = 2
+itemKind (reference n) = 11
 
 abbrev pub kindOf : Rule → ℕ
 kindOf (item place i) = itemKind i
@@ -33,10 +33,11 @@ part-kind a empty lo top p h = h .node .is
 part-kind a (seq x y) lo top p h = h .node .is
 part-kind a (alt bs t) lo top p h = h .node .is
 
-item-few : (i : Item) → itemKind i ≤ 2
-item-few (byteIn c) = omega arith
-item-few (assert k) = omega arith
-item-few (reference n) = omega arith
+-- no item has a number between
+item-other : (i : Item) (n : ℕ) → itemKind i ≡ n → 2 ≤ n → n ≤ 10 → ⊥
+item-other (byteIn c) n e l h = omega arith
+item-other (assert k) n e l h = omega arith
+item-other (reference m) n e l h = omega arith
 
 -- what holds of every tree of a kind holds of the tree that stands there
 module _ (a : List ℕ) (lo top p : ℕ) (Q : Rule → Type 0) where
@@ -45,7 +46,7 @@ module _ (a : List ℕ) (lo top p : ℕ) (Q : Rule → Type 0) where
     where
       go : (t : Rule) → Part a t lo top p → kindOf t ≡ 4 → Q t
       go (group n s) h k = f n s h
-      go (item place i) h k = absurd (omega (arith, item-few i))
+      go (item place i) h k = absurd (item-other i _ k (omega arith) (omega arith))
       go (repeat place least most g t) h k = absurd (omega arith)
       go empty h k = absurd (omega arith)
       go (seq x y) h k = absurd (omega arith)
@@ -56,7 +57,7 @@ module _ (a : List ℕ) (lo top p : ℕ) (Q : Rule → Type 0) where
     where
       go : (t : Rule) → Part a t lo top p → kindOf t ≡ 7 → Q t
       go (repeat place least most g s) h k = f place least most g s h
-      go (item place i) h k = absurd (omega (arith, item-few i))
+      go (item place i) h k = absurd (item-other i _ k (omega arith) (omega arith))
       go (group n s) h k = absurd (omega arith)
       go empty h k = absurd (omega arith)
       go (seq x y) h k = absurd (omega arith)
@@ -70,14 +71,14 @@ module _ (a : List ℕ) (lo top p : ℕ) (Q : Rule → Type 0) where
       go empty h k = f empty h
       go (seq x y) h k = f (seq x y) h
       go (alt bs t) h k = f (alt bs t) h
-      go (item place i) h k = absurd (omega (arith, item-few i))
+      go (item place i) h k = absurd (item-other i _ k (omega arith) (omega arith))
       go (group n s) h k = absurd (omega arith)
       go (repeat place least most g s) h k = absurd (omega arith)
 
-  pub for-reference : ((place n : ℕ) → Part a (item place (reference n)) lo top p → Q (item place (reference n))) → getD a p 0 ≡ 2 → (t : Rule) → Part a t lo top p → Q t
+  pub for-reference : ((place n : ℕ) → Part a (item place (reference n)) lo top p → Q (item place (reference n))) → getD a p 0 ≡ 11 → (t : Rule) → Part a t lo top p → Q t
   for-reference f e t h = go t h (sym (part-kind a t lo top p h) ∙ e)
     where
-      go : (t : Rule) → Part a t lo top p → kindOf t ≡ 2 → Q t
+      go : (t : Rule) → Part a t lo top p → kindOf t ≡ 11 → Q t
       go (item place (reference n)) h k = f place n h
       go (item place (byteIn c)) h k = absurd (omega arith)
       go (item place (assert c)) h k = absurd (omega arith)
@@ -89,13 +90,13 @@ module _ (a : List ℕ) (lo top p : ℕ) (Q : Rule → Type 0) where
 
   -- an item that is no reference
   pub for-item : ((place : ℕ) (i : Item) → itemKind i ≤ 1 → Part a (item place i) lo top p → Q (item place i))
-      → (getD a p 0 ≡ 4 → ⊥) → (getD a p 0 ≡ 7 → ⊥) → (getD a p 0 ≡ 10 → ⊥) → (getD a p 0 ≡ 2 → ⊥) → (t : Rule) → Part a t lo top p → Q t
-  for-item f e₄ e₇ e₁₀ e₂ t h = go t h (part-kind a t lo top p h)
+      → (getD a p 0 ≡ 4 → ⊥) → (getD a p 0 ≡ 7 → ⊥) → (getD a p 0 ≡ 10 → ⊥) → (getD a p 0 ≡ 11 → ⊥) → (t : Rule) → Part a t lo top p → Q t
+  for-item f e₄ e₇ e₁₀ e₁₁ t h = go t h (part-kind a t lo top p h)
     where
       go : (t : Rule) → Part a t lo top p → getD a p 0 ≡ kindOf t → Q t
       go (item place (byteIn c)) h k = f place (byteIn c) (omega arith) h
       go (item place (assert c)) h k = f place (assert c) (omega arith) h
-      go (item place (reference n)) h k = absurd (e₂ k)
+      go (item place (reference n)) h k = absurd (e₁₁ k)
       go (group n s) h k = absurd (e₄ k)
       go (repeat place least most g s) h k = absurd (e₇ k)
       go empty h k = absurd (e₁₀ k)
@@ -107,7 +108,7 @@ pub never-last : (a : List ℕ) (t : Rule) (lo top p : ℕ) → Part a t lo top 
 never-last a t lo top p h e = go t (sym (part-kind a t lo top p h) ∙ e)
   where
     go : (t : Rule) → kindOf t ≡ 6 → ⊥
-    go (item place i) k = omega (arith, item-few i)
+    go (item place i) k = item-other i _ k (omega arith) (omega arith)
     go (group n s) k = omega arith
     go (repeat place least most g s) k = omega arith
     go empty k = omega arith

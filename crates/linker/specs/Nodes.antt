@@ -1,14 +1,14 @@
 -- The rule area after the first pass: each part of a rule as a node that names the part before it, so that a sequence is read off from its
 -- last part on. The second pass gives every node what follows it.
 --
---   byte      0, before, place, the class in eight words
---   assertion 1, before, place, which
---   reference 2, before, place, the group's number
---   group     4, before, 0, the slot of its span, 3, inside, 0       the close's four numbers, then the open's three
---   plain    10, before, inside                                      a group that does not capture
---   repeat    7, 8, least, most, greed, 0, body, before
---   branch    5, inside, the branch before it
---   last      6, inside, the branch before it
+--   byte       0, before, place, the class in eight words
+--   assertion  1, before, place, which
+--   reference 11, before, place, the group's number
+--   group      4, before, 0, the slot of its span, 3, inside, 0       the close's four numbers, then the open's three
+--   plain     10, before, inside                                      a group that does not capture
+--   repeat     7, 8, least, most, greed, 0, body, before
+--   branch     5, inside, the branch before it
+--   last       6, inside, the branch before it
 --
 -- `inside` is the last part of a sequence, or the last branch of an alternation. 0 is no node's position: it stands for none.
 use mathlib.Core.Path.{_≡_}
@@ -77,7 +77,7 @@ module _ (a : List ℕ) where
     set : (x : ℕ) → x < 256 → has (drop (p + 3) a) x ≡ inClass c x;
   }
   ItemPart (assert k) lo top p place = record { node : Last a lo top p 4 1; origin : getD a (p + 2) 0 ≡ place; which : getD a (p + 3) 0 ≡ assertionWord k }
-  ItemPart (reference n) lo top p place = record { node : Last a lo top p 4 2; origin : getD a (p + 2) 0 ≡ place; number : getD a (p + 3) 0 ≡ n }
+  ItemPart (reference n) lo top p place = record { node : Last a lo top p 4 11; origin : getD a (p + 2) 0 ≡ place; number : getD a (p + 3) 0 ≡ n }
 
   unfoldable mutual
     -- a part of a sequence stands at p, its nodes from lo on and below top: an item, a group or a repeat; or a group that does not

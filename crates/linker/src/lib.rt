@@ -9,8 +9,6 @@ ghost use Rattle.linker.specs.Linking.{Stands, StandAll, Links, LinksAll
 ghost use Rattle.linker.specs.Stores.{Put, PutTwo, GroupClosed, IsOneByte, EntryKind, RepeatClosed, Referred};
 
 // The kinds of nodes, as specs/Nodes.antt lists them. What is of none of these is an item, and goes on alike.
-const REFERENCE: usize = 2;
-
 const GROUP: usize = 4;
 
 const LAST: usize = 6;
@@ -18,6 +16,8 @@ const LAST: usize = 6;
 const REPEAT: usize = 7;
 
 const PLAIN: usize = 10;
+
+const REFERENCE: usize = 11;
 
 // The kinds of a byte item and of a compiled run, and the number of a greedy repeat's greed.
 const BYTE: usize = 0;

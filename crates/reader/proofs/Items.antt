@@ -131,7 +131,7 @@ module _ (s : List ℕ) {old : List ℕ} {c : Cursor} (l : Lexed) (flags last : 
         );
       }
 
-  pub item-reference : {new : List ℕ} (m next : ℕ) → l .token ≡ Reference m next → Wrote old new (c .used) 4 (2 ∷ last ∷ c .at ∷ m ∷ []) → Items s flags old new c last (Goes (behindNode c next 4) (c .used) 1)
+  pub item-reference : {new : List ℕ} (m next : ℕ) → l .token ≡ Reference m next → Wrote old new (c .used) 4 (11 ∷ last ∷ c .at ∷ m ∷ []) → Items s flags old new c last (Goes (behindNode c next 4) (c .used) 1)
   item-reference {new} m next e w =
       let y = item-says (atom s flags (c .opened) (c .at)) l (Reference m next) e says in
       let n = on (reference m) next y in

@@ -70,7 +70,7 @@ pub assert-part : {old new : List ℕ} {p before place : ℕ} (k : Assertion) �
 unfolding Part
 assert-part {p = p} k w b = (record { node = node w (omega arith) b p (omega arith); origin = w .at 2 (omega arith); which = w .at 3 (omega arith) }, after w (omega arith) b (λ e. omega arith))
 
-pub reference-part : {old new : List ℕ} {p before place n : ℕ} → Wrote old new p 4 (2 ∷ before ∷ place ∷ n ∷ []) → 1 ≤ p → PartAfter before new (item place (reference n)) p (p + 4) p
+pub reference-part : {old new : List ℕ} {p before place n : ℕ} → Wrote old new p 4 (11 ∷ before ∷ place ∷ n ∷ []) → 1 ≤ p → PartAfter before new (item place (reference n)) p (p + 4) p
 unfolding Part
 reference-part {p = p} w b = (record { node = node w (omega arith) b p (omega arith); origin = w .at 2 (omega arith); number = w .at 3 (omega arith) }, after w (omega arith) b (λ e. omega arith))
 

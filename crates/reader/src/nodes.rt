@@ -15,8 +15,6 @@ const BYTE: u32 = 0;
 
 pub const ASSERTION: u32 = 1;
 
-pub const REFERENCE: u32 = 2;
-
 const OPEN: u32 = 3;
 
 const CLOSE: u32 = 4;
@@ -32,6 +30,8 @@ const AGAIN: u32 = 8;
 pub const FINISH: u32 = 9;
 
 pub const PLAIN: u32 = 10;
+
+pub const REFERENCE: u32 = 11;
 
 // The maximum of a repeat that has none.
 const UNLIMITED: u32 = 4294967295;

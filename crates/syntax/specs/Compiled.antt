@@ -1,16 +1,17 @@
 -- The compiled rule: the tree as nodes of numbers in the rule area. A node is also an instruction: it tells where the walk goes on. The walk
--- visits one node for each step, so that sequences and groups that do not capture have none.
+-- visits one node for each step, so that sequences and groups that do not capture have none. Only runs and references make several steps, and these
+-- two have the highest numbers.
 --
---   byte      0, next, place, the class in eight words
---   assertion 1, next, place, which
---   reference 2, next, place, the slot of its group's span
---   open      3, body, register
---   close     4, next, register, the slot of its group's span
---   branch    5, body, the branch after it
---   last      6, body                                 the last branch
---   repeat    7, 8, least, most, greed, register, body, next    entered at the 7, decided again at the 8
---   run      10, 8, least, most, greed, register, body, next    a greedy repeat of one byte item, `a*` or `(?:a)*`, which is taken as a whole
---   end       9
+--   byte       0, next, place, the class in eight words
+--   assertion  1, next, place, which
+--   open       3, body, register
+--   close      4, next, register, the slot of its group's span
+--   branch     5, body, the branch after it
+--   last       6, body                                 the last branch
+--   repeat     7, 8, least, most, greed, register, body, next    entered at the 7, decided again at the 8
+--   end        9
+--   run       10, 8, least, most, greed, register, body, next    a greedy repeat of one byte item, `a*` or `(?:a)*`, which is taken as a whole
+--   reference 11, next, place, the slot of its group's span
 --
 -- `next` is the position of the node after it, `place` the item's place in the rule. A group keeps where it was opened, and a repeat its
 -- rounds and where the last one began, in two registers from the number given on; nodes inside use those behind.
@@ -102,7 +103,7 @@ module _ (p : List ℕ) (lo hi : ℕ) where
     which : getD p (pc + 3) 0 ≡ assertionWord a;
   }
   CompiledItem (reference n) place pc next = record {
-    node : Node pc 4 2;
+    node : Node pc 4 11;
     goes : getD p (pc + 1) 0 ≡ next;
     origin : getD p (pc + 2) 0 ≡ place;
     span : getD p (pc + 3) 0 ≡ slot n;
