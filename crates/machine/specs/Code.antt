@@ -83,7 +83,7 @@ repeatAt p q = record {
 abbrev pub decodeAs : ℕ → Program → ℕ → Instruction
 decodeAs zero p pc = tests (inSet (has (drop (pc + 3) p))) (getD p (pc + 2) 0) (getD p (pc + 1) 0)
 decodeAs (suc zero) p pc = tests (holding (assertionOf (getD p (pc + 3) 0))) (getD p (pc + 2) 0) (getD p (pc + 1) 0)
-decodeAs (suc (suc zero)) p pc = tests (sameAs (getD p (pc + 3) 0)) (getD p (pc + 2) 0) (getD p (pc + 1) 0)
+decodeAs (suc (suc zero)) p pc = ends
 decodeAs (suc (suc (suc zero))) p pc = opens (getD p (pc + 2) 0) (getD p (pc + 1) 0)
 decodeAs (suc (suc (suc (suc zero)))) p pc = closes (getD p (pc + 2) 0) (getD p (pc + 3) 0) (getD p (pc + 1) 0)
 decodeAs (suc (suc (suc (suc (suc zero))))) p pc = branches (getD p (pc + 1) 0) (getD p (pc + 2) 0)
@@ -92,7 +92,8 @@ decodeAs (suc (suc (suc (suc (suc (suc (suc zero))))))) p pc = enters (pc + 2)
 decodeAs (suc (suc (suc (suc (suc (suc (suc (suc zero)))))))) p pc = loops (pc + 1)
 decodeAs (suc (suc (suc (suc (suc (suc (suc (suc (suc zero))))))))) p pc = ends
 decodeAs (suc (suc (suc (suc (suc (suc (suc (suc (suc (suc zero)))))))))) p pc = runs (pc + 2)
-decodeAs (suc (suc (suc (suc (suc (suc (suc (suc (suc (suc (suc n))))))))))) p pc = ends
+decodeAs (suc (suc (suc (suc (suc (suc (suc (suc (suc (suc (suc zero))))))))))) p pc = tests (sameAs (getD p (pc + 3) 0)) (getD p (pc + 2) 0) (getD p (pc + 1) 0)
+decodeAs (suc (suc (suc (suc (suc (suc (suc (suc (suc (suc (suc (suc n)))))))))))) p pc = ends
 
 unfoldable pub decode : Program → ℕ → Instruction
 decode p pc = decodeAs (getD p pc 0) p pc
@@ -103,11 +104,11 @@ decode p pc = decodeAs (getD p pc 0) p pc
 abbrev pub RepeatFits : Program → ℕ → Type 0
 RepeatFits p q = (q + 6 ≤ length p) × (getD p (q + 3) 0 + 2 ≤ registers)
 
--- the numbers of the node at pc, and the registers that it names
+-- the numbers of the node at pc, and the registers that it names; no node is of the kind 2, or of one above 11
 abbrev pub FitsAs : ℕ → Program → ℕ → Type 0
 FitsAs zero p pc = pc + 11 ≤ length p
 FitsAs (suc zero) p pc = pc + 4 ≤ length p
-FitsAs (suc (suc zero)) p pc = (pc + 4 ≤ length p) × (getD p (pc + 3) 0 + 2 ≤ spansLength)
+FitsAs (suc (suc zero)) p pc = ⊥
 FitsAs (suc (suc (suc zero))) p pc = (pc + 3 ≤ length p) × (getD p (pc + 2) 0 + 2 ≤ registers)
 FitsAs (suc (suc (suc (suc zero)))) p pc = (pc + 4 ≤ length p) × (getD p (pc + 2) 0 + 2 ≤ registers) × (getD p (pc + 3) 0 + 2 ≤ spansLength)
 FitsAs (suc (suc (suc (suc (suc zero))))) p pc = pc + 3 ≤ length p
@@ -116,7 +117,8 @@ FitsAs (suc (suc (suc (suc (suc (suc (suc zero))))))) p pc = RepeatFits p (pc + 
 FitsAs (suc (suc (suc (suc (suc (suc (suc (suc zero)))))))) p pc = RepeatFits p (pc + 1)
 FitsAs (suc (suc (suc (suc (suc (suc (suc (suc (suc zero))))))))) p pc = Unit {0}
 FitsAs (suc (suc (suc (suc (suc (suc (suc (suc (suc (suc zero)))))))))) p pc = (pc + 8 ≤ length p) × (getD p (pc + 6) 0 + 11 ≤ length p)
-FitsAs (suc (suc (suc (suc (suc (suc (suc (suc (suc (suc (suc n))))))))))) p pc = Unit {0}
+FitsAs (suc (suc (suc (suc (suc (suc (suc (suc (suc (suc (suc zero))))))))))) p pc = (pc + 4 ≤ length p) × (getD p (pc + 3) 0 + 2 ≤ spansLength)
+FitsAs (suc (suc (suc (suc (suc (suc (suc (suc (suc (suc (suc (suc n)))))))))))) p pc = ⊥
 
 pub record Fits (p : Program) (pc : ℕ) : Type 0 where
   pub here : pc < length p

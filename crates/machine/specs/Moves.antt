@@ -14,7 +14,7 @@ use Rattle.syntax.specs.Limits.{unset, boundLimit, spansLength}
 use Rattle.syntax.specs.Read.{byte}
 use Rattle.semantics.specs.Assertions.{holds}
 use Rattle.semantics.specs.States.{State, moved}
-use Rattle.semantics.specs.Items.{Tried, fails, goes, when, refer}
+use Rattle.semantics.specs.Items.{Tried, fails, goes, when, refer, paidFor}
 use Rattle.semantics.specs.Repeats.{Next, round, leave, either, isFull, decision}
 use Rattle.semantics.specs.Walk.{Event, step, miss, end, Trace}
 use Rattle.machine.specs.Code.{Program, Test, inSet, holding, sameAs, Repeat, Instruction, tests, opens, closes, branches, lastBranch, enters, loops, runs, ends, repeatAt, decode, Fits}
@@ -54,6 +54,14 @@ pub record Move : Type 0 where
 
 abbrev pub emitting : Event → Now → Move
 emitting e now = record { first = e; more = []; after = now }
+
+abbrev pub afterStep : Move → Move
+afterStep m = record { first = step; more = m .first ∷ m .more; after = m .after }
+
+-- so many steps, and then what the move emits
+unfoldable pub paid : ℕ → Move → Move
+paid zero m = m
+paid (suc n) m = afterStep (paid n m)
 
 -- Registers -----------------------------------------------------------------
 
@@ -96,6 +104,12 @@ unfoldable pub tested : List ℕ → Test → State → Tried
 tested sub (inSet f) s = when (ltb (s .at) (length sub)) (when (f (byte sub (s .at))) (goes (moved (suc (s .at)) s)))
 tested sub (holding a) s = when (holds sub a (s .at)) (goes s)
 tested sub (sameAs slot) s = refer sub (getD (s .spans) slot unset) (getD (s .spans) (slot + 1) unset) s
+
+-- the steps that it costs beside its own
+unfoldable pub price : List ℕ → Test → State → ℕ
+price sub (inSet f) s = 0
+price sub (holding a) s = 0
+price sub (sameAs slot) s = paidFor sub (getD (s .spans) slot unset) (getD (s .spans) (slot + 1) unset) (s .at)
 
 -- Runs ------------------------------------------------------------------------
 
@@ -179,7 +193,7 @@ module _ (p : Program) where
     bytesOf q n at = extent sub (has (drop (q .body + 3) p)) (allowance (q .most) n (length sub - at)) at
 
     unfoldable pub carryOut : Instruction → (at : ℕ) → List ℕ → Stack → Move
-    carryOut (tests t place next) at regs st = tried (tested sub t (state at regs)) place next at regs st
+    carryOut (tests t place next) at regs st = paid (price sub t (state at regs)) (tried (tested sub t (state at regs)) place next at regs st)
     carryOut (opens i body) at regs st = emitting step (goSet i at 0 body at regs st)
     carryOut (closes i slot next) at regs st = emitting step (goSet slot (getD regs i 0) at next at regs st)
     carryOut (branches body other) at regs st = emitting step (go body at regs (explore other at ∷ st))

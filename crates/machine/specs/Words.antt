@@ -2,12 +2,9 @@
 use mathlib.Core.Path.{_≡_}
 use mathlib.Core.Logic.{_⊎_}
 use mathlib.Core.List.{List, [], _∷_}
-use mathlib.Core.Bool.{Bool, true, false, _&&_}
+use mathlib.Core.Bool.{Bool, true, false}
 use Prim.Native.Nat.{ℕ, zero, suc, _+_, _*_, _≤_, _<_}
 use lib.ListN.{length, getD}
-use lib.Dec.{ltb, leb}
-use Rattle.syntax.specs.Limits.{unset}
-use Rattle.semantics.specs.Items.{sameAt}
 use Rattle.machine.specs.declared.Machine.{Machine}
 use Rattle.machine.specs.Code.{repeatAt, decodeAs}
 use Rattle.machine.specs.Moves.{Frame, explore, again, undo, stretch, Stack, Configuration, Now, idle, busy, bytesOf, carryOut, move}
@@ -49,7 +46,3 @@ carried kind p sub regs work m = carryOut p sub (decodeAs kind p (m .pc)) (m .at
 -- k is how many bytes the run at pc takes; or it is fewer, and these take more steps than are left
 abbrev pub Measured : (p sub : List ℕ) → (pc at left k : ℕ) → Type 0
 Measured p sub pc at left k = (k ≡ bytesOf p sub (repeatAt p (pc + 2)) 0 at) ⊎ ((k ≤ bytesOf p sub (repeatAt p (pc + 2)) 0 at) × (left < 2 * k + 1))
-
--- whether a span from `from` on is set and its n bytes stand at a position too
-abbrev pub refers : List ℕ → (from n at : ℕ) → Bool
-refers sub from n at = ltb from unset && (leb (at + n) (length sub) && sameAt sub n from at)

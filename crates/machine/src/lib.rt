@@ -1,8 +1,8 @@
 // The machine that walks a compiled rule over a subject, and falls back on what is left to try: its model and the laws of it, in `specs`, and in
 // code where it stands and its stack. Crates above carry out the nodes.
 //
-// One node of the rule is one step of the walk, but for a run, which makes the steps of its rounds. A step pushes at most two frames of four
-// numbers, so that eight numbers a step are always room enough for the stack. Each change of a register is undone by a frame: when a walk has
+// One node of the rule is one step of the walk, but for a run, which makes the steps of its rounds, and a reference, which makes one more for each
+// byte that it compares. A step pushes at most two frames of four numbers, so that eight numbers a step are always room enough for the stack. Each change of a register is undone by a frame: when a walk has
 // ended the registers are as they were, and nothing is cleared between starts. Falling back costs no step: what it takes off, steps have pushed.
 //
 // No index is tested at run time, here or in the crates above: each is in range by what is required, and that follows from how the rule was
@@ -23,10 +23,12 @@ pub use stack::go_down;
 pub use stack::push;
 pub use stack::save_and_write;
 
-// The kinds of the nodes that several crates ask for: a byte item, a branch that is not the last, and a run.
+// The kinds of the nodes that several crates ask for: a byte item, a branch that is not the last, the rule's end, and a run.
 pub const BYTE: u32 = 0;
 
 pub const BRANCH: u32 = 5;
+
+pub const END: u32 = 9;
 
 pub const RUN: u32 = 10;
 
@@ -52,7 +54,8 @@ pub struct Walked {
     pub head: Machine,
 }
 
-// How a run of one byte set went: made, with the steps that it and the ends passed over took; or too long for the steps that are left.
+// How a node of several steps went, a run of one byte set or a reference: made, with the steps that it took, and those of the ends that a run passed
+// over; or too long for the steps that are left.
 pub enum Ran {
     Made(u32, Machine),
     TooLong,

@@ -36,13 +36,15 @@ unfoldable pub compared : List ℕ → ℕ → ℕ → ℕ → ℕ
 compared sub zero a b = 0
 compared sub (suc n) a b = if ltb b (length sub) then suc (if eqb (byte sub a) (byte sub b) then compared sub n (suc a) (suc b) else 0) else 0
 
--- the steps that trying an item costs beside its own: "an unset group costs 1"
+-- what a reference to the bytes from start to stop pays for them: "an unset group costs 1", its own step alone
+unfoldable pub paidFor : List ℕ → (start stop at : ℕ) → ℕ
+paidFor sub start stop at = if ltb start unset then compared sub (stop - start) start at else 0
+
+-- the steps that trying an item costs beside its own
 unfoldable pub toll : List ℕ → Item → State → ℕ
 toll sub (byteIn c) s = 0
 toll sub (assert a) s = 0
-toll sub (reference group) s =
-    let start = getD (s .spans) (slot group) unset in
-    if ltb start unset then compared sub (getD (s .spans) (slot group + 1) unset - start) start (s .at) else 0
+toll sub (reference group) s = paidFor sub (getD (s .spans) (slot group) unset) (getD (s .spans) (slot group + 1) unset) (s .at)
 
 unfoldable pub try : List ℕ → Item → State → Tried
 -- "a byte item takes the next byte, which must be in its set"

@@ -11,7 +11,7 @@ use Rattle.charset.specs.Class.{has}
 use Rattle.semantics.specs.States.{moved}
 use Rattle.semantics.specs.Walk.{step, miss}
 use Rattle.machine.specs.Code.{Program}
-use Rattle.machine.specs.Moves.{explore, Stack, Configuration, Now, busy, Move, emitting, state, go, takes, fall, tried, carryOut, move}
+use Rattle.machine.specs.Moves.{explore, Stack, Configuration, Now, busy, Move, emitting, paid, state, go, price, takes, fall, tried, carryOut, move}
 use Rattle.machine.specs.Ready.{Leads, onward}
 use Rattle.machine.specs.Laws.Code.{decode-at}
 use Rattle.machine.specs.Laws.Extent.{tested-none, tested-one}
@@ -30,11 +30,11 @@ module _ (p : Program) (sub : List ℕ) where
 
     module _ (is : getD p pc 0 ≡ 0) where
       pub move-miss : takes sub (has (drop (pc + 3) p)) at ≡ false → move p sub here ≡ emitting (miss (getD p (pc + 2) 0) at) (fall p regs st)
-      unfolding move carryOut tried
+      unfolding move carryOut price paid tried
       move-miss e = rw (decode-at p pc 0 is, tested-none sub (has (drop (pc + 3) p)) (state at regs) e)
 
       move-hit : takes sub (has (drop (pc + 3) p)) at ≡ true → move p sub here ≡ emitting step (go (getD p (pc + 1) 0) (at + 1) regs st)
-      unfolding move carryOut tried moved
+      unfolding move carryOut price paid tried moved
       move-hit e = rw (decode-at p pc 0 is, tested-one sub (has (drop (pc + 3) p)) (state at regs) e, add-one at)
 
   module _ {from : Now} {n : ℕ} (pc at : ℕ) (regs : List ℕ) (st : Stack) (is : getD p pc 0 ≡ 5) (l : Leads p sub from n (go pc at regs st)) where

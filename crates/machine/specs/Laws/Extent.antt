@@ -16,9 +16,9 @@ use Rattle.syntax.specs.Sets.{Class, inClass}
 use Rattle.syntax.specs.Tree.{byteIn, item}
 use Rattle.syntax.specs.WellFormed.{BoundsFit}
 use Rattle.semantics.specs.States.{again, goOn, State, chose, moved}
-use Rattle.semantics.specs.Items.{fails, goes, when, try}
+use Rattle.semantics.specs.Items.{fails, goes, when, toll, try}
 use Rattle.semantics.specs.Repeats.{isFull, allowed, decision}
-use Rattle.semantics.specs.Walk.{step, miss, Trace, Go, _▹_, done, tried, decide, rounds, walk}
+use Rattle.semantics.specs.Walk.{step, miss, Trace, Go, _▹_, done, tried, paying, decide, rounds, walk}
 use Rattle.semantics.specs.Laws.Traces.{bind-append, bind-done}
 use Rattle.machine.specs.Code.{inSet}
 use Rattle.machine.specs.Moves.{Bytes, tested, takes, oneMore, extent, allowance}
@@ -134,11 +134,11 @@ module _ (sub : List ℕ) (bytes : Bytes sub) (c : Class) (f : ℕ → Bool) (sa
 
   module _ (place : ℕ) (R k : Go) (t : State) where
     body-hit : takes sub f (t .at) ≡ true → (walk sub (item place (byteIn c)) t ▹ R) ▹ k ≡ step ∷ (R (moved (suc (t .at)) t) ▹ k)
-    unfolding walk tried when done _▹_
+    unfolding walk toll paying tried when done _▹_
     body-hit e = rw (try-as t, e, append-nil (R (moved (suc (t .at)) t)))
 
     body-miss : takes sub f (t .at) ≡ false → (walk sub (item place (byteIn c)) t ▹ R) ▹ k ≡ miss place (t .at) ∷ []
-    unfolding walk tried when _▹_
+    unfolding walk toll paying tried when _▹_
     body-miss e = rw (try-as t, e)
 
   module _ (place least : ℕ) (most : Most) (k : Go) (fuel n : ℕ) (s : State) where

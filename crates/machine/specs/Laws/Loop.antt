@@ -16,10 +16,10 @@ use Rattle.semantics.specs.Repeats.{isFull}
 use Rattle.semantics.specs.Walk.{Event, step, miss, end, Trace}
 use Rattle.semantics.specs.Laws.Loops.{Quiet}
 use Rattle.machine.specs.declared.Machine.{Machine}
-use Rattle.machine.specs.Code.{Program, Repeat, Instruction, ends, repeatAt, decodeAs, decode, Fits}
-use Rattle.machine.specs.Moves.{Stack, Configuration, Now, idle, busy, Move, emitting, state, shown, strides, stopped, fall, tried, ran, bytesOf, carryOut, move, Emits}
+use Rattle.machine.specs.Code.{Program, sameAs, Repeat, repeatAt, decodeAs, decode, FitsAs, Fits}
+use Rattle.machine.specs.Moves.{Stack, Configuration, Now, idle, busy, Move, emitting, paid, state, shown, tested, price, strides, stopped, fall, tried, ran, bytesOf, carryOut, move, Emits}
 use Rattle.machine.specs.Words.{stackOf, configurationOf, nowOf}
-use Rattle.machine.specs.Ready.{ended, nothing, spent, until, Leads, stay, onward, along, StackFits, Ready}
+use Rattle.machine.specs.Ready.{ended, nothing, spent, until, Several, Leads, stay, onward, along, StackFits, Ready}
 use Rattle.machine.specs.Laws.Stack.{length-stackOf, fall-leaves, move-leaves}
 
 clash : _≡_ {A = ℕ} 0 1 → ⊥
@@ -145,18 +145,18 @@ module _ (p : Program) (sub : List ℕ) where
   quiet-tried (goes u) place next at regs st = record { no-end = tt; single = refl }
   quiet-tried fails place next at regs st = record { no-end = tt; single = refl }
 
-  quiet : (n pc at : ℕ) (regs : List ℕ) (st : Stack) → n ≤ 8 → Single (carryOut p sub (decodeAs n p pc) at regs st)
-  unfolding carryOut
-  quiet zero pc at regs st h = quiet-tried _ _ _ at regs st
-  quiet (suc zero) pc at regs st h = quiet-tried _ _ _ at regs st
-  quiet (suc (suc zero)) pc at regs st h = quiet-tried _ _ _ at regs st
-  quiet (suc (suc (suc zero))) pc at regs st h = record { no-end = tt; single = refl }
-  quiet (suc (suc (suc (suc zero)))) pc at regs st h = record { no-end = tt; single = refl }
-  quiet (suc (suc (suc (suc (suc zero))))) pc at regs st h = record { no-end = tt; single = refl }
-  quiet (suc (suc (suc (suc (suc (suc zero)))))) pc at regs st h = record { no-end = tt; single = refl }
-  quiet (suc (suc (suc (suc (suc (suc (suc zero))))))) pc at regs st h = record { no-end = tt; single = refl }
-  quiet (suc (suc (suc (suc (suc (suc (suc (suc zero)))))))) pc at regs st h = record { no-end = tt; single = refl }
-  quiet (suc (suc (suc (suc (suc (suc (suc (suc (suc n))))))))) pc at regs st h = absurd (omega arith)
+  quiet : (n pc at : ℕ) (regs : List ℕ) (st : Stack) → n ≤ 8 → FitsAs n p pc → Single (carryOut p sub (decodeAs n p pc) at regs st)
+  unfolding carryOut price paid
+  quiet zero pc at regs st h f = quiet-tried _ _ _ at regs st
+  quiet (suc zero) pc at regs st h f = quiet-tried _ _ _ at regs st
+  quiet (suc (suc zero)) pc at regs st h f = absurd f
+  quiet (suc (suc (suc zero))) pc at regs st h f = record { no-end = tt; single = refl }
+  quiet (suc (suc (suc (suc zero)))) pc at regs st h f = record { no-end = tt; single = refl }
+  quiet (suc (suc (suc (suc (suc zero))))) pc at regs st h f = record { no-end = tt; single = refl }
+  quiet (suc (suc (suc (suc (suc (suc zero)))))) pc at regs st h f = record { no-end = tt; single = refl }
+  quiet (suc (suc (suc (suc (suc (suc (suc zero))))))) pc at regs st h f = record { no-end = tt; single = refl }
+  quiet (suc (suc (suc (suc (suc (suc (suc (suc zero)))))))) pc at regs st h f = record { no-end = tt; single = refl }
+  quiet (suc (suc (suc (suc (suc (suc (suc (suc (suc n))))))))) pc at regs st h f = absurd (omega arith)
 
   quiet-strides : (k : ℕ) (t : Trace) → Quiet t → Quiet (strides k t)
   unfolding strides
@@ -177,30 +177,31 @@ module _ (p : Program) (sub : List ℕ) where
   unfolding move decode carryOut
   move-run c e = rw e
 
-  quiet-run : (c : Configuration) → getD p (c .pc) 0 ≡ 10 → Quiet (move p sub c .first ∷ move p sub c .more)
-  quiet-run c e = rw (move-run c e) (quiet-ran (repeatAt p (c .pc + 2)) (bytesOf p sub (repeatAt p (c .pc + 2)) 0 (c .at)) (c .at) (c .regs) (c .stack))
+  quiet-paid : (n : ℕ) (m : Move) → Quiet (m .first ∷ m .more) → Quiet (paid n m .first ∷ paid n m .more)
+  unfolding paid
+  quiet-paid zero m q = q
+  quiet-paid (suc n) m q = quiet-paid n m q
 
-  decode-end : (n pc : ℕ) → 8 < n → (n ≡ 10 → ⊥) → decodeAs n p pc ≡ ends
-  decode-end zero pc h x = absurd (omega arith)
-  decode-end (suc zero) pc h x = absurd (omega arith)
-  decode-end (suc (suc zero)) pc h x = absurd (omega arith)
-  decode-end (suc (suc (suc zero))) pc h x = absurd (omega arith)
-  decode-end (suc (suc (suc (suc zero)))) pc h x = absurd (omega arith)
-  decode-end (suc (suc (suc (suc (suc zero))))) pc h x = absurd (omega arith)
-  decode-end (suc (suc (suc (suc (suc (suc zero)))))) pc h x = absurd (omega arith)
-  decode-end (suc (suc (suc (suc (suc (suc (suc zero))))))) pc h x = absurd (omega arith)
-  decode-end (suc (suc (suc (suc (suc (suc (suc (suc zero)))))))) pc h x = absurd (omega arith)
-  decode-end (suc (suc (suc (suc (suc (suc (suc (suc (suc zero))))))))) pc h x = refl
-  decode-end (suc (suc (suc (suc (suc (suc (suc (suc (suc (suc zero)))))))))) pc h x = absurd (x refl)
-  decode-end (suc (suc (suc (suc (suc (suc (suc (suc (suc (suc (suc n))))))))))) pc h x = refl
+  -- a reference's move
+  pub move-reference : (c : Configuration) → getD p (c .pc) 0 ≡ 11
+      → move p sub c ≡ paid (price sub (sameAs (getD p (c .pc + 3) 0)) (state (c .at) (c .regs))) (tried p (tested sub (sameAs (getD p (c .pc + 3) 0)) (state (c .at) (c .regs))) (getD p (c .pc + 2) 0) (getD p (c .pc + 1) 0) (c .at) (c .regs) (c .stack))
+  unfolding move decode carryOut
+  move-reference c e = rw e
+
+  quiet-several : (c : Configuration) → Several (getD p (c .pc) 0) → Quiet (move p sub c .first ∷ move p sub c .more)
+  quiet-several c (inl e) = rw (move-run c e) (quiet-ran (repeatAt p (c .pc + 2)) (bytesOf p sub (repeatAt p (c .pc + 2)) 0 (c .at)) (c .at) (c .regs) (c .stack))
+  quiet-several c (inr e) = rw (move-reference c e) (quiet-paid _ _ (quiet-tried _ _ _ (c .at) (c .regs) (c .stack) .no-end))
 
   -- Nodes in a row ---------------------------------------------------------------------
 
-  pub leads-run : (c : Configuration) (m : Move) → getD p (c .pc) 0 ≡ 10 → move p sub c ≡ m → Leads p sub (busy c) (suc (length (m .more))) (m .after)
-  leads-run c m is e =
+  pub leads-several : (c : Configuration) (m : Move) → Several (getD p (c .pc) 0) → move p sub c ≡ m → Leads p sub (busy c) (suc (length (m .more))) (m .after)
+  leads-several c m is e =
       let l : Leads p sub (busy c) (0 + suc (length (move p sub c .more))) (move p sub c .after) = along stay is in
       let z : 0 + suc (length (m .more)) ≡ suc (length (m .more)) = omega arith in
       rw (e, z) at l
+
+  pub leads-run : (c : Configuration) (m : Move) → getD p (c .pc) 0 ≡ 10 → move p sub c ≡ m → Leads p sub (busy c) (suc (length (m .more))) (m .after)
+  leads-run c m is e = leads-several c m (inl is) e
 
   pub leads-join : {a b c : Now} {n k : ℕ} → Leads p sub a n b → Leads p sub b k c → Leads p sub a (n + k) c
   leads-join {n = n} l stay = let z : n + 0 ≡ n = omega arith in rw z l
@@ -260,7 +261,7 @@ module _ (p : Program) (sub : List ℕ) where
       -- a node that is no end
       pub running-on : used < budget → getD p (c .pc) 0 ≤ 8 → Running (used + 1) (move p sub c .after)
       running-on h k =
-          let q : Single (move p sub c) = unfold move decode in quiet (getD p (c .pc) 0) (c .pc) (c .at) (c .regs) (c .stack) k in
+          let q : Single (move p sub c) = unfold move decode in quiet (getD p (c .pc) 0) (c .pc) (c .at) (c .regs) (c .stack) k (fits-now c (g .rest) (g .ready .emits) .node) in
           rw (q .single) at (running-run (q .no-end) (omega (arith, q .single)))
 
       -- an end
@@ -275,12 +276,12 @@ module _ (p : Program) (sub : List ℕ) where
       at-end : (s : State) → _≡_ {A = Event} (end (state (c .at) (c .regs))) (shown (end s)) → state (c .at) (c .regs) ≡ record { at = s .at; spans = s .spans; path = [] }
       at-end s e = cc
 
-      pub running-end : used < budget → 8 < getD p (c .pc) 0 → (getD p (c .pc) 0 ≡ 10 → ⊥) → Ended
+      pub running-end : used < budget → getD p (c .pc) 0 ≡ 9 → Ended
       unfolding Emits move decode carryOut until
-      running-end h k k′ = f (g .rest) (g .ready .emits) (g .same)
+      running-end h k = f (g .rest) (g .ready .emits) (g .same)
         where
           m : move p sub c ≡ emitting (end (state (c .at) (c .regs))) (fall p (c .regs) (c .stack))
-          m = ap (λ (j : Instruction). carryOut p sub j (c .at) (c .regs) (c .stack)) (decode-end (getD p (c .pc) 0) (c .pc) k k′)
+          m = rw k
 
           f : (v : Trace) → Emits p sub [] (busy c) v → until (budget - used) used v ≡ until budget 0 t₀ → Ended
           f [] x y = absurd x
@@ -307,7 +308,7 @@ module _ (p : Program) (sub : List ℕ) where
         rw z (running-on (used + k) c (running-led used k now (busy c) l (omega arith) g) (omega arith) e)
     running-led used n now there (along {n = k} {c = c} l e) h g =
         let z : used + (k + suc (length (move p sub c .more))) ≡ used + k + suc (length (move p sub c .more)) = omega arith in
-        rw z (running-run (used + k) c (running-led used k now (busy c) l (omega arith) g) (quiet-run c e) (omega arith))
+        rw z (running-run (used + k) c (running-led used k now (busy c) l (omega arith) g) (quiet-several c e) (omega arith))
 
     -- the budget ends among them
     pub running-led-cut : (used n : ℕ) (now there : Now) → Leads p sub now n there → used ≤ budget → budget < used + n → Running used now → until budget 0 t₀ ≡ spent
@@ -315,7 +316,7 @@ module _ (p : Program) (sub : List ℕ) where
     running-led-cut used n now there (onward {n = k} {c = c} l e) b h g =
         ⊎-elim (λ x. running-led-cut used k now (busy c) l b x g) (λ x. running-out (used + k) c (running-led used k now (busy c) l x g) (omega arith)) (before-or budget (used + k))
     running-led-cut used n now there (along {n = k} {c = c} l e) b h g =
-        ⊎-elim (λ x. running-led-cut used k now (busy c) l b x g) (λ x. running-cut (used + k) c (running-led used k now (busy c) l x g) (quiet-run c e) x (omega arith)) (before-or budget (used + k))
+        ⊎-elim (λ x. running-led-cut used k now (busy c) l b x g) (λ x. running-cut (used + k) c (running-led used k now (busy c) l x g) (quiet-several c e) x (omega arith)) (before-or budget (used + k))
 
     pub ready-led : {n : ℕ} {now there : Now} → Ready p sub room budget first now t₀ → Leads p sub now n there → n ≤ budget → Running n there
     ready-led {n} {now} {there} x l h = let z : 0 + n ≡ n = omega arith in rw z at (running-led 0 n now there l (omega arith) (running-start now x))

@@ -2,17 +2,17 @@
 use mathlib.Core.Path.{_≡_, refl, ap, sym, _∙_, subst}
 use mathlib.Core.List.{List, [], _∷_, _++_, map, append-assoc}
 use mathlib.Core.Bool.{Bool}
-use Prim.Native.Nat.{ℕ}
+use Prim.Native.Nat.{ℕ, zero, suc}
 use lib.ListN.{getD, take}
 use Rattle.syntax.specs.declared.Greed.the-variants.{Greedy, Lazy}
 use Rattle.syntax.specs.Limits.{spansLength}
 use Rattle.semantics.specs.States.{State}
 use Rattle.semantics.specs.Items.{fails, goes}
 use Rattle.semantics.specs.Repeats.{Next, round, leave, either, decision}
-use Rattle.semantics.specs.Walk.{Event, step, miss, end, Trace, done}
+use Rattle.semantics.specs.Walk.{Event, step, miss, end, Trace, done, paying}
 use Rattle.semantics.specs.Laws.Rounds.{Begins}
 use Rattle.machine.specs.Code.{Program, Test, Instruction, tests, opens, closes, branches, lastBranch, ends, repeatAt, decode, Fits}
-use Rattle.machine.specs.Moves.{explore, again, stretch, Stack, Now, Move, emitting, set2, saved, state, shown, go, begin, bump, tested, fall, decided, decides, tried, carryOut, move, Emits}
+use Rattle.machine.specs.Moves.{explore, again, stretch, Stack, Now, Move, emitting, paid, set2, saved, state, shown, go, begin, bump, tested, price, fall, decided, decides, tried, carryOut, move, Emits}
 use Rattle.machine.specs.Laws.Registers.{undo-set2}
 
 -- A way to read the walk of a part of the rule: `says` turns that walk's trace, with what is left to fall back to, into what the machine
@@ -52,6 +52,12 @@ pub fall-saved : (p : Program) (i a b : ℕ) (regs : List ℕ) (st : Stack) → 
 unfolding fall
 fall-saved p i a b regs st = ap (λ (x : List ℕ). fall p x st) (undo-set2 regs i a b)
 
+-- steps before the trace of a part
+pub says-paying : (W : Way) (n : ℕ) (t u : Trace) → W .says (paying n t ++ u) ≡ paying n (W .says (t ++ u))
+unfolding paying
+says-paying W zero t u = refl
+says-paying W (suc n) t u = W .on-step (paying n t ++ u) ∙ ap (λ (v : Trace). step ∷ v) (says-paying W n t u)
+
 module _ (p : Program) (sub : List ℕ) where
   -- a move that emits the events e ∷ es
   pending : (es : Trace) (after : Now) (t : Trace) → Emits p sub [] after t → Emits p sub (map shown es) after (es ++ t)
@@ -75,6 +81,12 @@ module _ (p : Program) (sub : List ℕ) where
       let y : move p sub (record { pc = pc; at = at; regs = regs; stack = st }) ≡ m = ap (λ (j : Instruction). carryOut p sub j at regs st) d ∙ x in
       (f, ap (λ (z : Move). z .first) y ∙ h .0, subst (λ (z : Move). Emits p sub (z .more) (z .after) t) (sym y) (h .1))
 
+  -- steps before what a move emits
+  emits-paid : (n : ℕ) (m : Move) (t : Trace) → Emits p sub (m .first ∷ m .more) (m .after) t → Emits p sub (paid n m .first ∷ paid n m .more) (paid n m .after) (paying n t)
+  unfolding Emits paid paying
+  emits-paid zero m t h = h
+  emits-paid (suc n) m t h = (refl, emits-paid n m t h)
+
   -- one event
   emit : (pc at : ℕ) (regs : List ℕ) (st : Stack) (i : Instruction) (e : Event) (after : Now) → decode p pc ≡ i → carryOut p sub i at regs st ≡ emitting (shown e) after → Fits p pc
       → (t : Trace) → Emits p sub [] after t → Emits p sub [] (go pc at regs st) (e ∷ t)
@@ -86,13 +98,18 @@ module _ (p : Program) (sub : List ℕ) where
     Run pc at regs t = (st : Stack) (u : Trace) → W .Base regs st → Emits p sub [] (fall p regs st) (W .says u) → Emits p sub [] (go pc at regs st) (W .says (t ++ u))
 
     module _ (pc at : ℕ) (regs : List ℕ) (f : Fits p pc) where
-      pub run-miss : (x : Test) (place next : ℕ) → decode p pc ≡ tests x place next → tested sub x (state at regs) ≡ fails → Run pc at regs (miss place at ∷ [])
-      unfolding Run carryOut tried
-      run-miss x place next d e st u o z = rw (W .on-miss) (emit pc at regs st _ (miss place at) _ d (rw e) f _ z)
+      pub run-miss : (x : Test) (place next : ℕ) → decode p pc ≡ tests x place next → tested sub x (state at regs) ≡ fails → Run pc at regs (paying (price sub x (state at regs)) (miss place at ∷ []))
+      unfolding Run Emits carryOut tried
+      run-miss x place next d e st u o z =
+          rw (says-paying W (price sub x (state at regs)) (miss place at ∷ []) u, W .on-miss)
+          (emit-pending pc at regs st _ (paid (price sub x (state at regs)) (emitting (miss place at) (fall p regs st))) d (rw e) f (paying (price sub x (state at regs)) (miss place at ∷ W .says u)) (emits-paid (price sub x (state at regs)) (emitting (miss place at) (fall p regs st)) (miss place at ∷ W .says u) (refl, z)))
 
-      pub run-hit : (x : Test) (place next : ℕ) (s : State) (t : Trace) → decode p pc ≡ tests x place next → tested sub x (state at regs) ≡ goes s → Run next (s .at) regs t → Run pc at regs (step ∷ t)
-      unfolding Run carryOut tried
-      run-hit x place next s t d e h st u o z = rw (W .on-step) (emit pc at regs st _ step _ d (rw e) f _ (h st u o z))
+      pub run-hit : (x : Test) (place next : ℕ) (s : State) (t : Trace) → decode p pc ≡ tests x place next → tested sub x (state at regs) ≡ goes s → Run next (s .at) regs t
+          → Run pc at regs (paying (price sub x (state at regs)) (step ∷ t))
+      unfolding Run Emits carryOut tried
+      run-hit x place next s t d e h st u o z =
+          rw (says-paying W (price sub x (state at regs)) (step ∷ t) u, W .on-step)
+          (emit-pending pc at regs st _ (paid (price sub x (state at regs)) (emitting step (go next (s .at) regs st))) d (rw e) f (paying (price sub x (state at regs)) (step ∷ W .says (t ++ u))) (emits-paid (price sub x (state at regs)) (emitting step (go next (s .at) regs st)) (step ∷ W .says (t ++ u)) (refl, h st u o z)))
 
       pub run-open : (i body : ℕ) (t : Trace) → decode p pc ≡ opens i body → Run body at (set2 regs i at 0) t → Run pc at regs (step ∷ t)
       unfolding Run carryOut

@@ -10,7 +10,7 @@ use Rattle.syntax.specs.declared.Greed.the-variants.{Greedy, Lazy}
 use Rattle.semantics.specs.Items.{Tried, fails, goes}
 use Rattle.semantics.specs.Repeats.{Next, round, leave, either}
 use Rattle.machine.specs.Code.{Program, Repeat, repeatAt, decodeAs, decode, RepeatFits, FitsAs, Fits}
-use Rattle.machine.specs.Moves.{explore, again, undo, stretch, Stack, Configuration, Now, set2, saved, go, begin, bump, descend, endsOf, fall, decided, decides, tried, ran, carryOut, move}
+use Rattle.machine.specs.Moves.{explore, again, undo, stretch, Stack, Configuration, Now, Move, paid, set2, saved, go, begin, bump, price, descend, endsOf, fall, decided, decides, tried, ran, carryOut, move}
 use Rattle.machine.specs.Words.{stackOf}
 use Rattle.machine.specs.Ready.{StackFits, frames, replay, origin}
 use Rattle.machine.specs.Laws.Code.{spans-in-registers}
@@ -29,6 +29,12 @@ pub record Leaves (p : Program) (n : ℕ) (first : List ℕ) (now : Now) : Type 
 
 leaves-more : {p : Program} {n m : ℕ} {first : List ℕ} {now : Now} → n ≤ m → Leaves p n first now → Leaves p m first now
 leaves-more h x = record { low = omega (arith, x .low); fits = x .fits; back = x .back }
+
+-- steps before a move change nothing of what it leaves
+pub paid-after : (n : ℕ) (m : Move) → paid n m .after ≡ m .after
+unfolding paid
+paid-after zero m = refl
+paid-after (suc n) m = paid-after n m
 
 module _ (p : Program) where
   replay-saved : (regs : List ℕ) (i a b : ℕ) (st : Stack) → replay (set2 regs i a b) (saved regs i ∷ st) ≡ replay regs st
@@ -75,10 +81,10 @@ module _ (p : Program) where
 
   module _ (sub : List ℕ) where
     carried-leaves : (n pc at : ℕ) (regs : List ℕ) (st : Stack) → FitsAs n p pc → StackFits p st → Leaves p (length st + 2) (replay regs st) (carryOut p sub (decodeAs n p pc) at regs st .after)
-    unfolding carryOut replay decides
+    unfolding carryOut price paid replay decides
     carried-leaves zero pc at regs st w f = tried-leaves _ _ _ at regs st f
     carried-leaves (suc zero) pc at regs st w f = tried-leaves _ _ _ at regs st f
-    carried-leaves (suc (suc zero)) pc at regs st w f = tried-leaves _ _ _ at regs st f
+    carried-leaves (suc (suc zero)) pc at regs st w f = absurd w
     carried-leaves (suc (suc (suc zero))) pc at regs st w f = record { low = omega arith; fits = (w .1, f); back = replay-saved regs _ at 0 st }
     carried-leaves (suc (suc (suc (suc zero)))) pc at regs st w f =
         record { low = omega arith; fits = (omega (arith, w .2, spans-in-registers), f); back = replay-saved regs (getD p (pc + 3) 0) (getD regs (getD p (pc + 2) 0) 0) at st }
@@ -88,7 +94,8 @@ module _ (p : Program) where
     carried-leaves (suc (suc (suc (suc (suc (suc (suc (suc zero)))))))) pc at regs st w f = decided-leaves _ (pc + 1) _ at regs st w f
     carried-leaves (suc (suc (suc (suc (suc (suc (suc (suc (suc zero))))))))) pc at regs st w f = leaves-more (omega arith) (fall-leaves regs st f)
     carried-leaves (suc (suc (suc (suc (suc (suc (suc (suc (suc (suc zero)))))))))) pc at regs st w f = ran-leaves _ _ at regs st f
-    carried-leaves (suc (suc (suc (suc (suc (suc (suc (suc (suc (suc (suc n))))))))))) pc at regs st w f = leaves-more (omega arith) (fall-leaves regs st f)
+    carried-leaves (suc (suc (suc (suc (suc (suc (suc (suc (suc (suc (suc zero))))))))))) pc at regs st w f = rw paid-after (tried-leaves _ _ _ at regs st f)
+    carried-leaves (suc (suc (suc (suc (suc (suc (suc (suc (suc (suc (suc (suc n)))))))))))) pc at regs st w f = absurd w
 
     pub move-leaves : (c : Configuration) → Fits p (c .pc) → StackFits p (c .stack) → Leaves p (length (c .stack) + 2) (replay (c .regs) (c .stack)) (move p sub c .after)
     unfolding move decode

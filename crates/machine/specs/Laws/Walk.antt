@@ -20,15 +20,15 @@ use Rattle.syntax.specs.Tree.{Item, byteIn, assert, reference, Rule, empty, ite
 use Rattle.syntax.specs.WellFormed.{BoundsFit}
 use Rattle.syntax.specs.Compiled.{RunOf, CompiledItem, Compiled, CompiledBranches}
 use Rattle.semantics.specs.States.{Choice, branch, again, goOn, State, chose, moved, closed}
-use Rattle.semantics.specs.Items.{Tried, fails, goes, when, refer, try}
+use Rattle.semantics.specs.Items.{Tried, fails, goes, when, refer, toll, try}
 use Rattle.semantics.specs.Repeats.{Next, round, leave, either, isFull, decision}
 use Rattle.semantics.specs.Derivations.{branchCount}
-use Rattle.semantics.specs.Walk.{step, Trace, Go, _▹_, done, tried, decide, rounds, enough, walk, walks}
+use Rattle.semantics.specs.Walk.{step, Trace, Go, _▹_, done, tried, paying, decide, rounds, enough, walk, walks}
 use Rattle.semantics.specs.Laws.Traces.{bind-append, bind-bind, bind-done, bind-end}
 use Rattle.semantics.specs.Laws.Right.{try-reach}
 use Rattle.semantics.specs.Laws.Rounds.{unlessIdle, left, fewer}
 use Rattle.machine.specs.Code.{Program, Test, inSet, holding, sameAs, Instruction, tests, opens, closes, branches, lastBranch, enters, loops, runs, repeatAt, decode, Fits}
-use Rattle.machine.specs.Moves.{Bytes, stretch, Stack, emitting, set2, state, go, tested, takes, extent, allowance, strides, stopped, descend, below, endsOf, fall, decides, ran, bytesOf, carryOut, Emits}
+use Rattle.machine.specs.Moves.{Bytes, stretch, Stack, emitting, set2, state, go, tested, price, takes, extent, allowance, strides, stopped, descend, below, endsOf, fall, decides, ran, bytesOf, carryOut, Emits}
 use Rattle.machine.specs.Laws.Code.{assertion-read, repeat-read, decode-at, fits}
 use Rattle.machine.specs.Laws.Registers.{length-set2, getD-set2, first-set2, second-set2, take-behind, take-within}
 use Rattle.machine.specs.Laws.Run.{Way, plain, join, emit-pending, Run, run-miss, run-hit, run-open, run-close, run-branch, run-last, run-decides, run-end}
@@ -116,12 +116,19 @@ module _ (p : Program) (sub : List ℕ) where
 
   -- Items, sequences, branches --------------------------------------------------
 
+  bind-paying : (n : ℕ) (es : Trace) (k : Go) → paying n es ▹ k ≡ paying n (es ▹ k)
+  unfolding paying _▹_
+  bind-paying zero es k = refl
+  bind-paying (suc n) es k = ap (λ (v : Trace). step ∷ v) (bind-paying n es k)
+
   carries-item : (place : ℕ) (i : Item) (x : Test) (pc next r : ℕ) → Fits p pc → decode p pc ≡ tests x place next
-      → ((s : State) (regs : List ℕ) → s .spans ≡ take spansLength regs → Agree s (try sub i s) (tested sub x (state (s .at) regs))) → Carries (walk sub (item place i)) pc next r
+      → ((s : State) (regs : List ℕ) → s .spans ≡ take spansLength regs → (toll sub i s ≡ price sub x (state (s .at) regs)) × Agree s (try sub i s) (tested sub x (state (s .at) regs))) → Carries (walk sub (item place i)) pc next r
   unfolding walk tried _▹_ done
-  carries-item place i x pc next r f d same W s regs k g h = by (try sub i s) (tested sub x (state (s .at) regs)) refl refl (same s regs (g .spans))
+  carries-item place i x pc next r f d same W s regs k g h =
+      let c = same s regs (g .spans) in
+      rw (bind-paying (toll sub i s) (tried place s (try sub i s)) k, c .0) (by (try sub i s) (tested sub x (state (s .at) regs)) refl refl (c .1))
     where
-      by : (y z : Tried) → try sub i s ≡ y → tested sub x (state (s .at) regs) ≡ z → Agree s y z → Run p sub W pc (s .at) regs (tried place s (try sub i s) ▹ k)
+      by : (y z : Tried) → try sub i s ≡ y → tested sub x (state (s .at) regs) ≡ z → Agree s y z → Run p sub W pc (s .at) regs (paying (price sub x (state (s .at) regs)) (tried place s (try sub i s) ▹ k))
       by fails fails e e′ a = rw e (run-miss p sub W pc (s .at) regs f x place next d e′)
       by fails (goes u) e e′ a = absurd a
       by (goes t) fails e e′ a = absurd a
@@ -359,13 +366,13 @@ module _ (p : Program) (sub : List ℕ) where
     items : (i : Item) (place pc next r : ℕ) → CompiledItem p lo hi i place pc next → Carries (walk sub (item place i)) pc next r
     items (byteIn c) place pc next r k =
         let o = k .node in
-        carries-item place (byteIn c) (inSet (has (drop (pc + 3) p))) pc next r (fits p pc 0 (o .is) (omega (arith, o .high)) (omega (arith, o .high))) (decode-at p pc 0 (o .is) ∙ rw (k .goes, k .origin)) (λ s regs _. agree-byte sub s regs bytes c _ (k .set))
+        carries-item place (byteIn c) (inSet (has (drop (pc + 3) p))) pc next r (fits p pc 0 (o .is) (omega (arith, o .high)) (omega (arith, o .high))) (decode-at p pc 0 (o .is) ∙ rw (k .goes, k .origin)) (λ s regs _. (unfold toll price in refl, agree-byte sub s regs bytes c _ (k .set)))
     items (assert a) place pc next r k =
         let o = k .node in
-        carries-item place (assert a) (holding a) pc next r (fits p pc 1 (o .is) (omega (arith, o .high)) (omega (arith, o .high))) (decode-at p pc 1 (o .is) ∙ rw (k .goes, k .origin, k .which, assertion-read a)) (λ s regs _. agree-assert sub s regs a)
+        carries-item place (assert a) (holding a) pc next r (fits p pc 1 (o .is) (omega (arith, o .high)) (omega (arith, o .high))) (decode-at p pc 1 (o .is) ∙ rw (k .goes, k .origin, k .which, assertion-read a)) (λ s regs _. (unfold toll price in refl, agree-assert sub s regs a))
     items (reference n) place pc next r k =
         let o = k .node in
-        carries-item place (reference n) (sameAs (slot n)) pc next r (fits p pc 2 (o .is) (omega (arith, o .high)) (omega (arith, o .high), rw (k .span) (k .fits))) (decode-at p pc 2 (o .is) ∙ rw (k .goes, k .origin, k .span)) (λ s regs e. agree-reference sub s regs n e)
+        carries-item place (reference n) (sameAs (slot n)) pc next r (fits p pc 11 (o .is) (omega (arith, o .high)) (omega (arith, o .high), rw (k .span) (k .fits))) (decode-at p pc 11 (o .is) ∙ rw (k .goes, k .origin, k .span)) (λ s regs e. (unfold toll price in rw e, agree-reference sub s regs n e))
 
     -- a group that does not capture and holds one part is repeated as that part
     same-repeat : (b : Rule) (place least : ℕ) (most : Most) (g : Greed) → _≡_ {A = Go} (walk sub (repeat place least most g b)) (walk sub (repeat place least most g (seq empty b)))
