@@ -1,20 +1,23 @@
-// The nodes that take a byte, test an assertion or a reference, open or close a group, or begin the last branch: one function for each kind.
+// The nodes that take a byte, test an assertion, open or close a group, begin the last branch, or are a reference: one function for each kind.
 //
 // A function carries its node out as the model does (`carried`), or falls back. It is one step, of the same cost whatever the subject; only a
-// reference looks at every byte of its span.
+// reference makes a step more for each byte that it looks at.
 use crate::assertions::assertion_holds;
+use crate::references::Compared;
+use crate::references::compare;
 use crate::references::span_length;
-use crate::references::stands_again;
 use machine::Machine;
+use machine::Ran;
 use machine::fall_back;
 use machine::save_and_write;
 ghost use mathlib.Core.Path.{_≡_};
 ghost use mathlib.Core.List.{List};
+ghost use mathlib.Core.Bool.{true};
 ghost use Prim.Native.Nat.{ℕ, _+_, _*_, _≤_, _<_, _^_};
 ghost use lib.ListN.{length, getD};
 ghost use Rattle.syntax.specs.Limits.{spansLength, registers};
 ghost use Rattle.machine.specs.Words.{stackOf, nowOf, carried};
-ghost use Rattle.machine.specs.Ready.{StackFits};
+ghost use Rattle.machine.specs.Ready.{RanBy, StackFits};
 
 mod assertions;
 mod references;
@@ -73,36 +76,6 @@ pub fn test_assertion(
     fall_back(code, regs, work, m.height)
 }
 
-// A reference.
-pub fn test_reference(
-    code: &[u32],
-    sub: &[u8],
-    regs: &mut [u32],
-    work: &mut [u32],
-    m: Machine,
-) -> Machine
-    requires { ⌜ (m .pc + 4 ≤ length (now code)) × (getD (now code) (m .pc + 3) 0 + 2 ≤ spansLength) × (spansLength ≤ length (now regs)) ⌝ }
-    requires { ⌜ (length (now sub) < 2 ^ 32) × (length (now regs) ≡ registers) × (4 * m .height ≤ length (now work)) ⌝ }
-    requires { ⌜ StackFits (now code) (stackOf (now work) (m .height)) ⌝ }
-    ensures { λ r. ⌜ nowOf (now (regs .exit)) (now (work .exit)) r ≡ carried 2 (now (code .entry)) (now (sub .entry)) (now (regs .entry)) (now (work .entry)) m ⌝ }
-{
-    let pc = m.pc as usize;
-    let next = code[pc + 1];
-    let slot = code[pc + 3] as usize;
-    let from = regs[slot];
-    let to = regs[slot + 1];
-    let n = span_length(from, to);
-    if stands_again(sub, from, n, m.at) {
-        return Machine {
-            pc: next,
-            at: m.at + n,
-            height: m.height,
-            live: true,
-        };
-    }
-    fall_back(code, regs, work, m.height)
-}
-
 // A group opens: where, is kept in its registers.
 pub fn open_group(code: &[u32], regs: &mut [u32], work: &mut [u32], m: Machine) -> Machine
     requires { ⌜ (m .pc + 3 ≤ length (now code)) × (getD (now code) (m .pc + 2) 0 + 2 ≤ length (now regs)) × (4 * m .height + 4 ≤ length (now work)) ⌝ }
@@ -151,5 +124,47 @@ pub fn begin_last_branch(code: &[u32], m: Machine) -> Machine
         at: m.at,
         height: m.height,
         live: true,
+    }
+}
+
+// A reference, if the steps that are left pay for the bytes that it compares: it goes on behind as many bytes as its span has, or falls back.
+pub fn take_reference(
+    code: &[u32],
+    sub: &[u8],
+    regs: &mut [u32],
+    work: &mut [u32],
+    m: Machine,
+    left: u32,
+) -> Ran
+    requires { ⌜ (getD (now code) (m .pc) 0 ≡ 11) × (m .live ≡ true) × (1 ≤ left) × (m .pc + 4 ≤ length (now code)) × (getD (now code) (m .pc + 3) 0 + 2 ≤ spansLength) × (spansLength ≤ length (now regs)) ⌝ }
+    requires { ⌜ (length (now sub) < 2 ^ 32) × (length (now regs) ≡ registers) × (4 * m .height ≤ length (now work)) ⌝ }
+    requires { ⌜ StackFits (now code) (stackOf (now work) (m .height)) ⌝ }
+    ensures { λ r. ⌜ RanBy (now (code .entry)) (now (sub .entry)) (nowOf (now (regs .entry)) (now (work .entry)) m) left (now (regs .exit)) (now (work .exit)) r ⌝ }
+{
+    let pc = m.pc as usize;
+    let slot = code[pc + 3] as usize;
+    let from = regs[slot];
+    let to = regs[slot + 1];
+    if from == semantics::unset_position() {
+        let fallen = fall_back(code, regs, work, m.height);
+        return Ran::Made(1, fallen);
+    }
+    let n = span_length(from, to);
+    match compare(sub, n, from, m.at, left) {
+        Compared::Same => {
+            let next = code[pc + 1];
+            let on = Machine {
+                pc: next,
+                at: m.at + n,
+                height: m.height,
+                live: true,
+            };
+            Ran::Made(1 + n, on)
+        }
+        Compared::Unlike(k) => {
+            let fallen = fall_back(code, regs, work, m.height);
+            Ran::Made(1 + k, fallen)
+        }
+        Compared::TooMany => Ran::TooLong,
     }
 }

@@ -1,28 +1,14 @@
 // The bytes of a span, compared with those at a position.
 use crate::assertions::byte_at;
+ghost use Prim.Native.Nat.{_-_, _≤_, min};
 ghost use mathlib.Core.Path.{_≡_};
-ghost use Prim.Native.Nat.{_-_};
-ghost use Rattle.semantics.specs.Items.{sameAt};
-ghost use Rattle.machine.specs.Words.{refers};
+ghost use Rattle.nodes.specs.Comparing.{ComparedAs};
 
-// Whether the `n` bytes at `a` are those at `b`.
-fn same_bytes(sub: &[u8], n: u32, a: u32, b: u32) -> bool
-    ensures { λ r. ⌜ r ≡ sameAt (now (sub .entry)) n a b ⌝ }
-{
-    let mut left = n;
-    let mut x = a as usize;
-    let mut y = b as usize;
-    while 0 < left {
-        let c = byte_at(sub, x);
-        let d = byte_at(sub, y);
-        if c != d {
-            return false;
-        }
-        left -= 1;
-        x += 1;
-        y += 1;
-    }
-    true
+// The same bytes; or others, or too few, after so many were compared; or more would have to be compared than there are steps for.
+pub enum Compared {
+    Same,
+    Unlike(u32),
+    TooMany,
 }
 
 // The length of a span.
@@ -35,16 +21,44 @@ pub fn span_length(from: u32, to: u32) -> u32
     0
 }
 
-// Whether a span is set and its `n` bytes, from `from` on, stand at `at` too.
-pub fn stands_again(sub: &[u8], from: u32, n: u32, at: u32) -> bool
-    ensures { λ r. ⌜ r ≡ refers (now (sub .entry)) from n at ⌝ }
+fn lesser(a: u32, b: u32) -> u32
+    ensures { λ r. ⌜ r ≡ min a b ⌝ }
 {
-    if from == semantics::unset_position() {
-        return false;
+    if a < b {
+        return a;
     }
-    let end = at as usize + n as usize;
+    b
+}
+
+// Compares the `n` bytes at `a` with those at `b`, up to the first that differ or the subject's end. It looks at no more of them than the steps that
+// are left pay for.
+pub fn compare(sub: &[u8], n: u32, a: u32, b: u32, left: u32) -> Compared
+    requires { ⌜ 1 ≤ left ⌝ }
+    ensures { λ r. ⌜ ComparedAs (now (sub .entry)) n a b left r ⌝ }
+{
+    let stop = lesser(n, left - 1);
+    let mut i: u32 = 0;
+    while i < stop {
+        let y = b as usize + i as usize;
+        if sub.len() <= y {
+            return Compared::Unlike(i);
+        }
+        let c = byte_at(sub, a as usize + i as usize);
+        let d = byte_at(sub, y);
+        if c != d {
+            return Compared::Unlike(i + 1);
+        }
+        i += 1;
+    }
+    let end = b as usize + i as usize;
+    if i < n {
+        if end < sub.len() {
+            return Compared::TooMany;
+        }
+        return Compared::Unlike(i);
+    }
     if sub.len() < end {
-        return false;
+        return Compared::Unlike(i);
     }
-    same_bytes(sub, n, from, at)
+    Compared::Same
 }

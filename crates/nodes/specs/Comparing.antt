@@ -1,0 +1,20 @@
+-- What comparing the bytes of a span with those at a position tells, within the steps that are left.
+use mathlib.Core.Path.{_≡_}
+use mathlib.Core.List.{List}
+use mathlib.Core.Bool.{Bool, true, false, _&&_}
+use Prim.Native.Nat.{ℕ, _+_, _≤_, _<_}
+use lib.ListN.{length}
+use lib.Dec.{leb}
+use Rattle.semantics.specs.Items.{sameAt, compared}
+use Rattle.nodes.specs.declared.references.Compared.{Compared}
+use Rattle.nodes.specs.declared.references.Compared.the-variants.{Same, Unlike, TooMany}
+
+-- whether the n bytes at a stand at b too
+abbrev pub standsAgain : List ℕ → (n a b : ℕ) → Bool
+standsAgain sub n a b = leb (b + n) (length sub) && sameAt sub n a b
+
+-- A reference has its own step besides, so that fewer bytes are paid for than there are steps left.
+abbrev pub ComparedAs : List ℕ → (n a b left : ℕ) → Compared → Type 0
+ComparedAs sub n a b left Same = (standsAgain sub n a b ≡ true) × (compared sub n a b ≡ n) × (n < left)
+ComparedAs sub n a b left (Unlike k) = (standsAgain sub n a b ≡ false) × (compared sub n a b ≡ k) × (k < left)
+ComparedAs sub n a b left TooMany = left ≤ compared sub n a b

@@ -1,0 +1,2 @@
+-- What comparing the bytes of a reference tells.
+pub mod Comparing
