@@ -1,4 +1,4 @@
--- One node as the code carries it out, and the invariant of the loop that walks over nodes until a run or an end. Assumes nothing.
+-- One node as the code carries it out, and the invariant of the loop that walks over nodes of one step. Assumes nothing.
 use mathlib.Core.Path.{_≡_, refl, ap, _∙_}
 use mathlib.Core.List.{List}
 use mathlib.Core.Bool.{true, false}

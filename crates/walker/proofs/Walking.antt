@@ -64,13 +64,13 @@ module _ {p sub regs₀ work₀ : List ℕ} {m₀ : Machine} {budget : ℕ} {reg
   }
 
   module _ (regs′ work′ : List ℕ) (r : Ran) (x : RanBy p sub (nowOf regs work m) rest regs′ work′ r) where
-    -- a run that the steps are not enough for
+    -- a run or a reference that the steps are not enough for
     pub walking-cut : r ≡ TooLong → Promised p sub regs₀ work₀ m₀ budget Spent regs′ work′
     walking-cut e first t y =
         let w : RanBy p sub (nowOf regs work m) rest regs′ work′ TooLong = rw e at x in
         rw (running-led-cut p sub (length work₀) budget first t (budget - rest) (w .0) _ (w .1) (w .3) (omega arith) (omega (arith, w .2, g .few)) (g .runs first t y)) outOfSteps
 
-    -- a run that is made
+    -- one that is made
     module _ (n : ℕ) (m′ : Machine) (e : r ≡ Made n m′) where
       pub made : RanBy p sub (nowOf regs work m) rest regs′ work′ (Made n m′)
       made = rw e at x
@@ -94,8 +94,8 @@ module _ {p sub regs₀ work₀ : List ℕ} {m₀ : Machine} {budget : ℕ} {reg
     pub walking-out : rest ≡ 0 → Promised p sub regs₀ work₀ m₀ budget Spent regs work
     walking-out h first t x = rw (running-out p sub (length work₀) budget first t (budget - rest) here (running first t x) (used-all budget rest h)) outOfSteps
 
-    pub walking-end : 0 < rest → 8 < getD p (m .pc) 0 → (getD p (m .pc) 0 ≡ 10 → ⊥) → Promised p sub regs₀ work₀ m₀ budget (End (budget - rest + 1) m) regs work
-    walking-end h k k′ first t x =
-        let e = running-end p sub (length work₀) budget first t (budget - rest) here (running first t x) (omega (arith, g .few)) k k′ in
+    pub walking-end : 0 < rest → getD p (m .pc) 0 ≡ 9 → Promised p sub regs₀ work₀ m₀ budget (End (budget - rest + 1) m) regs work
+    walking-end h k first t x =
+        let e = running-end p sub (length work₀) budget first t (budget - rest) here (running first t x) (omega (arith, g .few)) k in
         let x : Reached p sub (length work₀) budget first (budget - rest + 1) (e .met) (e .rest) m regs work = record { few = omega (arith, g .few); at = e .at; spans = e .spans; low = omega (arith, walking-low, g .few); fits = walking-stack; ready = e .ready } in
         rw (e .until-is) (atEnd {used = budget - rest + 1} {s = e .met} {rest = e .rest} {m = m} x)

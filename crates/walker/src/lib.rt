@@ -4,6 +4,7 @@
 // each step the machine is ready for all that are left. It costs what its nodes cost: nothing is looked up, copied or cleared between them.
 use branches::take_branch;
 use machine::BRANCH;
+use machine::END;
 use machine::Machine;
 use machine::RUN;
 use machine::Ran;
@@ -13,8 +14,8 @@ use nodes::begin_last_branch;
 use nodes::close_group;
 use nodes::open_group;
 use nodes::take_byte;
+use nodes::take_reference;
 use nodes::test_assertion;
-use nodes::test_reference;
 use repeats::end_round;
 use repeats::enter_repeat;
 use runs::take_run;
@@ -27,9 +28,9 @@ ghost use Rattle.syntax.specs.Limits.{registers};
 ghost use Rattle.semantics.specs.Walk.{Trace};
 ghost use Rattle.machine.specs.Code.{Fits};
 ghost use Rattle.machine.specs.Words.{stackOf, nowOf, movedOn};
-ghost use Rattle.machine.specs.Ready.{until, Leads, StackFits, Ready, Agrees};
+ghost use Rattle.machine.specs.Ready.{until, Several, Leads, RanBy, StackFits, Ready, Agrees};
 
-// One node that is no end, no run and no branch but the last; `kind` is its first number.
+// One node that is no end, no run, no reference and no branch but the last; `kind` is its first number.
 fn step(
     code: &[u32],
     sub: &[u8],
@@ -46,7 +47,6 @@ fn step(
     match kind {
         0 => take_byte(code, sub, regs, work, m),
         1 => test_assertion(code, sub, regs, work, m),
-        2 => test_reference(code, sub, regs, work, m),
         3 => open_group(code, regs, work, m),
         4 => close_group(code, regs, work, m),
         6 => begin_last_branch(code, m),
@@ -55,7 +55,7 @@ fn step(
     }
 }
 
-// One node that is no end and no run, or branches one after the other. What is used comes back beside the machine, and is counted in one place for
+// One node that makes one step and is no end, or branches one after the other. What is used comes back beside the machine, and is counted in one place for
 // all kinds: so the compiler makes one jump of the kind.
 fn advance(
     code: &[u32],
@@ -80,7 +80,7 @@ fn advance(
     }
 }
 
-// Walks on until it comes to a run or an end, the steps are used or nothing is left. It is a loop of its own, apart from runs and ends, so that
+// Walks on until it comes to a run, a reference or an end, the steps are used or nothing is left. It is a loop of its own, apart from these, so that
 // the compiler keeps in registers what each step needs. The steps are counted down, since one number is then enough, and the machine is made from
 // its fields, so that the bytes which only fill it up are not carried along.
 fn walk(
@@ -127,6 +127,27 @@ fn walk(
     }
 }
 
+// A run or a reference, which make several steps, if those that are left are enough.
+fn take_several(
+    code: &[u32],
+    sub: &[u8],
+    regs: &mut [u32],
+    work: &mut [u32],
+    kind: u32,
+    m: Machine,
+    left: u32,
+) -> Ran
+    requires { ⌜ (kind ≡ getD (now code) (m .pc) 0) × (m .live ≡ true) × (1 ≤ left) × (length (now regs) ≡ registers) × (length (now sub) < 2 ^ 32) × (length (now code) < 2 ^ 32) ⌝ }
+    requires { ⌜ Several kind ⌝ }
+    requires { ⌜ ((first : List ℕ) × (t : Trace) × Ready (now code) (now sub) (length (now work)) left first (nowOf (now regs) (now work) m) t) ⌝ }
+    ensures { λ r. ⌜ RanBy (now (code .entry)) (now (sub .entry)) (nowOf (now (regs .entry)) (now (work .entry)) m) left (now (regs .exit)) (now (work .exit)) r ⌝ }
+{
+    if kind == RUN {
+        return take_run(code, sub, regs, work, m, left);
+    }
+    take_reference(code, sub, regs, work, m, left)
+}
+
 // Walks on to the next end, within `budget` steps. To go on after an end, fall back and call again.
 pub fn run_to_end(
     code: &[u32],
@@ -155,10 +176,10 @@ pub fn run_to_end(
         let pc = head.pc as usize;
         let kind = code[pc];
         if 8 < kind {
-            if kind != RUN {
+            if kind == END {
                 return Stop::End(budget - rest + 1, head);
             }
-            let Ran::Made(n, made) = take_run(code, sub, regs, work, head, rest) else {
+            let Ran::Made(n, made) = take_several(code, sub, regs, work, kind, head, rest) else {
                 return Stop::Spent;
             };
             rest -= n;

@@ -1,9 +1,10 @@
 -- `run_to_end` meets its contract. The loop's invariant: the machine is ready for the steps that are left, and what it finds from here on is what
 -- it finds from the start. The measure is the steps that are left.
-use mathlib.Core.Path.{_∙_}
+use mathlib.Core.Path.{refl, _∙_}
 use native.Mathlib.Omega.{arith}
 use denote.Ref.{now}
 use borrow.Author.Needs.{needs}
+use Rattle.machine.specs.Laws.Code.{several}
 use Rattle.walker.proofs.Walking.{Walking, walking-start, walking-none, walking-fits, walking-ready, walking-out, walking-end, walking-on, walking-cut, made, walking-run}
 use Rattle.walker.proofs.run_to_end.Statement.{statement}
 use Rattle.walker.proofs.run_to_end.Tie as tie
@@ -50,14 +51,14 @@ same-length-4 : tie.Need-same-length-4 Inv-loop μ-loop
 same-length-4 c = c .before .before .before .before .before .before .loop .inv .wide
 
 returns-2 : tie.Need-returns-2 Inv-loop μ-loop
-returns-2 c = walking-end (c .before .before .before .before .before .before .loop .inv) (c .before .before .before .before .before .loop-test .taken) (omega (arith, c .before .before .before .before .if1 .left)) (c .before .if2 .taken) (c .if3 .taken)
+returns-2 c = walking-end (c .before .before .before .before .before .before .loop .inv) (c .before .before .before .before .before .loop-test .taken) (omega (arith, c .before .before .before .before .if1 .left)) (c .if3 .taken)
 
-take-run-requires : tie.Need-take-run-requires Inv-loop μ-loop
-take-run-requires c κs =
+take-several-requires : tie.Need-take-several-requires Inv-loop μ-loop
+take-several-requires c κs =
     let s = c .before .before .before .before .before .before .before .before .before .before .before .before .before in
     let g = c .before .before .before .before .before .before .before .before .loop .inv in
     let t = c .before .before .before .before .before .before .before .loop-test .taken in
-    ((c .before .before .if3 .left, t, omega (arith, c .before .before .before .before .before .before .if1 .left), s .pre .0 .1, s .pre .0 .2, g .size ∙ s .pre .0 .0), walking-ready g)
+    ((refl, t, omega (arith, c .before .before .before .before .before .before .if1 .left), g .size ∙ s .pre .0 .0, s .pre .0 .1, s .pre .0 .2), (several _ _ _ (walking-fits g t .node) (c .before .before .before .if2 .taken) (c .before .before .if3 .left), walking-ready g))
 
 enum-known-n : tie.Need-enum-known-n Inv-loop μ-loop
 enum-known-n c = search needs
@@ -66,26 +67,26 @@ enum-told : tie.Need-enum-told Inv-loop μ-loop
 enum-told c = search needs
 
 same-length-5 : tie.Need-same-length-5 Inv-loop μ-loop
-same-length-5 c = c .before .before .before .before .before .before .take-run .kept .1 .1 .0 ∙ c .before .before .before .before .before .before .before .before .before .before .before .before .before .before .before .loop .inv .size
+same-length-5 c = c .before .before .before .before .before .before .take-several .kept .1 .1 .0 ∙ c .before .before .before .before .before .before .before .before .before .before .before .before .before .before .before .loop .inv .size
 
 same-length-6 : tie.Need-same-length-6 Inv-loop μ-loop
-same-length-6 c = c .before .before .before .before .before .before .take-run .kept .1 .1 .1 .0 ∙ c .before .before .before .before .before .before .before .before .before .before .before .before .before .before .before .loop .inv .wide
+same-length-6 c = c .before .before .before .before .before .before .take-several .kept .1 .1 .1 .0 ∙ c .before .before .before .before .before .before .before .before .before .before .before .before .before .before .before .loop .inv .wide
 
 returns-3 : tie.Need-returns-3 Inv-loop μ-loop
-returns-3 c = walking-cut (c .before .before .before .before .before .before .before .before .before .before .before .before .before .before .before .loop .inv) _ _ _ (c .before .before .before .before .before .before .take-run .ensures) (c .enum-told .given .1)
+returns-3 c = walking-cut (c .before .before .before .before .before .before .before .before .before .before .before .before .before .before .before .loop .inv) _ _ _ (c .before .before .before .before .before .before .take-several .ensures) (c .enum-told .given .1)
 
 sub-rest : tie.Need-sub-rest Inv-loop μ-loop
-sub-rest c = made (c .before .before .before .before .before .before .before .before .before .before .before .before .before .before .before .before .loop .inv) _ _ _ (c .before .before .before .before .before .before .before .take-run .ensures) _ _ (c .before .n .given .1) .1
+sub-rest c = made (c .before .before .before .before .before .before .before .before .before .before .before .before .before .before .before .before .loop .inv) _ _ _ (c .before .before .before .before .before .before .before .take-several .ensures) _ _ (c .before .n .given .1) .1
 
 loop-less : tie.Need-loop-less Inv-loop μ-loop
 loop-less c =
-    let r = made (c .before .before .before .before .before .before .before .before .before .before .before .before .before .before .before .before .loop .inv) _ _ _ (c .before .before .before .before .before .before .before .take-run .ensures) _ _ (c .before .n .given .1) in
+    let r = made (c .before .before .before .before .before .before .before .before .before .before .before .before .before .before .before .before .loop .inv) _ _ _ (c .before .before .before .before .before .before .before .take-several .ensures) _ _ (c .before .n .given .1) in
     omega (arith, r .0, r .1)
 
 loop-again : tie.Need-loop-again Inv-loop μ-loop
 loop-again c =
-    let k = c .before .before .before .before .before .before .before .take-run .kept in
-    walking-run (c .before .before .before .before .before .before .before .before .before .before .before .before .before .before .before .before .loop .inv) _ _ _ (c .before .before .before .before .before .before .before .take-run .ensures) _ _ (c .before .n .given .1) (k .1 .1 .0) (k .1 .1 .1 .0)
+    let k = c .before .before .before .before .before .before .before .take-several .kept in
+    walking-run (c .before .before .before .before .before .before .before .before .before .before .before .before .before .before .before .before .loop .inv) _ _ _ (c .before .before .before .before .before .before .before .take-several .ensures) _ _ (c .before .n .given .1) (k .1 .1 .0) (k .1 .1 .1 .0)
 
 walk-requires : tie.Need-walk-requires Inv-loop μ-loop
 walk-requires c κs =
@@ -134,7 +135,7 @@ run-to-end-spec =
     same-length-3
     same-length-4
     returns-2
-    take-run-requires
+    take-several-requires
     enum-known-n
     enum-told
     same-length-5
