@@ -15,7 +15,7 @@ use Rattle.semantics.specs.Items.{fails, when}
 use Rattle.semantics.specs.Repeats.{isFull, allowed, decision}
 use Rattle.semantics.specs.Walk.{step, miss}
 use Rattle.machine.specs.Code.{pickMost, mostOf, greedOf, assertionOf, repeatAt, decodeAs}
-use Rattle.machine.specs.Moves.{explore, again, Stack, set2, saved, go, begin, bump, tested, takes, strides, stopped, descend, endsOf, fall, decided, decides, tried, ran, bytesOf, carryOut, move}
+use Rattle.machine.specs.Moves.{explore, again, Stack, set2, saved, go, begin, bump, tested, price, paid, takes, strides, stopped, descend, endsOf, fall, decided, decides, tried, ran, bytesOf, carryOut, move}
 use Rattle.machine.specs.Ready.{Leads}
 use Rattle.machine.specs.Laws.Code.{decode-at}
 use Rattle.machine.specs.Laws.Ends.{not-full, asks-byte, asks-run}
@@ -93,7 +93,7 @@ module _ (p : List ℕ) (pc : ℕ) where
   sees-byte is = gives-up (has (drop (pc + 3) p)) 1 (omega arith) (λ sub at regs st l x. asks-byte p sub pc is at regs st x)
 
   pub sees-text-start : getD p pc 0 ≡ 1 → getD p (pc + 3) 0 ≡ 0 → Reduces p pc nobody [] 1
-  unfolding carryOut tried tested holds when assertionOf
+  unfolding carryOut price paid tried tested holds when assertionOf
   sees-text-start is which = sees-leaf 1 is (omega arith) _ (λ sub at regs st l x. rw (which, ne-eqb at 0 (omega arith)))
 
   pub sees-open : getD p pc 0 ≡ 3 → Reduces p pc nobody (getD p (pc + 1) 0 ∷ []) 1
