@@ -216,9 +216,13 @@ class Walk:
             return
         if y=='ref':
             s.step()
-            if t[2] in caps:
-                a,b=caps[t[2]]; w=s.sub[a:b]
-                if s.sub[i:i+len(w)]==w: k(i+len(w),caps)
+            if t[2] not in caps: return
+            a,b=caps[t[2]]
+            while a<b and i<len(s.sub):
+                s.step()
+                if s.sub[a]!=s.sub[i]: return
+                a+=1; i+=1
+            if a==b: k(i,caps)
             return
         if y=='rep':
             _,p,lo,hi,lazy,body=t

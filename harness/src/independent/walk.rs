@@ -152,7 +152,7 @@ impl<'r> Walk<'r> {
             }
             Part::Reference(group) => {
                 self.step()?;
-                Ok(self.refer(*group, state))
+                self.refer(*group, state)
             }
             Part::Group(group) => {
                 if let Some(number) = group.number {
@@ -169,14 +169,19 @@ impl<'r> Walk<'r> {
         }
     }
 
-    /// "A reference needs its group set, and matches the same bytes".
-    fn refer(&self, group: usize, mut state: State<'r>) -> Tried<'r> {
-        let Some((from, to)) = state.spans[group] else { return Tried::Failed };
-        if !self.subject[state.at..].starts_with(&self.subject[from..to]) {
-            return Tried::Failed;
+    /// "A reference needs its group set, and matches the same bytes". Document 02: "1 step plus one for each byte compared, the first unequal byte
+    /// included; an unset group costs 1, and a subject too short costs 1 and the bytes compared up to its end".
+    fn refer(&mut self, group: usize, mut state: State<'r>) -> Result<Tried<'r>, NoStepLeft> {
+        let Some((from, to)) = state.spans[group] else { return Ok(Tried::Failed) };
+        for &byte in &self.subject[from..to] {
+            let Some(&here) = self.subject.get(state.at) else { return Ok(Tried::Failed) };
+            self.step()?;
+            if here != byte {
+                return Ok(Tried::Failed);
+            }
+            state.at += 1;
         }
-        state.at += to - from;
-        Tried::On(state)
+        Ok(Tried::On(state))
     }
 
     /// "below the minimum a round; at the maximum go on; if the minimum is reached and the last round took no bytes, go on; else both, a

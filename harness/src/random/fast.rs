@@ -1,5 +1,6 @@
 //! Random calls aimed at what a matcher may do otherwise than step by step, and then has to count as if it had not: a repeat over one byte item
-//! taken as one run, starts skipped because of their byte, branches passed over because of theirs, a listing's rows found again by an index.
+//! taken as one run, a reference's bytes compared at once, starts skipped because of their byte, branches passed over because of theirs, a listing's
+//! rows found again by an index.
 //! Most budgets are at an edge: the steps that the independent matcher counts for one start, or a few more or less.
 
 mod rules;

@@ -123,7 +123,7 @@ impl<'r> Maker<'r> {
 
     fn item(&mut self, depth: usize, begins: bool) {
         let group = if depth > 0 { 15 } else { 0 };
-        match self.rng.weighted(&[36, 32, group, group, 3, 3]) {
+        match self.rng.weighted(&[36, 32, group, group, 3, 8]) {
             0 => self.byte(),
             1 => self.run(),
             2 => self.group(depth, begins),
