@@ -39,7 +39,7 @@ until (suc left) used (end s ∷ t) = ended (suc used) s t
 abbrev pub Several : ℕ → Type 0
 Several kind = (kind ≡ 10) ⊎ (kind ≡ 11)
 
--- nodes, none of them an end, lead from here to there in n steps: a run and a reference take one for each of their events, any other node takes one
+-- nodes, none of them an end, lead from here to there in n steps: a run and a reference take one for each of their events, any other node one
 pub data Leads (p sub : List ℕ) (here : Now) : (n : ℕ) → (there : Now) → Type 0 where
   stay : Leads p sub here 0 here
   onward : {n : ℕ} {c : Configuration} → Leads p sub here n (busy c) → getD p (c .pc) 0 ≤ 8 → Leads p sub here (suc n) (move p sub c .after)
@@ -49,7 +49,8 @@ pub data Leads (p sub : List ℕ) (here : Now) : (n : ℕ) → (there : Now) →
 abbrev pub Overruns : (p sub : List ℕ) → (here : Now) → (left : ℕ) → Type 0
 Overruns p sub here left = (n : ℕ) × (there : Now) × (left < n) × Leads p sub here n there
 
--- How a run or a reference went: some of the steps that are left lead to where the machine stands, with these registers and this work area; or they are too few.
+-- How a run or a reference went: some of the steps that are left lead to where the machine stands, with these registers and this work area; or they
+-- are too few.
 abbrev pub RanBy : (p sub : List ℕ) → (here : Now) → (left : ℕ) → (regs work : List ℕ) → Ran → Type 0
 RanBy p sub here left regs work (Made n m) = (1 ≤ n) × (n ≤ left) × Leads p sub here n (nowOf regs work m)
 RanBy p sub here left regs work TooLong = Overruns p sub here left

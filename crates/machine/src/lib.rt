@@ -2,8 +2,9 @@
 // code where it stands and its stack. Crates above carry out the nodes.
 //
 // One node of the rule is one step of the walk, but for a run, which makes the steps of its rounds, and a reference, which makes one more for each
-// byte that it compares. A step pushes at most two frames of four numbers, so that eight numbers a step are always room enough for the stack. Each change of a register is undone by a frame: when a walk has
-// ended the registers are as they were, and nothing is cleared between starts. Falling back costs no step: what it takes off, steps have pushed.
+// byte that it compares. A step pushes at most two frames of four numbers, so that eight numbers a step are always room enough for the stack. Each
+// change of a register is undone by a frame: when a walk has ended the registers are as they were, and nothing is cleared between starts. Falling
+// back costs no step: what it takes off, steps have pushed.
 //
 // No index is tested at run time, here or in the crates above: each is in range by what is required, and that follows from how the rule was
 // compiled.

@@ -87,6 +87,14 @@ module _ (p : Program) (sub : List ℕ) where
   emits-paid zero m t h = h
   emits-paid (suc n) m t h = (refl, emits-paid n m t h)
 
+  -- a test, with its price
+  emit-tested : (pc at : ℕ) (regs : List ℕ) (st : Stack) (x : Test) (place next : ℕ) (e : Event) (after : Now) → decode p pc ≡ tests x place next
+      → tried p (tested sub x (state at regs)) place next at regs st ≡ emitting (shown e) after → Fits p pc → (t : Trace) → Emits p sub [] after t → Emits p sub [] (go pc at regs st) (paying (price sub x (state at regs)) (e ∷ t))
+  unfolding Emits carryOut
+  emit-tested pc at regs st x place next e after d y f t h =
+      let n = price sub x (state at regs) in
+      emit-pending pc at regs st (tests x place next) (paid n (emitting (shown e) after)) d (ap (λ (m : Move). paid n m) y) f (paying n (e ∷ t)) (emits-paid n (emitting (shown e) after) (e ∷ t) (refl, h))
+
   -- one event
   emit : (pc at : ℕ) (regs : List ℕ) (st : Stack) (i : Instruction) (e : Event) (after : Now) → decode p pc ≡ i → carryOut p sub i at regs st ≡ emitting (shown e) after → Fits p pc
       → (t : Trace) → Emits p sub [] after t → Emits p sub [] (go pc at regs st) (e ∷ t)
@@ -99,17 +107,13 @@ module _ (p : Program) (sub : List ℕ) where
 
     module _ (pc at : ℕ) (regs : List ℕ) (f : Fits p pc) where
       pub run-miss : (x : Test) (place next : ℕ) → decode p pc ≡ tests x place next → tested sub x (state at regs) ≡ fails → Run pc at regs (paying (price sub x (state at regs)) (miss place at ∷ []))
-      unfolding Run Emits carryOut tried
-      run-miss x place next d e st u o z =
-          rw (says-paying W (price sub x (state at regs)) (miss place at ∷ []) u, W .on-miss)
-          (emit-pending pc at regs st _ (paid (price sub x (state at regs)) (emitting (miss place at) (fall p regs st))) d (rw e) f (paying (price sub x (state at regs)) (miss place at ∷ W .says u)) (emits-paid (price sub x (state at regs)) (emitting (miss place at) (fall p regs st)) (miss place at ∷ W .says u) (refl, z)))
+      unfolding Run tried
+      run-miss x place next d e st u o z = rw (says-paying W (price sub x (state at regs)), W .on-miss) (emit-tested pc at regs st x place next (miss place at) _ d (rw e) f _ z)
 
       pub run-hit : (x : Test) (place next : ℕ) (s : State) (t : Trace) → decode p pc ≡ tests x place next → tested sub x (state at regs) ≡ goes s → Run next (s .at) regs t
           → Run pc at regs (paying (price sub x (state at regs)) (step ∷ t))
-      unfolding Run Emits carryOut tried
-      run-hit x place next s t d e h st u o z =
-          rw (says-paying W (price sub x (state at regs)) (step ∷ t) u, W .on-step)
-          (emit-pending pc at regs st _ (paid (price sub x (state at regs)) (emitting step (go next (s .at) regs st))) d (rw e) f (paying (price sub x (state at regs)) (step ∷ W .says (t ++ u))) (emits-paid (price sub x (state at regs)) (emitting step (go next (s .at) regs st)) (step ∷ W .says (t ++ u)) (refl, h st u o z)))
+      unfolding Run tried
+      run-hit x place next s t d e h st u o z = rw (says-paying W (price sub x (state at regs)), W .on-step) (emit-tested pc at regs st x place next step _ d (rw e) f _ (h st u o z))
 
       pub run-open : (i body : ℕ) (t : Trace) → decode p pc ≡ opens i body → Run body at (set2 regs i at 0) t → Run pc at regs (step ∷ t)
       unfolding Run carryOut

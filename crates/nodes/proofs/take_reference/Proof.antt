@@ -1,6 +1,6 @@
 -- `take_reference` meets its contract: the group is unset, or what comparing its bytes tells is where the reference leads, or that the steps are
 -- too few.
-use mathlib.Core.Path.{refl, _∙_}
+use mathlib.Core.Path.{_∙_}
 use native.Mathlib.Omega.{arith}
 use denote.Ref.{now}
 use Prim.Native.Nat.{_+_}

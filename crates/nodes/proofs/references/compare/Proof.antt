@@ -1,6 +1,6 @@
 -- `compare` meets its contract. The loop's invariant: the bytes before `i` are the same, so that what is left decides. The measure is how many
 -- bytes may still be compared.
-use mathlib.Core.Path.{_≡_, refl, sym, _∙_}
+use mathlib.Core.Path.{sym, _∙_}
 use Prim.Native.Nat.{_+_, _-_, _≤_, _<_}
 use native.Mathlib.Omega.{arith}
 use denote.Ref.{now}
