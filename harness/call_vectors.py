@@ -8,7 +8,7 @@ import sys
 from pathlib import Path
 
 import reference
-from walk_vectors import READINGS
+from walk_vectors import READINGS, within_references
 
 TARGET = Path(__file__).resolve().parent.parent / "crates" / "call_vectors"
 RULE_AREA, ROW = 16384, 66
@@ -53,6 +53,8 @@ def cases():
         for budget in (0, 1, 6, 7, 8):
             yield 0, rule, flags, subject, budget, (RULE_AREA, 16 * budget, ROW)
             yield 1, rule, flags, subject, budget, (RULE_AREA, 16 * budget, 2 * ROW)
+    for rule, flags, subject, _, budget in within_references():
+        yield budget % 2, rule, flags, subject, budget, (RULE_AREA, 16 * budget, ROW)
     for kind in (0, 1):
         for budget, work in ((MOST, 16 * MOST), (MOST, 16 * MOST - 1), (MOST + 1, 16 * MOST), (20000, 320000), (1000, 15999), (1000, 16000), (1000, 16001)):
             yield kind, b"a*", 0, b"aa", budget, (RULE_AREA, work, ROW)
@@ -91,6 +93,9 @@ def at_the_largest_budget(kind):
     yield most(b"(a*)*c", b"b" + b"a" * 20, 1)
     yield most(b"(?:a|a)*$", b"a" * 14 + b"b", 1)
     yield most(b"(?:(a*)*b|a*)", b"a" * 13, 1)
+    # a reference of 10,000 bytes: it begins after 20,084 steps and costs 10,001, two more are `$` and the rule's end
+    for budget in (20084, 20085, 30084, 30085, 30086, 30087):
+        yield kind, b"^((?:a{250}){40})\\1$", 0, b"a" * 20000, budget, (RULE_AREA, 16 * budget, ROW)
     # many ways to few readings, many readings with room for some, and with room for all
     yield most(b"(?:a*)*", b"a" * 20, 100)
     yield most(b"(a*)*", b"a" * 20, 100)

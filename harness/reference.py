@@ -217,13 +217,12 @@ class Walk:
         if y=='ref':
             s.step()
             if t[2] not in caps: return
-            a,b=caps[t[2]]
-            while a<b and i<len(s.sub):
+            a,b=caps[t[2]]; u=s.sub
+            for x in range(b-a):
+                if i+x==len(u): return # nothing is compared with what is not there
                 s.step()
-                if s.sub[a]!=s.sub[i]: return
-                a+=1; i+=1
-            if a==b: k(i,caps)
-            return
+                if u[a+x]!=u[i+x]: return
+            return k(i+b-a,caps)
         if y=='rep':
             _,p,lo,hi,lazy,body=t
             def decide(n,idle,i,caps):

@@ -24,7 +24,8 @@ READINGS = [
     (b"(a|ab)(c|bcd)(d*)", 0, b"abcd"), (b"x*", 0, b"aaa"), (b"(?:a?){3}a{3}", 0, b"aaa"), (b"(a+)(a+)(a+)", 0, b"aaaaa"), (b"[^a]", 0, b"\n"), (b"[\\x80-\\xff]", 0, b"\x80"), (b"\\x00", 0, b"\x00"),
     (b"(?:a{0,2}){0,2}", 0, b"aaaa"), (b"(a){2,}?", 0, b"aaaa"), (b"\\d+(?:,\\d{3})*", 0, b"1,500,000"), (b"(foo|foobar)(bar)?", 0, b"foobar"),
     (b"^(\\d+)\\h(\\d{3}) L$", 0, b"1\xa0500 L"), (b"[^\\H]|\\s", 0, b"\xa0"), (b"(\\v|[\\H])*", 0, b"\x85\xa0"), (b"[[:blank:]\\s\\w]", 0, b"\xa0\x85"), (b"a$", 2, b"a\x85"),
-    (b"(aa)\\1", 0, b"aaaa"), (b"(a)\\1", 0, b"ab"), (b"()\\1", 0, b""), (b"(abc)\\1", 0, b"abcxx"), (b"(ab)\\1", 0, b"aba"), (b"(a*)\\1\\1", 0, b"aaaaaaa"), (b"(a|ab)+?\\1$", 0, b"aabab"),
+    (b"(aa)\\1", 0, b"aaaa"), (b"()\\1", 0, b""), (b"(abc)\\1", 0, b"abcxx"), (b"(ab)\\1", 0, b"aba"), (b"(a)\\1", 0, b"ab"), (b"(?:(a+)\\1)+", 0, b"aaaa"),
+    (b"(a*)\\1\\1", 0, b"aaaaaaa"), (b"(a|ab)+?\\1$", 0, b"aabab"),
 ]
 ATOMS = ["a", "b", "c", ".", "^", "$", "\\b", "\\B", "\\A", "\\z", "\\Z", "\\d", "\\w", "[ab]", "[^a]", "[a-c]", "\\1", "\\2", "\\g-1", "\\n", "1", "\\N"]
 REPEATS = ["*", "+", "?", "*?", "+?", "??", "{2}", "{0,2}", "{1,}", "{1,2}?", "{0}"]
@@ -73,6 +74,7 @@ def cases():
         steps = told(rule, flags, subject, 0, 20000)[1]
         for budget in {0, steps - 1, steps, steps // 2} - {-1}:
             yield rule, flags, subject, 0, budget
+    yield from within_references()
     random.seed(1)
     made = 0
     while made < 250:
@@ -82,6 +84,14 @@ def cases():
         if len(lines) < 25:
             made += 1
             yield rule, flags, subject, start, budget
+
+
+def within_references():
+    """Budgets that end before a reference, at each of its bytes and behind it."""
+    for rule, subject, budgets in ((b"(aa)\\1", b"aaaa", range(4, 8)), (b"(a)\\1", b"ab", range(3, 6)), (b"(abc)\\1", b"abcax", range(5, 9)),
+                                   (b"(ab)\\1", b"aba", range(4, 7)), (b"(a*),\\1$", b"aaaaaaaa,aaaaaaaa", range(21, 33))):
+        for budget in budgets:
+            yield rule, 0, subject, 0, budget
 
 
 def main():

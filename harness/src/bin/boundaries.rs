@@ -1,5 +1,5 @@
 //! Calls at the limits of document 01: each of refusals 1 to 7 at its last good and first bad value, all of them together in their order,
-//! and subjects of 65,535 bytes.
+//! subjects of 65,535 bytes, and the greatest budget, also within a reference.
 
 use harness::case::{shown, Case};
 use harness::independent::Ending;
@@ -17,6 +17,7 @@ fn main() -> std::process::ExitCode {
         long_rules(&mut group, &mut lender, call);
         long_subjects(&mut group, &mut lender, call);
         greatest_budget(&mut group, &mut lender, call);
+        long_reference(&mut group, &mut lender, call);
         rooms(&mut group, &mut lender, call);
     }
     group.end("")
@@ -104,6 +105,16 @@ fn greatest_budget(group: &mut Group, lender: &mut Lender, call: Call) {
     }
     for rule in [&br"(a*)*b"[..], br"(?:a|aa)+$", br"(a|b|ab)*?c"] {
         judge(group, lender, &Case::new(call, rule, 0, &[b'a'; 40], 100_000, 5));
+    }
+}
+
+/// A reference of 26,662 bytes: budgets up to it, into it, up to its last byte and up to the rule's end.
+fn long_reference(group: &mut Group, lender: &mut Lender, call: Call) {
+    let run = |length| vec![b'a'; length];
+    let subject = [run(10_001), run(26_662), run(26_662)].join(&b',');
+    // The reference begins after 73,335 steps and takes 26,663; `$` and the rule's end have the last two of 100,000.
+    for budget in [73_335, 73_336, 73_337, 90_000, 99_997, 99_998, 99_999, 100_000] {
+        judge(group, lender, &Case::new(call, br"^a*,(a*),\1$", 0, &subject, budget, 1));
     }
 }
 

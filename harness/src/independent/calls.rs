@@ -68,9 +68,18 @@ pub fn answer(call: Call, inputs: &Inputs) -> Answer {
 /// The steps that a call takes at one start, where its budget allows for so many: those up to the first end in a match, and in a listing those
 /// of the whole walk.
 pub fn steps_at(call: Call, rule: &Rule, subject: &[u8], start: usize, budget: u64) -> u64 {
+    walked(call, rule, subject, start, budget).steps
+}
+
+/// The steps before and behind each reference that a call tries at one start.
+pub fn references_at(call: Call, rule: &Rule, subject: &[u8], start: usize, budget: u64) -> Vec<(u64, u64)> {
+    walked(call, rule, subject, start, budget).references
+}
+
+fn walked<'r>(call: Call, rule: &'r Rule, subject: &'r [u8], start: usize, budget: u64) -> Walk<'r> {
     let mut walk = Walk::new(rule, subject, start, budget);
     while matches!(walk.next_event(), Event::End(_)) && call == Call::List {}
-    walk.steps
+    walk
 }
 
 /// The first of refusals 1 to 7 that is due, "tested in this order".

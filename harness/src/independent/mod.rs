@@ -9,6 +9,6 @@ mod sets;
 pub mod tree;
 mod walk;
 
-pub use calls::{answer, steps_at, Answer, Ending, Inputs, Row, ROW_LENGTH, RULE_AREA, UNSET, WORK_PER_STEP};
+pub use calls::{answer, references_at, steps_at, Answer, Ending, Inputs, Row, ROW_LENGTH, RULE_AREA, UNSET, WORK_PER_STEP};
 pub use reader::{read, Refusal, FLAG_M, FLAG_S};
 pub use sets::ByteSet;

@@ -28,6 +28,8 @@ pub struct Walk<'r> {
     subject: &'r [u8],
     budget: u64,
     pub steps: u64,
+    /// The steps before and behind each reference tried, for budgets that end within one.
+    pub references: Vec<(u64, u64)>,
     /// Tries put off, the next one last.
     pending: Vec<State<'r>>,
 }
@@ -74,7 +76,7 @@ impl<'r> Walk<'r> {
     pub fn new(rule: &'r Rule, subject: &'r [u8], start: usize, budget: u64) -> Walk<'r> {
         let todo = push(Task::Branch(&rule.whole, 0), &None);
         let begin = State { at: start, spans: Rc::new(vec![None; rule.groups + 1]), todo };
-        Walk { subject, budget, steps: 0, pending: vec![begin] }
+        Walk { subject, budget, steps: 0, references: Vec::new(), pending: vec![begin] }
     }
 
     /// Goes on until the rule's end is reached, the budget is used or nothing is left.
@@ -151,8 +153,10 @@ impl<'r> Walk<'r> {
                 Ok(if holds(*place, self.subject, state.at) { Tried::On(state) } else { Tried::Failed })
             }
             Part::Reference(group) => {
-                self.step()?;
-                self.refer(*group, state)
+                let before = self.steps;
+                let tried = self.refer(*group, state);
+                self.references.push((before, self.steps));
+                tried
             }
             Part::Group(group) => {
                 if let Some(number) = group.number {
@@ -169,14 +173,16 @@ impl<'r> Walk<'r> {
         }
     }
 
-    /// "A reference needs its group set, and matches the same bytes". Document 02: "1 step plus one for each byte compared, the first unequal byte
-    /// included; an unset group costs 1, and a subject too short costs 1 and the bytes compared up to its end".
+    /// "A reference needs its group set, and matches the same bytes"; "A reference tried now costs 1 step plus one for each byte compared, the
+    /// first unequal byte included". The byte that a subject too short lacks is not compared.
     fn refer(&mut self, group: usize, mut state: State<'r>) -> Result<Tried<'r>, NoStepLeft> {
+        self.step()?;
         let Some((from, to)) = state.spans[group] else { return Ok(Tried::Failed) };
-        for &byte in &self.subject[from..to] {
-            let Some(&here) = self.subject.get(state.at) else { return Ok(Tried::Failed) };
+        let subject = self.subject;
+        for wanted in &subject[from..to] {
+            let Some(met) = subject.get(state.at) else { return Ok(Tried::Failed) };
             self.step()?;
-            if here != byte {
+            if met != wanted {
                 return Ok(Tried::Failed);
             }
             state.at += 1;

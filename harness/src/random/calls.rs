@@ -2,6 +2,7 @@
 
 use super::{damage, rules, subjects, Rng};
 use crate::case::Case;
+use crate::independent::tree::Rule;
 use crate::independent::{self, ROW_LENGTH, RULE_AREA, WORK_PER_STEP};
 use crate::raw::Call;
 
@@ -25,10 +26,23 @@ pub fn case(seed: u64, number: u64) -> Case {
         2 => subject = subject.iter().copied().cycle().take(rng.between(200, 3_000)).collect(),
         _ => {}
     }
-    let budget = budget(rng);
-    let (rule_area, work_area, result_area) = areas(rng, budget);
     let call = if rng.percent(50) { Call::Match } else { Call::List };
+    let budget = match &tree {
+        Some(tree) if rng.percent(50) => within_reference(rng, call, tree, &subject).unwrap_or_else(|| budget(rng)),
+        _ => budget(rng),
+    };
+    let (rule_area, work_area, result_area) = areas(rng, budget);
     Case { call, rule, flags, subject, budget, rule_area, work_area, result_area }
+}
+
+/// The steps up to a reference that the call tries, or to one of the bytes that it compares; none where no reference is tried. Many compare no
+/// byte, so that it is mostly the longest.
+fn within_reference(rng: &mut Rng, call: Call, rule: &Rule, subject: &[u8]) -> Option<u32> {
+    let start = if rng.percent(60) { 0 } else { rng.between(0, subject.len()) };
+    let tried = independent::references_at(call, rule, subject, start, 1_000);
+    let longest = tried.iter().max_by_key(|(before, behind)| behind - before)?;
+    let (before, behind) = *if rng.percent(75) { longest } else { rng.pick(&tried) };
+    Some((before + rng.number() % (behind - before + 2)) as u32)
 }
 
 fn budget(rng: &mut Rng) -> u32 {

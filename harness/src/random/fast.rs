@@ -1,7 +1,7 @@
 //! Random calls aimed at what a matcher may do otherwise than step by step, and then has to count as if it had not: a repeat over one byte item
-//! taken as one run, a reference's bytes compared at once, starts skipped because of their byte, branches passed over because of theirs, a listing's
-//! rows found again by an index.
-//! Most budgets are at an edge: the steps that the independent matcher counts for one start, or a few more or less.
+//! taken as one run, starts skipped because of their byte, branches passed over because of theirs, a listing's rows found again by an index, a
+//! reference's bytes compared in one go. Most budgets are at an edge: the steps that the independent matcher counts for one start, or up to or
+//! within one reference, or a few more or less.
 
 mod rules;
 mod subjects;
@@ -18,14 +18,26 @@ const MOST_STEPS: u64 = 20_000;
 /// Rows with which a listing is made in order to know how many it has.
 const ROWS_COUNTED: usize = 300;
 
+/// What a case is aimed at.
+#[derive(Clone, Copy, PartialEq, Eq)]
+enum Aim {
+    Beginnings,
+    ManyRows,
+    References,
+}
+
 /// The case of this seed and number.
 pub fn case(seed: u64, number: u64) -> Case {
     let rng = &mut Rng::new(seed ^ 0xFA57, number);
     let flags = *rng.pick(&[0, 0, 0, 1, 2, 2, 3]);
-    let many_rows = rng.percent(12);
-    let call = if many_rows || rng.percent(40) { Call::List } else { Call::Match };
-    let (rule, tree) = sound_rule(rng, flags, many_rows);
-    let mut subject = if many_rows { subjects::alike(rng) } else { subjects::subject(rng, &tree) };
+    let aim = [Aim::Beginnings, Aim::ManyRows, Aim::References][rng.weighted(&[74, 12, 14])];
+    let call = if aim == Aim::ManyRows || rng.percent(40) { Call::List } else { Call::Match };
+    let (rule, tree) = sound_rule(rng, flags, aim);
+    let mut subject = match aim {
+        Aim::Beginnings => subjects::subject(rng, &tree),
+        Aim::ManyRows => subjects::alike(rng),
+        Aim::References => subjects::again(rng, &tree),
+    };
     let walk = Starts { call, rule: &tree, subject: &subject }.steps_at_any(rng);
     subject.drain(..subject.len().saturating_sub((MOST_STEPS / walk.max(1)) as usize));
     let budget = budget(rng, &Starts { call, rule: &tree, subject: &subject });
@@ -38,12 +50,16 @@ pub fn case(seed: u64, number: u64) -> Case {
 }
 
 /// A rule that is refused is not walked at all, and another one is made; that is seldom, with more than 32 groups. Most of those that can take no
-/// bytes are passed by, too, unless they are for many rows: they match at the first start.
-fn sound_rule(rng: &mut Rng, flags: u32, many_rows: bool) -> (Vec<u8>, Rule) {
+/// bytes are passed by, too, unless they are for many rows or for references: they match at the first start.
+fn sound_rule(rng: &mut Rng, flags: u32, aim: Aim) -> (Vec<u8>, Rule) {
     loop {
-        let rule = if many_rows { rules::many_readings(rng) } else { rules::rule(rng) };
+        let rule = match aim {
+            Aim::Beginnings => rules::rule(rng),
+            Aim::ManyRows => rules::many_readings(rng),
+            Aim::References => rules::with_references(rng),
+        };
         match independent::read(&rule, flags) {
-            Ok(tree) if many_rows || !subjects::can_be_empty(&tree) || rng.percent(40) => return (rule, tree),
+            Ok(tree) if aim != Aim::Beginnings || !subjects::can_be_empty(&tree) || rng.percent(40) => return (rule, tree),
             _ => {}
         }
     }
@@ -66,6 +82,12 @@ impl Starts<'_> {
         self.steps_at(rng.between(0, self.subject.len()))
     }
 
+    /// The steps before and behind each reference that is tried at a start, within as many steps.
+    fn references_at_any(&self, rng: &mut Rng) -> Vec<(u64, u64)> {
+        let start = rng.between(0, self.subject.len());
+        independent::references_at(self.call, self.rule, self.subject, start, 500 + 4 * self.subject.len() as u64)
+    }
+
     /// The budget that is just enough for all starts up to one of them. Of a long line only some starts are looked at.
     fn enough_for_some(&self, rng: &mut Rng) -> u64 {
         let (last, apart) = (rng.between(0, self.subject.len()), 1 + self.subject.len() / 100);
@@ -73,8 +95,16 @@ impl Starts<'_> {
     }
 }
 
-/// Mostly what some starts need, or a little beside it. The shorter of two walks is often that of a start that cannot begin.
+/// Mostly what some starts need, or a little beside it; where references are tried, often what leads up to one, into it or out of it. The
+/// shorter of two walks is often that of a start that cannot begin.
 fn budget(rng: &mut Rng, starts: &Starts) -> u32 {
+    let references = starts.references_at_any(rng);
+    if !references.is_empty() && rng.percent(50) {
+        let (before, behind) = *rng.pick(&references);
+        let within = before + rng.number() % (behind - before + 1);
+        let steps = *rng.pick(&[before, within, behind]);
+        return (steps + rng.number() % 3).saturating_sub(1) as u32;
+    }
     let steps = match rng.weighted(&[48, 6, 10, 8, 4, 4, 6, 14]) {
         0 => (starts.enough_for_some(rng) + rng.number() % 5).saturating_sub(2),
         1 => (starts.steps_at_any(rng) + rng.number() % 5).saturating_sub(2),

@@ -58,6 +58,38 @@ const MANY_READINGS: [&str; 20] = [
     "(\\d*),?(\\d*)",
 ];
 
+/// Rules with references: to long spans and short, empty and unset ones, to a group that is set anew, alone, repeated and in branches.
+const REFERENCES: [&str; 28] = [
+    "(a+)\\1",
+    "(a*)\\1",
+    "^(a+)\\1$",
+    "(.+)\\1",
+    "(.*?)\\1b",
+    "(.+),\\1",
+    "^(.*),\\1$",
+    "^(.*?),\\1$",
+    "(a+)(b*)\\2\\1",
+    "(?:(a+)|b)\\1",
+    "(a|ab)*\\1",
+    "(a+)\\1+",
+    "(a+)\\1{2,3}?",
+    "(a{2,})(?:\\1|b)*",
+    "(aa)\\1",
+    "((a)\\2)*",
+    "(a|b\\1)+",
+    "(a+|b\\1)*$",
+    "\\1?(a+)",
+    "\\1*(a+)",
+    "(?:\\1b|(a+))+",
+    "()\\1",
+    "(a?)\\1*",
+    "(.{8})\\1",
+    "(.{3,20}),?\\1",
+    "(?:(a*)|b)\\1\\1",
+    "(?:x\\1|y\\1|(a+))*",
+    "(?:(.+)\\1|(.+),\\2)$",
+];
+
 /// Places that say something of the byte before or behind, so that a start's own byte does not settle whether it can begin.
 const PLACES: [&str; 6] = ["$", "\\b", "\\B", "\\z", "\\Z", "^"];
 
@@ -71,8 +103,22 @@ pub fn rule(rng: &mut Rng) -> Vec<u8> {
 
 /// A rule that has many readings on a line of the same bytes.
 pub fn many_readings(rng: &mut Rng) -> Vec<u8> {
+    one_of(rng, &MANY_READINGS)
+}
+
+/// A rule whose references are often tried, with one more behind them at times.
+pub fn with_references(rng: &mut Rng) -> Vec<u8> {
+    let mut rule = one_of(rng, &REFERENCES);
+    if rng.percent(20) {
+        rule.extend(b"\\g{1}");
+    }
+    rule
+}
+
+/// One of these rules, often with an item behind it.
+fn one_of(rng: &mut Rng, rules: &[&str]) -> Vec<u8> {
     let mut maker = Maker::new(rng);
-    let text = *maker.rng.pick(&MANY_READINGS);
+    let text = *maker.rng.pick(rules);
     maker.write(text);
     if maker.rng.percent(40) {
         maker.item(1, false);

@@ -61,6 +61,26 @@ pub fn alike(rng: &mut Rng) -> Vec<u8> {
     subject
 }
 
+/// A piece over and over, with a `,` between at times, one byte changed or the end cut off: what a reference compares is equal up to any byte.
+pub fn again(rng: &mut Rng, rule: &Rule) -> Vec<u8> {
+    let length = if rng.percent(60) { rng.between(1, 6) } else { rng.between(7, 40) };
+    let piece: Vec<u8> = match rng.below(3) {
+        0 => vec![b'a'; length],
+        1 => (0..length).map(|_| *rng.pick(OWN)).collect(),
+        _ => fitting(rng, rule),
+    };
+    let between: &[u8] = *rng.pick(&[&b""[..], b"", b","]);
+    let mut subject = vec![&piece[..]; rng.between(1, 4)].join(between);
+    if !subject.is_empty() && rng.percent(40) {
+        let at = rng.below(subject.len());
+        subject[at] = *rng.pick(b"abx,");
+    }
+    if rng.percent(40) {
+        subject.truncate(rng.between(0, subject.len()));
+    }
+    subject
+}
+
 /// So many bytes that cannot begin: all the same, or a mixture.
 fn add_outside(rng: &mut Rng, outside: &[u8], length: usize, subject: &mut Vec<u8>) {
     let same = rng.percent(40).then(|| *rng.pick(outside));
