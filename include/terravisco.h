@@ -6,7 +6,7 @@
  * What a caller owes is only what C cannot tell: each pointer leads to as many bytes or numbers as the length beside it says, and the three
  * areas and the answer overlap neither each other nor the rule and the subject. A pointer is never null, even beside a length of 0.
  *
- * flags         bit 0 is `s`, bit 1 is `m`
+ * flags         bit 0 is `s`, bit 1 is `m`, bit 2 is `i`, bit 3 is `x`
  * budget        steps for each start in the subject, at most 100,000
  * rule_area     at least TERRAVISCO_RULE_AREA numbers
  * work_area     at least TERRAVISCO_WORK_PER_STEP numbers for each step of the budget

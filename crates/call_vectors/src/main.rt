@@ -292,7 +292,7 @@ fn all(input: &[u8], work: &mut [u32; WORK_AREA]) {
 }
 
 fn main() {
-    let mut buffer = io::large_buffer();
+    let mut buffer = vectors::input_buffer();
     let n = io::read_full(STDIN_FILENO, &mut buffer);
     let mut work = [7u32; WORK_AREA];
     all(&buffer[..n], &mut work);

@@ -1,12 +1,12 @@
--- The bits of an or, of a shifted one and of a complement, for words of any width: a shift takes the bit in question to the end of the word,
--- where it is the remainder by two.
+-- The bits of an or, of an and, of a shifted one and of a complement, for words of any width: a shift takes the bit in question to the end
+-- of the word, where it is the remainder by two.
 use mathlib.Core.Path.{_≡_, refl, sym, ap, subst}
-use mathlib.Core.Bool.{Bool, true, false, not, _||_}
-use Prim.Native.Nat.{ℕ, suc, _+_, _*_, _-_, _/_, _%_, _^_, _≤_, _<_, max}
+use mathlib.Core.Bool.{Bool, true, false, not, _&&_, _||_}
+use Prim.Native.Nat.{ℕ, suc, _+_, _*_, _-_, _/_, _%_, _^_, _≤_, _<_, min, max}
 use native.Mathlib.Omega.{arith}
 use native.Mathlib.Nat.{add-mul, pow-suc, div-eq-of-lt, one-mul, mod-lt}
 use borrow.Author.Tests.{eqb-true, eqb-false, eq-eqb, ne-eqb, ltb-true, ltb-false}
-use lib.Bits.{bitOr, or-shr, or-step}
+use lib.Bits.{bitAnd, bitOr, and-shr, or-shr, and-step, or-step}
 use lib.Dec.{eqb, ltb}
 use lib.Pow.{pow-pos, pow-lt, pow-add, shl-exact, shl-shr, shr-lt, split, high, ones-split}
 use Rattle.charset.specs.Class.{bit}
@@ -29,6 +29,25 @@ or-bit a b k = rw (or-shr a b k, or-odd (a / 2 ^ k) (b / 2 ^ k)) (go (eqb (b / 2
         let h : q ≡ 1 → ⊥ = eqb-false q 1 e in
         let m : max p q ≡ p = omega arith in
         rw m
+
+and-odd : (a b : ℕ) → bitAnd a b % 2 ≡ min (a % 2) (b % 2)
+and-odd a b = omega (arith, and-step a b)
+
+pub and-bit : (a b k : ℕ) → bit (bitAnd a b) k ≡ (bit b k && bit a k)
+and-bit a b k = rw (and-shr a b k, and-odd (a / 2 ^ k) (b / 2 ^ k)) (go (eqb (b / 2 ^ k % 2) 1) refl)
+  where
+    p : ℕ
+    p = a / 2 ^ k % 2
+
+    q : ℕ
+    q = b / 2 ^ k % 2
+
+    go : (t : Bool) → eqb q 1 ≡ t → eqb (min p q) 1 ≡ (t && eqb p 1)
+    go true e =
+        let h : q ≡ 1 = eqb-true q 1 e in
+        let m : min p q ≡ p = omega arith in
+        rw m
+    go false e = let h : q ≡ 1 → ⊥ = eqb-false q 1 e in ne-eqb (min p q) 1 (omega arith)
 
 one-low : (j m : ℕ) → (1 * 2 ^ (suc m + j)) / 2 ^ j % 2 ≡ 0
 one-low j m =

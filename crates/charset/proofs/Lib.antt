@@ -3,3 +3,4 @@ pub mod Bits
 pub mod Words
 pub mod Range
 pub mod Rules
+pub mod Letters

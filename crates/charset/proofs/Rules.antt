@@ -26,7 +26,7 @@ and-right : (a b : Bool) → T (a && b) → T b
 and-right true b t = t
 and-right false b t = absurd t
 
-all-at : (n : ℕ) (f : ℕ → Bool) → T (all n f) → (k : ℕ) → k < n → T (f k)
+pub all-at : (n : ℕ) (f : ℕ → Bool) → T (all n f) → (k : ℕ) → k < n → T (f k)
 all-at zero f t k h = absurd (omega arith)
 all-at (suc n) f t k h = go (eqb k n) refl (all-at n f (and-right (f n) (all n f) t) k)
   where
@@ -34,7 +34,7 @@ all-at (suc n) f t k h = go (eqb k n) refl (all-at n f (and-right (f n) (all n f
     go true e below = rw (eqb-true k n e) (and-left (f n) (all n f) t)
     go false e below = let p : k ≡ n → ⊥ = eqb-false k n e in below (omega arith)
 
-same : (a b : Bool) → T (Bool·beq a b) → a ≡ b
+pub same : (a b : Bool) → T (Bool·beq a b) → a ≡ b
 same true true t = refl
 same true false t = absurd t
 same false true t = absurd t

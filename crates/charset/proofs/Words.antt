@@ -25,7 +25,7 @@ unfolding has
 has-none n x = rw (zeros n (x / 32), div-eq-of-lt (pow-pos (x % 32)))
 
 -- a store changes the bytes of its word
-has-set : (c : List ℕ) (i v x : ℕ) → i < length c → has (set c i v) x ≡ cond (eqb (x / 32) i) (bit v (x % 32)) (has c x)
+pub has-set : (c : List ℕ) (i v x : ℕ) → i < length c → has (set c i v) x ≡ cond (eqb (x / 32) i) (bit v (x % 32)) (has c x)
 unfolding has
 has-set c i v x h = go (eqb (x / 32) i) refl
   where

@@ -1,10 +1,11 @@
 // Sets of bytes: the table of the named sets, and classes of eight 32-bit words.
 ghost use mathlib.Core.Path.{_≡_};
-ghost use mathlib.Core.Bool.{false, not, _||_};
+ghost use mathlib.Core.Bool.{true, false, not, _||_};
 ghost use Prim.Native.Nat.{ℕ, _+_, _≤_, _<_};
 ghost use lib.ListN.{length, drop};
 ghost use lib.Dec.{eqb};
 ghost use Rattle.charset.specs.Named.{inRange, _to_, inNamed, markOf};
+ghost use Rattle.charset.specs.Cases.{folding};
 ghost use Rattle.charset.specs.Class.{has};
 
 mod tables;
@@ -121,6 +122,21 @@ pub fn complement(class: [u32; 8]) -> [u32; 8]
         let word = a[i];
         c[i] = !word;
     }
+    c
+}
+
+// The letters' bits in the words of 40 to 5F and of 60 to 7F, a letter's two cases at the same place.
+const LETTERS: u32 = 0x07FFFFFE;
+
+// The class with each of its letters in the other case too.
+pub fn fold(class: [u32; 8]) -> [u32; 8]
+    ensures { λ r. ⌜ ((x : ℕ) → x < 256 → has r x ≡ folding true (has class) x) ⌝ }
+{
+    let mut c = class;
+    let upper = c[2];
+    let lower = c[3];
+    c[2] = upper | (lower & LETTERS);
+    c[3] = lower | (upper & LETTERS);
     c
 }
 

@@ -1,13 +1,14 @@
 -- Single items: the classes of byte items, and which case of an escape or an item holds. Assumes nothing.
 use mathlib.Core.Path.{_≡_, refl, ap, _∙_}
 use mathlib.Core.List.{List}
-use mathlib.Core.Bool.{true, false, not, _||_}
+use mathlib.Core.Bool.{Bool, true, false, not, _||_}
 use mathlib.Core.Logic.{_⊎_}
 use Prim.Native.Nat.{ℕ, _+_, _/_, _%_, _≤_, _<_}
 use native.Mathlib.Omega.{arith}
 use lib.Dec.{eqb}
 use borrow.Author.Tests.{eq-eqb, ne-eqb}
 use Rattle.charset.specs.Class.{has}
+use Rattle.charset.specs.Laws.Cases.{other-before, folding-single}
 use Rattle.syntax.specs.declared.Assertion.the-variants.{TextStart, LineStart, TextEnd, LastLineEnd, LineEnd, WordBoundary, NoWordBoundary}
 use Rattle.syntax.specs.declared.Refusal.{Refusal}
 use Rattle.syntax.specs.Limits.{dotAllBit, multilineBit}
@@ -16,11 +17,11 @@ use Rattle.syntax.specs.Sets.{Member, single, Class, isMember, isAny, inClass, 
 use Rattle.syntax.specs.Tree.{Item, byteIn, assert, reference}
 use Rattle.syntax.specs.Escapes.{octal, common, forward, decimal, groupNumber, escape}
 use Rattle.syntax.specs.Classes.{class}
-use Rattle.syntax.specs.Grammar.{dotAll, multiline, atom}
+use Rattle.syntax.specs.Grammar.{dotAll, multiline, ignoreCase, atom}
 use Rattle.lexer.specs.declared.MemberRead.{MemberRead}
 use Rattle.lexer.specs.declared.MemberRead.the-variants.{Bad}
 use Rattle.lexer.specs.declared.GroupRead.{GroupRead}
-use Rattle.lexer.specs.declared.GroupRead.the-variants.{BadGroup}
+use Rattle.lexer.specs.declared.GroupRead.the-variants.{Group, BadGroup}
 use Rattle.lexer.specs.declared.ClassEnd.{ClassEnd}
 use Rattle.lexer.specs.declared.ClassEnd.the-variants.{Closed, BadClass}
 use Rattle.lexer.specs.declared.Lexed.{Lexed}
@@ -30,51 +31,54 @@ use Rattle.lexer.proofs.Digits.{inside, outside}
 use Rattle.lexer.proofs.MemberCases.{NotBad, sounds}
 
 -- equal readings say the same
-pub same-item : {a b : Read Item} (r : Lexed) → a ≡ b → SaysItem a r → SaysItem b r
-same-item r e h = rw e at h
+pub same-item : (folded : Bool) {a b : Read Item} (r : Lexed) → a ≡ b → SaysItem folded a r → SaysItem folded b r
+same-item folded r e h = rw e at h
 
 -- Byte items -----------------------------------------------------------------------------
 
 -- `none` holds no byte
 module _ (none words : List ℕ) (e : (x : ℕ) → x < 256 → has none x ≡ false) where
-  pub holds-any : ((x : ℕ) → x < 256 → has words x ≡ not (has none x)) → HoldsClass words anyByte
+  pub holds-any : ((x : ℕ) → x < 256 → has words x ≡ not (has none x)) → (folded : Bool) → HoldsClass folded words anyByte
   unfolding anyByte inClass isAny
-  holds-any h x l = h x l ∙ ap not (e x l)
+  holds-any h folded x l = h x l ∙ ap not (e x l)
 
-  pub holds-rest : (one : List ℕ) → ((x : ℕ) → x < 256 → has one x ≡ (eqb x 10 || has none x)) → ((x : ℕ) → x < 256 → has words x ≡ not (has one x)) → HoldsClass words notNewline
+  pub holds-rest : (one : List ℕ) → ((x : ℕ) → x < 256 → has one x ≡ (eqb x 10 || has none x)) → ((x : ℕ) → x < 256 → has words x ≡ not (has one x)) → (folded : Bool) → HoldsClass folded words notNewline
   unfolding notNewline inClass isAny isMember
-  holds-rest one o h x l = h x l ∙ ap not (o x l) ∙ rw (e x l)
+  holds-rest one o h folded x l = h x l ∙ ap not (o x l) ∙ rw (e x l, folding-single folded 10 (other-before 10 (omega arith)) x)
 
 -- what a member makes of an item
-abbrev pub alone : Read Member → Read Item
-alone a = andThen a (λ x next. sound (byteIn (only x)) next)
+abbrev pub alone : Bool → Read Member → Read Item
+alone folded a = andThen a (λ x next. sound (byteIn folded (only x)) next)
 
-pub alone-bad : (m : MemberRead) (f : Refusal) → m ≡ Bad f → refused (f .place) (f .reason) ≡ alone (memberOf m)
-alone-bad m f e = rw e
+pub alone-bad : (folded : Bool) (m : MemberRead) (f : Refusal) → m ≡ Bad f → refused (f .place) (f .reason) ≡ alone folded (memberOf m)
+alone-bad folded m f e = rw e
 
-pub alone-sound : (m : MemberRead) → NotBad m → (none words : List ℕ) → ((x : ℕ) → x < 256 → has none x ≡ false) → ((x : ℕ) → x < 256 → has words x ≡ (isRead x m || has none x)) → (n : ℕ) → n ≡ nextOf m → ItemIn (alone (memberOf m)) words (Byte n)
+pub alone-sound : (folded : Bool) (m : MemberRead) → NotBad m → (none words : List ℕ) → ((x : ℕ) → x < 256 → has none x ≡ false) → ((x : ℕ) → x < 256 → has words x ≡ (isRead folded x m || has none x)) → (n : ℕ) → n ≡ nextOf m → ItemIn folded (alone folded (memberOf m)) words (Byte n)
 unfolding only inClass isAny
-alone-sound m l none words e a n q = let s = sounds m l in (only (s .member), rw (s .is, q, s .behind), λ x h. a x h ∙ rw (s .has x, e x h))
+alone-sound folded m l none words e a n q = let s = sounds m l in (only (s .member), rw (s .is, q, s .behind), λ x h. a x h ∙ rw (s .has folded x, e x h))
 
 -- what a class makes of an item
-abbrev pub classed : Read Class → Read Item
-classed a = andThen a (λ x next. sound (byteIn x) next)
+abbrev pub classed : Bool → Read Class → Read Item
+classed folded a = andThen a (λ x next. sound (byteIn folded x) next)
 
-pub class-closed : (a : Read Class) (words : List ℕ) (e : ClassEnd) (next : ℕ) → e ≡ Closed next → ClassIn a words e → ItemIn (classed a) words (Byte next)
-class-closed a words e next k h = from-closed (rw k at h)
+pub class-closed : (folded : Bool) (a : Read Class) (words : List ℕ) (e : ClassEnd) (next : ℕ) → e ≡ Closed next → ClassIn folded a words e → ItemIn folded (classed folded a) words (Byte next)
+class-closed folded a words e next k h = from-closed (rw k at h)
   where
-    from-closed : ClassIn a words (Closed next) → ItemIn (classed a) words (Byte next)
+    from-closed : ClassIn folded a words (Closed next) → ItemIn folded (classed folded a) words (Byte next)
     from-closed g = (g .0, rw (g .1), g .2)
 
-pub class-bad : (a : Read Class) (words : List ℕ) (e : ClassEnd) (f : Refusal) → e ≡ BadClass f → ClassIn a words e → refused (f .place) (f .reason) ≡ classed a
-class-bad a words e f k h = let g : ClassIn a words (BadClass f) = rw k at h in rw g
+pub class-bad : (folded : Bool) (a : Read Class) (words : List ℕ) (e : ClassEnd) (f : Refusal) → e ≡ BadClass f → ClassIn folded a words e → refused (f .place) (f .reason) ≡ classed folded a
+class-bad folded a words e f k h = let g : ClassIn folded a words (BadClass f) = rw k at h in rw g
 
 -- what a group's number makes of an item
-abbrev pub referring : Read ℕ → Read Item
-referring a = andThen a (λ n next. sound (reference n) next)
+abbrev pub referring : Bool → Read ℕ → Read Item
+referring folded a = andThen a (λ n next. sound (reference folded n) next)
 
-pub referring-bad : (g : GroupRead) (f : Refusal) → g ≡ BadGroup f → refused (f .place) (f .reason) ≡ referring (groupOf g)
-referring-bad g f e = rw e
+pub referring-sound : (folded : Bool) (g : GroupRead) (n next : ℕ) → g ≡ Group n next → referring folded (groupOf g) ≡ sound (reference folded n) next
+referring-sound folded g n next e = rw e
+
+pub referring-bad : (folded : Bool) (g : GroupRead) (f : Refusal) → g ≡ BadGroup f → refused (f .place) (f .reason) ≡ referring folded (groupOf g)
+referring-bad folded g f e = rw e
 
 -- Flags ------------------------------------------------------------------------------------
 
@@ -96,72 +100,76 @@ multiline-unset flags h = ne-eqb (flags / 2 % 2) 1 h
 
 -- Escapes ------------------------------------------------------------------------------------
 
-module _ (s : List ℕ) (opened at b : ℕ) (p : b ≡ byte s (at + 1)) where
-  pub escape-newline : b ≡ 78 → escape s opened at ≡ sound (byteIn notNewline) (at + 2)
+module _ (s : List ℕ) (folded : Bool) (opened at b : ℕ) (p : b ≡ byte s (at + 1)) where
+  pub escape-newline : b ≡ 78 → escape s folded opened at ≡ sound (byteIn folded notNewline) (at + 2)
   unfolding escape
   escape-newline e = rw (← p, e)
 
-  pub escape-text-start : b ≡ 65 → sound (assert TextStart) (at + 2) ≡ escape s opened at
+  pub escape-text-start : b ≡ 65 → sound (assert TextStart) (at + 2) ≡ escape s folded opened at
   unfolding escape
   escape-text-start e = rw (← p, e)
 
-  pub escape-text-end : b ≡ 122 → sound (assert TextEnd) (at + 2) ≡ escape s opened at
+  pub escape-text-end : b ≡ 122 → sound (assert TextEnd) (at + 2) ≡ escape s folded opened at
   unfolding escape
   escape-text-end e = rw (← p, e)
 
-  pub escape-last-line-end : b ≡ 90 → sound (assert LastLineEnd) (at + 2) ≡ escape s opened at
+  pub escape-last-line-end : b ≡ 90 → sound (assert LastLineEnd) (at + 2) ≡ escape s folded opened at
   unfolding escape
   escape-last-line-end e = rw (← p, e)
 
-  pub escape-boundary : b ≡ 98 → sound (assert WordBoundary) (at + 2) ≡ escape s opened at
+  pub escape-boundary : b ≡ 98 → sound (assert WordBoundary) (at + 2) ≡ escape s folded opened at
   unfolding escape
   escape-boundary e = rw (← p, e)
 
-  pub escape-no-boundary : b ≡ 66 → sound (assert NoWordBoundary) (at + 2) ≡ escape s opened at
+  pub escape-no-boundary : b ≡ 66 → sound (assert NoWordBoundary) (at + 2) ≡ escape s folded opened at
   unfolding escape
   escape-no-boundary e = rw (← p, e)
 
-  pub escape-octal : b ≡ 48 → (m : Read Member) → m ≡ octal s at → alone m ≡ escape s opened at
+  pub escape-octal : b ≡ 48 → (m : Read Member) → m ≡ octal s at → alone folded m ≡ escape s folded opened at
   unfolding escape
   escape-octal e m k = rw (k, ← p, e)
 
-  pub escape-group : b ≡ 103 → (g : Read ℕ) → g ≡ groupNumber s opened at → referring g ≡ escape s opened at
+  pub escape-group : b ≡ 103 → (g : Read ℕ) → g ≡ groupNumber s opened at → referring folded g ≡ escape s folded opened at
   unfolding escape
   escape-group e g k = rw (k, ← p, e)
 
-  twice : (a : Read ℕ) → referring (andThen a (λ n next. sound (forward n) next)) ≡ andThen a (λ n next. sound (reference (forward n)) next)
+  twice : (a : Read ℕ) → referring folded (andThen a (λ n next. sound (forward n) next)) ≡ andThen a (λ n next. sound (reference folded (forward n)) next)
   twice (sound n next) = refl
   twice (refused place why) = refl
 
-  pub escape-number : 48 ≤ b → (b ≡ 48 → ⊥) → b < 58 → (g : Read ℕ) → g ≡ andThen (decimal s at (at + 1)) (λ n next. sound (forward n) next) → referring g ≡ escape s opened at
+  pub escape-number : 48 ≤ b → (b ≡ 48 → ⊥) → b < 58 → (g : Read ℕ) → g ≡ andThen (decimal s at (at + 1)) (λ n next. sound (forward n) next) → referring folded g ≡ escape s folded opened at
   unfolding escape
   escape-number h n l g k =
       rw (k, twice (decimal s at (at + 1)), ← p)
       (simp (ne-eqb b 78 (λ e. omega arith), ne-eqb b 65 (λ e. omega arith), ne-eqb b 122 (λ e. omega arith), ne-eqb b 90 (λ e. omega arith), ne-eqb b 98 (λ e. omega arith), ne-eqb b 66 (λ e. omega arith), ne-eqb b 48 n, inside 49 57 b (omega arith) (omega arith)))
 
-  pub escape-end : b ≡ 256 → (m : Read Member) → m ≡ common s at → alone m ≡ escape s opened at
+  pub escape-end : b ≡ 256 → (m : Read Member) → m ≡ common s at → alone folded m ≡ escape s folded opened at
   unfolding escape
   escape-end e m k = rw (k, ← p, e)
 
-  pub escape-common : (b ≡ 78 → ⊥) → (b ≡ 65 → ⊥) → (b ≡ 122 → ⊥) → (b ≡ 90 → ⊥) → (b ≡ 98 → ⊥) → (b ≡ 66 → ⊥) → (b ≡ 48 → ⊥) → (b ≡ 103 → ⊥) → (b < 49) ⊎ (57 < b) → (m : Read Member) → m ≡ common s at → alone m ≡ escape s opened at
+  pub escape-common : (b ≡ 78 → ⊥) → (b ≡ 65 → ⊥) → (b ≡ 122 → ⊥) → (b ≡ 90 → ⊥) → (b ≡ 98 → ⊥) → (b ≡ 66 → ⊥) → (b ≡ 48 → ⊥) → (b ≡ 103 → ⊥) → (b < 49) ⊎ (57 < b) → (m : Read Member) → m ≡ common s at → alone folded m ≡ escape s folded opened at
   unfolding escape
   escape-common n1 n2 n3 n4 n5 n6 n7 n8 o m k =
       rw (k, ← p) (simp (ne-eqb b 78 n1, ne-eqb b 65 n2, ne-eqb b 122 n3, ne-eqb b 90 n4, ne-eqb b 98 n5, ne-eqb b 66 n6, ne-eqb b 48 n7, outside 49 57 b o, ne-eqb b 103 n8))
 
 -- Items ----------------------------------------------------------------------------------------
 
-module _ (s : List ℕ) (flags opened at b : ℕ) (p : b ≡ byte s at) where
-  pub atom-escape : b ≡ 92 → escape s opened at ≡ atom s flags opened at
-  unfolding atom
-  atom-escape e = rw (← p, e)
+-- an item is folded by the flag
+pub as-atom : (folded : Bool) (flags : ℕ) → folded ≡ ignoreCase flags → {a b : Read Item} (r : Lexed) → a ≡ b → SaysItem folded a r → SaysItem (ignoreCase flags) b r
+as-atom folded flags f r e h = rw (f, e) at h
 
-  pub atom-class : b ≡ 91 → classed (class s at) ≡ atom s flags opened at
+module _ (s : List ℕ) (flags opened at b : ℕ) (p : b ≡ byte s at) (folded : Bool) (f : folded ≡ ignoreCase flags) where
+  pub atom-escape : b ≡ 92 → escape s folded opened at ≡ atom s flags opened at
   unfolding atom
-  atom-class e = rw (← p, e)
+  atom-escape e = rw (← p, e, f)
 
-  pub atom-dot : b ≡ 46 → sound (byteIn (if dotAll flags then anyByte else notNewline)) (at + 1) ≡ atom s flags opened at
+  pub atom-class : b ≡ 91 → classed folded (class s at) ≡ atom s flags opened at
   unfolding atom
-  atom-dot e = rw (← p, e)
+  atom-class e = rw (← p, e, f)
+
+  pub atom-dot : b ≡ 46 → sound (byteIn folded (if dotAll flags then anyByte else notNewline)) (at + 1) ≡ atom s flags opened at
+  unfolding atom
+  atom-dot e = rw (← p, e, f)
 
   pub atom-caret : b ≡ 94 → sound (assert (if multiline flags then LineStart else TextStart)) (at + 1) ≡ atom s flags opened at
   unfolding atom
@@ -171,6 +179,6 @@ module _ (s : List ℕ) (flags opened at b : ℕ) (p : b ≡ byte s at) where
   unfolding atom
   atom-dollar e = rw (← p, e)
 
-  pub atom-byte : (b ≡ 92 → ⊥) → (b ≡ 91 → ⊥) → (b ≡ 46 → ⊥) → (b ≡ 94 → ⊥) → (b ≡ 36 → ⊥) → sound (byteIn (only (single b))) (at + 1) ≡ atom s flags opened at
+  pub atom-byte : (b ≡ 92 → ⊥) → (b ≡ 91 → ⊥) → (b ≡ 46 → ⊥) → (b ≡ 94 → ⊥) → (b ≡ 36 → ⊥) → sound (byteIn folded (only (single b))) (at + 1) ≡ atom s flags opened at
   unfolding atom
-  atom-byte n1 n2 n3 n4 n5 = rw (← p) (simp (ne-eqb b 92 n1, ne-eqb b 91 n2, ne-eqb b 46 n3, ne-eqb b 94 n4, ne-eqb b 36 n5))
+  atom-byte n1 n2 n3 n4 n5 = rw (← p, f) (simp (ne-eqb b 92 n1, ne-eqb b 91 n2, ne-eqb b 46 n3, ne-eqb b 94 n4, ne-eqb b 36 n5))

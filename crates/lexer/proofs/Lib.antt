@@ -2,6 +2,7 @@
 pub mod Bytes
 pub mod Capped
 pub mod Digits
+pub mod BlankCases
 pub mod Repeats
 pub mod EscapeCases
 pub mod ReferenceCases

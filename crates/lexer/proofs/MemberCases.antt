@@ -45,13 +45,13 @@ pub record Sound (m : MemberRead) : Type 0 where
   pub next : ℕ
   pub is : memberOf m ≡ sound member next
   pub behind : nextOf m ≡ next
-  pub has : (x : ℕ) → isRead x m ≡ isMember x member
+  pub has : (folded : Bool) (x : ℕ) → isRead folded x m ≡ isMember folded x member
 
 pub sounds : (m : MemberRead) → NotBad m → Sound m
-sounds (Single b n) h = record { member = single b; next = n; is = refl; behind = refl; has = λ x. refl }
-sounds (Range a b n) h = record { member = range a b; next = n; is = refl; behind = refl; has = λ x. refl }
-sounds (Set s n) h = record { member = named s; next = n; is = refl; behind = refl; has = λ x. refl }
-sounds (NotSet s n) h = record { member = notNamed s; next = n; is = refl; behind = refl; has = λ x. refl }
+sounds (Single b n) h = record { member = single b; next = n; is = refl; behind = refl; has = λ folded x. refl }
+sounds (Range a b n) h = record { member = range a b; next = n; is = refl; behind = refl; has = λ folded x. refl }
+sounds (Set s n) h = record { member = named s; next = n; is = refl; behind = refl; has = λ folded x. refl }
+sounds (NotSet s n) h = record { member = notNamed s; next = n; is = refl; behind = refl; has = λ folded x. refl }
 sounds (Bad f) h = let k : 4 < 4 = below 4 h in absurd (omega arith)
 
 -- what is no single byte is no end of a range

@@ -68,44 +68,46 @@ abbrev pub setOf : SetRead → Option Named
 setOf (Known set) = some set
 setOf Unknown = none
 
--- whether the member that was read has a byte
-abbrev pub isRead : ℕ → MemberRead → Bool
-isRead x (Single b next) = isMember x (single b)
-isRead x (Range low high next) = isMember x (range low high)
-isRead x (Set set next) = isMember x (named set)
-isRead x (NotSet set next) = isMember x (notNamed set)
-isRead x (Bad f) = false
+-- All that follows is for classes and items that are folded, or for those that are not.
+module _ (folded : Bool) where
+  -- whether the member that was read has a byte
+  abbrev pub isRead : ℕ → MemberRead → Bool
+  isRead x (Single b next) = isMember folded x (single b)
+  isRead x (Range low high next) = isMember folded x (range low high)
+  isRead x (Set set next) = isMember folded x (named set)
+  isRead x (NotSet set next) = isMember folded x (notNamed set)
+  isRead x (Bad f) = false
 
--- the words hold the members of a class
-abbrev pub HoldsMembers : List ℕ → List Member → Type 0
-HoldsMembers words ms = (x : ℕ) → x < 256 → has words x ≡ isAny x ms
+  -- the words hold the members of a class
+  abbrev pub HoldsMembers : List ℕ → List Member → Type 0
+  HoldsMembers words ms = (x : ℕ) → x < 256 → has words x ≡ isAny folded x ms
 
--- the reading a of a class's members is what words and their end say
-abbrev pub MembersIn : Read (List Member) → List ℕ → ClassEnd → Type 0
-MembersIn a words (Closed next) = (ms : List Member) × (a ≡ sound ms next) × HoldsMembers words ms
-MembersIn a words (BadClass f) = a ≡ refused (f .place) (f .reason)
+  -- the reading a of a class's members is what words and their end say
+  abbrev pub MembersIn : Read (List Member) → List ℕ → ClassEnd → Type 0
+  MembersIn a words (Closed next) = (ms : List Member) × (a ≡ sound ms next) × HoldsMembers words ms
+  MembersIn a words (BadClass f) = a ≡ refused (f .place) (f .reason)
 
-abbrev pub SaysMembers : Read (List Member) → ClassRead → Type 0
-SaysMembers a r = MembersIn a (r .words) (r .end)
+  abbrev pub SaysMembers : Read (List Member) → ClassRead → Type 0
+  SaysMembers a r = MembersIn a (r .words) (r .end)
 
--- the words hold the class c
-abbrev pub HoldsClass : List ℕ → Class → Type 0
-HoldsClass words c = (x : ℕ) → x < 256 → has words x ≡ inClass c x
+  -- the words hold the class c
+  abbrev pub HoldsClass : List ℕ → Class → Type 0
+  HoldsClass words c = (x : ℕ) → x < 256 → has words x ≡ inClass folded c x
 
--- the reading a of a class is what words and their end say
-abbrev pub ClassIn : Read Class → List ℕ → ClassEnd → Type 0
-ClassIn a words (Closed next) = (c : Class) × (a ≡ sound c next) × HoldsClass words c
-ClassIn a words (BadClass f) = a ≡ refused (f .place) (f .reason)
+  -- the reading a of a class is what words and their end say
+  abbrev pub ClassIn : Read Class → List ℕ → ClassEnd → Type 0
+  ClassIn a words (Closed next) = (c : Class) × (a ≡ sound c next) × HoldsClass words c
+  ClassIn a words (BadClass f) = a ≡ refused (f .place) (f .reason)
 
-abbrev pub SaysClass : Read Class → ClassRead → Type 0
-SaysClass a r = ClassIn a (r .words) (r .end)
+  abbrev pub SaysClass : Read Class → ClassRead → Type 0
+  SaysClass a r = ClassIn a (r .words) (r .end)
 
--- the reading a of an item is what words and a token say: a byte item's class stands in the words
-abbrev pub ItemIn : Read Item → List ℕ → Token → Type 0
-ItemIn a words (Byte next) = (c : Class) × (a ≡ sound (byteIn c) next) × HoldsClass words c
-ItemIn a words (Assert k next) = a ≡ sound (assert k) next
-ItemIn a words (Reference n next) = a ≡ sound (reference n) next
-ItemIn a words (BadItem f) = a ≡ refused (f .place) (f .reason)
+  -- the reading a of an item is what words and a token say: a byte item's class stands in the words
+  abbrev pub ItemIn : Read Item → List ℕ → Token → Type 0
+  ItemIn a words (Byte next) = (c : Class) × (a ≡ sound (byteIn folded c) next) × HoldsClass words c
+  ItemIn a words (Assert k next) = a ≡ sound (assert k) next
+  ItemIn a words (Reference n next) = a ≡ sound (reference folded n) next
+  ItemIn a words (BadItem f) = a ≡ refused (f .place) (f .reason)
 
-abbrev pub SaysItem : Read Item → Lexed → Type 0
-SaysItem a r = ItemIn a (r .words) (r .token)
+  abbrev pub SaysItem : Read Item → Lexed → Type 0
+  SaysItem a r = ItemIn a (r .words) (r .token)

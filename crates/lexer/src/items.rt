@@ -1,4 +1,5 @@
-// Items that are no group. `at` is the position of an item's first byte.
+// Items that are no group. `at` is the position of an item's first byte. The words of a byte item hold its class, folded under the flag `i`; where
+// that makes no difference, as for `.`, the promise is for both.
 use crate::ClassEnd;
 use crate::ClassRead;
 use crate::GroupRead;
@@ -20,6 +21,7 @@ use charset::empty;
 use syntax::Assertion;
 use syntax::Refusal;
 ghost use mathlib.Core.Path.{_≡_};
+ghost use mathlib.Core.Bool.{Bool};
 ghost use Prim.Native.Nat.{_≤_, _<_};
 ghost use lib.ListN.{length};
 ghost use Rattle.syntax.specs.declared.Assertion.the-variants.{TextStart, LineStart, LastLineEnd, LineEnd};
@@ -28,13 +30,13 @@ ghost use Rattle.syntax.specs.Read.{if_then_else_, Read, sound, refused, andThe
 ghost use Rattle.syntax.specs.Sets.{Class, only, notNewline, anyByte};
 ghost use Rattle.syntax.specs.Tree.{byteIn, assert, reference};
 ghost use Rattle.syntax.specs.Escapes.{escape};
-ghost use Rattle.syntax.specs.Grammar.{dotAll, multiline, atom};
+ghost use Rattle.syntax.specs.Grammar.{dotAll, multiline, ignoreCase, atom};
 ghost use Rattle.lexer.specs.Says.{memberOf, groupOf, HoldsClass, SaysClass, SaysItem};
 
 // Items with no class of their own -----------------------------------------------
 
 fn bad_item(refusal: Refusal) -> Lexed
-    ensures { λ r. ⌜ SaysItem (refused (refusal .place) (refusal .reason)) r ⌝ }
+    ensures { λ r. ⌜ ((folded : Bool) → SaysItem folded (refused (refusal .place) (refusal .reason)) r) ⌝ }
 {
     Lexed {
         words: [0; 8],
@@ -43,7 +45,7 @@ fn bad_item(refusal: Refusal) -> Lexed
 }
 
 fn assertion(which: Assertion, next: usize) -> Lexed
-    ensures { λ r. ⌜ SaysItem (sound (assert which) next) r ⌝ }
+    ensures { λ r. ⌜ ((folded : Bool) → SaysItem folded (sound (assert which) next) r) ⌝ }
 {
     Lexed {
         words: [0; 8],
@@ -52,7 +54,7 @@ fn assertion(which: Assertion, next: usize) -> Lexed
 }
 
 fn group_item(group: GroupRead) -> Lexed
-    ensures { λ r. ⌜ SaysItem (andThen (groupOf group) (λ n next. sound (reference n) next)) r ⌝ }
+    ensures { λ r. ⌜ ((folded : Bool) → SaysItem folded (andThen (groupOf group) (λ n next. sound (reference folded n) next)) r) ⌝ }
 {
     match group {
         GroupRead::Group(n, next) => Lexed {
@@ -67,26 +69,26 @@ fn group_item(group: GroupRead) -> Lexed
 
 // All bytes.
 fn any_byte() -> [u32; 8]
-    ensures { λ r. ⌜ HoldsClass r anyByte ⌝ }
+    ensures { λ r. ⌜ ((folded : Bool) → HoldsClass folded r anyByte) ⌝ }
 {
     complement(empty())
 }
 
 // All bytes but the newline.
 fn not_newline() -> [u32; 8]
-    ensures { λ r. ⌜ HoldsClass r notNewline ⌝ }
+    ensures { λ r. ⌜ ((folded : Bool) → HoldsClass folded r notNewline) ⌝ }
 {
     complement(add(empty(), b'\n'))
 }
 
-// A byte or a set outside a class.
-fn member_item(m: MemberRead) -> Lexed
-    ensures { λ r. ⌜ SaysItem (andThen (memberOf m) (λ x next. sound (byteIn (only x)) next)) r ⌝ }
+// A byte or a set outside a class, folded or not.
+fn member_item(m: MemberRead, folded: bool) -> Lexed
+    ensures { λ r. ⌜ SaysItem folded (andThen (memberOf m) (λ x next. sound (byteIn folded (only x)) next)) r ⌝ }
 {
     if let MemberRead::Bad(refusal) = m {
         return bad_item(refusal);
     }
-    let words = with_member(empty(), m);
+    let words = with_member(empty(), m, folded);
     let next = next_of(m);
     Lexed {
         words,
@@ -96,7 +98,7 @@ fn member_item(m: MemberRead) -> Lexed
 
 // A class as an item.
 fn class_item(class: ClassRead) -> Lexed
-    ensures { λ r. ⌜ ((a : Read Class) → SaysClass a class → SaysItem (andThen a (λ x next. sound (byteIn x) next)) r) ⌝ }
+    ensures { λ r. ⌜ ((folded : Bool) (a : Read Class) → SaysClass folded a class → SaysItem folded (andThen a (λ x next. sound (byteIn folded x) next)) r) ⌝ }
 {
     let words = class.words;
     let end = class.end;
@@ -111,9 +113,16 @@ fn class_item(class: ClassRead) -> Lexed
 
 // By the flags ------------------------------------------------------------------------
 
+// Whether items are folded: the flag `i`.
+fn ignores_case(flags: u32) -> bool
+    ensures { λ r. ⌜ r ≡ ignoreCase flags ⌝ }
+{
+    flags / 4 % 2 == 1
+}
+
 // `.`
 fn dot(flags: u32, next: usize) -> Lexed
-    ensures { λ r. ⌜ SaysItem (sound (byteIn (if dotAll flags then anyByte else notNewline)) next) r ⌝ }
+    ensures { λ r. ⌜ ((folded : Bool) → SaysItem folded (sound (byteIn folded (if dotAll flags then anyByte else notNewline)) next) r) ⌝ }
 {
     if flags % 2 == 1 {
         return Lexed {
@@ -129,7 +138,7 @@ fn dot(flags: u32, next: usize) -> Lexed
 
 // `^`
 fn caret(flags: u32, next: usize) -> Lexed
-    ensures { λ r. ⌜ SaysItem (sound (assert (if multiline flags then LineStart else TextStart)) next) r ⌝ }
+    ensures { λ r. ⌜ ((folded : Bool) → SaysItem folded (sound (assert (if multiline flags then LineStart else TextStart)) next) r) ⌝ }
 {
     if flags / 2 % 2 == 1 {
         return assertion(Assertion::LineStart, next);
@@ -139,7 +148,7 @@ fn caret(flags: u32, next: usize) -> Lexed
 
 // `$`
 fn dollar(flags: u32, next: usize) -> Lexed
-    ensures { λ r. ⌜ SaysItem (sound (assert (if multiline flags then LineEnd else LastLineEnd)) next) r ⌝ }
+    ensures { λ r. ⌜ ((folded : Bool) → SaysItem folded (sound (assert (if multiline flags then LineEnd else LastLineEnd)) next) r) ⌝ }
 {
     if flags / 2 % 2 == 1 {
         return assertion(Assertion::LineEnd, next);
@@ -149,15 +158,15 @@ fn dollar(flags: u32, next: usize) -> Lexed
 
 // By the first byte ---------------------------------------------------------------------
 
-// An escape outside a class, where so many groups have been opened.
-fn escape_at(rule: &[u8], opened: u32, at: usize) -> Lexed
+// An escape outside a class, folded or not, where so many groups have been opened.
+fn escape_at(rule: &[u8], folded: bool, opened: u32, at: usize) -> Lexed
     requires { ⌜ (opened ≤ groupLimit) × (at < length (now rule)) ⌝ }
-    ensures { λ r. ⌜ SaysItem (escape (now (rule .entry)) opened at) r ⌝ }
+    ensures { λ r. ⌜ SaysItem folded (escape (now (rule .entry)) folded opened at) r ⌝ }
 {
     let next = at + 2;
     let b = peek(rule, at + 1);
     if b == END {
-        return member_item(common_at(rule, at));
+        return member_item(common_at(rule, at), folded);
     }
     let byte = b as u8;
     match byte {
@@ -170,26 +179,27 @@ fn escape_at(rule: &[u8], opened: u32, at: usize) -> Lexed
         b'Z' => assertion(Assertion::LastLineEnd, next),
         b'b' => assertion(Assertion::WordBoundary, next),
         b'B' => assertion(Assertion::NoWordBoundary, next),
-        b'0' => member_item(octal_at(rule, at)),
+        b'0' => member_item(octal_at(rule, at), folded),
         b'1'..=b'9' => group_item(forward_at(rule, at, at + 1)),
         b'g' => group_item(group_number_at(rule, opened, at)),
-        _ => member_item(common_at(rule, at)),
+        _ => member_item(common_at(rule, at), folded),
     }
 }
 
 // The item at a position, where so many groups have been opened.
 pub fn item_at(rule: &[u8], flags: u32, opened: u32, at: usize) -> Lexed
     requires { ⌜ (opened ≤ groupLimit) × (at < length (now rule)) ⌝ }
-    ensures { λ r. ⌜ SaysItem (atom (now (rule .entry)) flags opened at) r ⌝ }
+    ensures { λ r. ⌜ SaysItem (ignoreCase flags) (atom (now (rule .entry)) flags opened at) r ⌝ }
 {
+    let folded = ignores_case(flags);
     let next = at + 1;
     let b = rule[at];
     match b {
-        b'\\' => escape_at(rule, opened, at),
-        b'[' => class_item(class_at(rule, at)),
+        b'\\' => escape_at(rule, folded, opened, at),
+        b'[' => class_item(class_at(rule, at, folded)),
         b'.' => dot(flags, next),
         b'^' => caret(flags, next),
         b'$' => dollar(flags, next),
-        _ => member_item(MemberRead::Single(b, next)),
+        _ => member_item(MemberRead::Single(b, next), folded),
     }
 }

@@ -4,6 +4,7 @@ use syntax::Assertion;
 use syntax::Refusal;
 
 mod ascii;
+mod blanks;
 mod classes;
 mod escapes;
 mod items;
@@ -13,6 +14,7 @@ mod numbers;
 mod quantifiers;
 mod references;
 
+pub use blanks::behind_blanks;
 pub use items::item_at;
 pub use numbers::digit_value;
 pub use numbers::number_at;

@@ -17,7 +17,7 @@ module _ (a b : List ℕ) (lo top lo′ top′ : ℕ) (l : lo′ ≤ lo) (h : to
   word {pc} k w n e = same (pc + k) (omega (arith, n .low)) (omega (arith, n .high)) ∙ e
 
   item-keep : (i : Item) (place pc next : ℕ) → CompiledItem a lo top i place pc next → CompiledItem b lo′ top′ i place pc next
-  item-keep (byteIn s) place pc next c =
+  item-keep (byteIn folded s) place pc next c =
       record {
         node = node-keep (omega arith) (c .node);
         goes = word 1 (omega arith) (c .node) (c .goes);
@@ -31,13 +31,14 @@ module _ (a b : List ℕ) (lo top lo′ top′ : ℕ) (l : lo′ ≤ lo) (h : to
         origin = word 2 (omega arith) (c .node) (c .origin);
         which = word 3 (omega arith) (c .node) (c .which);
       }
-  item-keep (reference n) place pc next c =
+  item-keep (reference folded n) place pc next c =
       record {
         node = node-keep (omega arith) (c .node);
         goes = word 1 (omega arith) (c .node) (c .goes);
         origin = word 2 (omega arith) (c .node) (c .origin);
         span = word 3 (omega arith) (c .node) (c .span);
         fits = c .fits;
+        folds = word 4 (omega arith) (c .node) (c .folds);
       }
 
   mutual

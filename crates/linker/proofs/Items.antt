@@ -1,5 +1,6 @@
 -- Items: the number that named the part before now names the part after, and nothing else of the node changed, but a reference's number.
 use mathlib.Core.Path.{_≡_, refl, ap, _∙_}
+use mathlib.Core.Bool.{Bool, false}
 use mathlib.Core.List.{List}
 use Prim.Native.Nat.{ℕ, _+_, _≤_}
 use native.Mathlib.Omega.{arith}
@@ -31,18 +32,18 @@ begins groups r a p s =
 pub reference-fits : (groups r : ℕ) (a : List ℕ) (p : ℕ) → Stands (Part a) groups r a p → getD a p 0 ≡ 11 → (p + 4 ≤ length a) × (groups ≤ groupLimit)
 unfolding Part
 reference-fits groups r a p s e =
-    (for-reference a (s .lo) (s .top) p (λ t. p + 4 ≤ length a) (λ place n h. omega (arith, h .node .high, s .within)) e (s .tree) (s .holds), s .fits .few)
+    (for-reference a (s .lo) (s .top) p (λ t. p + 4 ≤ length a) (λ place folded n h. omega (arith, h .node .high, s .within)) e (s .tree) (s .holds), s .fits .few)
 
 module _ (groups r : ℕ) (a b : List ℕ) (p next sofar : ℕ) where
   pub reference-links : (found : ℕ) → getD a p 0 ≡ 11 → Referred groups a b p next sofar found → Links (Part a) groups r a b p next sofar p found
-  unfolding Links Part unresolved Compiled
+  unfolding Links Part unresolved dangling Compiled
   reference-links found e w t lo top h f = for-reference a lo top p (λ t. Made groups r t lo top a b next sofar p found) go e t h
     where
-      go : (place n : ℕ) → Part a (item place (reference n)) lo top p → Made groups r (item place (reference n)) lo top a b next sofar p found
-      go place n k =
-          let d : dangling groups (getD a (p + 2) 0) (reference (getD a (p + 3) 0)) ≡ dangling groups place (reference n) = rw (k .origin, k .number) in
+      go : (place : ℕ) (folded : Bool) (n : ℕ) → Part a (item place (reference folded n)) lo top p → Made groups r (item place (reference folded n)) lo top a b next sofar p found
+      go place folded n k =
+          let d : dangling groups (getD a (p + 2) 0) (reference false (getD a (p + 3) 0)) ≡ dangling groups place (reference folded n) = rw (k .origin, k .number) in
           record {
-            outside = outside-wider p (p + 4) lo top a b (k .node .low) (k .node .high) (w .rest);
+            outside = outside-wider p (p + 4) lo top a b (k .node .low) (omega (arith, k .node .high)) (w .rest);
             near = omega (arith, k .node .high);
             stands = λ u.
                 let v = w .known (d ∙ u) in
@@ -52,6 +53,7 @@ module _ (groups r : ℕ) (a b : List ℕ) (p next sofar : ℕ) where
                   origin = w .origin ∙ k .origin;
                   span = w .span (d ∙ u) ∙ ap slot (k .number);
                   fits = slot-fits n (omega (arith, v .0, k .number)) (omega (arith, v .1, k .number, f .few));
+                  folds = w .rest .above (p + 4) (omega arith) ∙ k .folds;
                 };
             first = w .first ∙ ap (λ o. noted o sofar) d;
           }
@@ -61,7 +63,7 @@ module _ (groups r : ℕ) (a b : List ℕ) (p next sofar : ℕ) where
   item-links e₄ e₇ e₁₀ e₁₁ w t lo top h f = for-item a lo top p (λ t. Made groups r t lo top a b next sofar p sofar) go e₄ e₇ e₁₀ e₁₁ t h
     where
       go : (place : ℕ) (i : Item) → itemKind i ≤ 1 → Part a (item place i) lo top p → Made groups r (item place i) lo top a b next sofar p sofar
-      go place (byteIn c) l k =
+      go place (byteIn folded c) l k =
           record {
             outside = outside-wider (p + 1) (p + 1 + 1) lo top a b (omega (arith, k .node .low)) (omega (arith, k .node .high)) (w .rest);
             near = omega (arith, k .node .high);
@@ -85,4 +87,4 @@ module _ (groups r : ℕ) (a b : List ℕ) (p next sofar : ℕ) where
             };
             first = refl;
           }
-      go place (reference n) l k = absurd (omega arith)
+      go place (reference folded n) l k = absurd (omega arith)

@@ -36,9 +36,9 @@ here a lo top p size kind l w n =
     record { some = n .some; low = n .low; high = omega arith; longer = λ e. let u : 8 ≤ size = w (sym (n .is) ∙ e) in omega (arith, n .high) }
 
 item-here : (a : List ℕ) (i : Item) (lo top p place : ℕ) → ItemPart a i lo top p place → Here a lo top p
-item-here a (byteIn c) lo top p place h = here a lo top p 11 0 (omega arith) (λ e. omega arith) (h .node)
+item-here a (byteIn folded c) lo top p place h = here a lo top p 11 0 (omega arith) (λ e. omega arith) (h .node)
 item-here a (assert k) lo top p place h = here a lo top p 4 1 (omega arith) (λ e. omega arith) (h .node)
-item-here a (reference n) lo top p place h = here a lo top p 4 11 (omega arith) (λ e. omega arith) (h .node)
+item-here a (reference folded n) lo top p place h = here a lo top p 5 11 (omega arith) (λ e. omega arith) (h .node)
 
 pub part-here : (a : List ℕ) (t : Rule) (lo top p : ℕ) → Part a t lo top p → Here a lo top p
 unfolding Part
@@ -104,7 +104,7 @@ module _ (a b : List ℕ) where
   word lo top p size kind k l s n e = s (p + k) (omega (arith, n .low)) (omega (arith, n .high)) ∙ e
 
   item-same : (i : Item) (lo top p place : ℕ) → Same lo top a b → ItemPart a i lo top p place → ItemPart b i lo top p place
-  item-same (byteIn c) lo top p place s h =
+  item-same (byteIn folded c) lo top p place s h =
       record {
         node = last-same lo top p 11 0 (omega arith) s (h .node);
         origin = word lo top p 11 0 2 (omega arith) s (h .node) (h .origin);
@@ -116,11 +116,12 @@ module _ (a b : List ℕ) where
         origin = word lo top p 4 1 2 (omega arith) s (h .node) (h .origin);
         which = word lo top p 4 1 3 (omega arith) s (h .node) (h .which);
       }
-  item-same (reference n) lo top p place s h =
+  item-same (reference folded n) lo top p place s h =
       record {
-        node = last-same lo top p 4 11 (omega arith) s (h .node);
-        origin = word lo top p 4 11 2 (omega arith) s (h .node) (h .origin);
-        number = word lo top p 4 11 3 (omega arith) s (h .node) (h .number);
+        node = last-same lo top p 5 11 (omega arith) s (h .node);
+        origin = word lo top p 5 11 2 (omega arith) s (h .node) (h .origin);
+        number = word lo top p 5 11 3 (omega arith) s (h .node) (h .number);
+        folds = word lo top p 5 11 4 (omega arith) s (h .node) (h .folds);
       }
 
   -- what holds of a region in one area holds of it in the other

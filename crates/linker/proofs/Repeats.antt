@@ -59,9 +59,9 @@ byte-item : (a : List ℕ) (s : Rule) (lo top p : ℕ) → Part a s lo top p →
 byte-item a s lo top p h k = go s (sym (part-kind a s lo top p h) ∙ k)
   where
     go : (s : Rule) → kindOf s ≡ 0 → OneByte s
-    go (item place (byteIn c)) k = tt
+    go (item place (byteIn folded c)) k = tt
     go (item place (assert c)) k = absurd (omega arith)
-    go (item place (reference n)) k = absurd (omega arith)
+    go (item place (reference folded n)) k = absurd (omega arith)
     go (group n s) k = absurd (omega arith)
     go (repeat place least most g s) k = absurd (omega arith)
     go empty k = absurd (omega arith)

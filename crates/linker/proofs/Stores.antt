@@ -1,5 +1,6 @@
 -- The numbers that the small functions write, and those that they leave.
 use mathlib.Core.Path.{_≡_, refl, sym, subst, _∙_}
+use mathlib.Core.Bool.{false}
 use mathlib.Core.List.{List}
 use mathlib.Core.Option.{none, some}
 use Prim.Native.Nat.{ℕ, _+_, _-_, _*_, _≤_, _<_}
@@ -69,22 +70,22 @@ before-other a p e = rw (ne-eqb (getD a p 0) 7 e)
 
 -- References ------------------------------------------------------------------------
 
-zero-dangles : (groups place n : ℕ) → n ≡ 0 → dangling groups place (reference n) ≡ some place
+zero-dangles : (groups place n : ℕ) → n ≡ 0 → dangling groups place (reference false n) ≡ some place
 unfolding dangling
 zero-dangles groups place n e = rw (eq-eqb n 0 e)
 
-beyond-dangles : (groups place n : ℕ) → (n ≡ 0 → ⊥) → groups < n → dangling groups place (reference n) ≡ some place
+beyond-dangles : (groups place n : ℕ) → (n ≡ 0 → ⊥) → groups < n → dangling groups place (reference false n) ≡ some place
 unfolding dangling
 beyond-dangles groups place n e h = rw (ne-eqb n 0 e, lt-leb n groups h)
 
-group-answers : (groups place n : ℕ) → (n ≡ 0 → ⊥) → n ≤ groups → dangling groups place (reference n) ≡ none
+group-answers : (groups place n : ℕ) → (n ≡ 0 → ⊥) → n ≤ groups → dangling groups place (reference false n) ≡ none
 unfolding dangling
 group-answers groups place n e h = rw (ne-eqb n 0 e, le-leb n groups h)
 
-dangles : (groups : ℕ) (a : List ℕ) (p next sofar : ℕ) → dangling groups (getD a (p + 2) 0) (reference (getD a (p + 3) 0)) ≡ some (getD a (p + 2) 0) → Referred groups a a p next sofar (getD a (p + 2) 0 + 1)
+dangles : (groups : ℕ) (a : List ℕ) (p next sofar : ℕ) → dangling groups (getD a (p + 2) 0) (reference false (getD a (p + 3) 0)) ≡ some (getD a (p + 2) 0) → Referred groups a a p next sofar (getD a (p + 2) 0 + 1)
 unfolding noted
 dangles groups a p next sofar e =
-    let never : dangling groups (getD a (p + 2) 0) (reference (getD a (p + 3) 0)) ≡ none → ⊥ = λ n. let z : _≡_ {A = ℕ} 0 1 = cc in omega arith in
+    let never : dangling groups (getD a (p + 2) 0) (reference false (getD a (p + 3) 0)) ≡ none → ⊥ = λ n. let z : _≡_ {A = ℕ} 0 1 = cc in omega arith in
     record {
       kind = refl;
       origin = refl;

@@ -1,5 +1,6 @@
 -- A node's first number tells what stands there: each tree has one kind, and a test of the number leaves the trees of that kind.
 use mathlib.Core.Path.{_≡_, sym, _∙_}
+use mathlib.Core.Bool.{Bool}
 use mathlib.Core.List.{List}
 use Prim.Native.Nat.{ℕ, _≤_}
 use native.Mathlib.Omega.{arith}
@@ -10,9 +11,9 @@ use Rattle.syntax.specs.declared.Most.{Most}
 use Rattle.linker.specs.Nodes.{Plain, Part, Inside}
 
 abbrev pub itemKind : Item → ℕ
-itemKind (byteIn c) = 0
+itemKind (byteIn folded c) = 0
 itemKind (assert k) = 1
-itemKind (reference n) = 11
+itemKind (reference folded n) = 11
 
 abbrev pub kindOf : Rule → ℕ
 kindOf (item place i) = itemKind i
@@ -24,9 +25,9 @@ kindOf (alt bs t) = 10
 
 pub part-kind : (a : List ℕ) (t : Rule) (lo top p : ℕ) → Part a t lo top p → getD a p 0 ≡ kindOf t
 unfolding Part
-part-kind a (item place (byteIn c)) lo top p h = h .node .is
+part-kind a (item place (byteIn folded c)) lo top p h = h .node .is
 part-kind a (item place (assert k)) lo top p h = h .node .is
-part-kind a (item place (reference n)) lo top p h = h .node .is
+part-kind a (item place (reference folded n)) lo top p h = h .node .is
 part-kind a (group n t) lo top p h = h .node .is
 part-kind a (repeat place least most g t) lo top p h = h .node .is
 part-kind a empty lo top p h = h .node .is
@@ -35,9 +36,9 @@ part-kind a (alt bs t) lo top p h = h .node .is
 
 -- no item has a number between
 item-other : (i : Item) (n : ℕ) → itemKind i ≡ n → 2 ≤ n → n ≤ 10 → ⊥
-item-other (byteIn c) n e l h = omega arith
+item-other (byteIn folded c) n e l h = omega arith
 item-other (assert k) n e l h = omega arith
-item-other (reference m) n e l h = omega arith
+item-other (reference folded m) n e l h = omega arith
 
 -- what holds of every tree of a kind holds of the tree that stands there
 module _ (a : List ℕ) (lo top p : ℕ) (Q : Rule → Type 0) where
@@ -75,12 +76,12 @@ module _ (a : List ℕ) (lo top p : ℕ) (Q : Rule → Type 0) where
       go (group n s) h k = absurd (omega arith)
       go (repeat place least most g s) h k = absurd (omega arith)
 
-  pub for-reference : ((place n : ℕ) → Part a (item place (reference n)) lo top p → Q (item place (reference n))) → getD a p 0 ≡ 11 → (t : Rule) → Part a t lo top p → Q t
+  pub for-reference : ((place : ℕ) (folded : Bool) (n : ℕ) → Part a (item place (reference folded n)) lo top p → Q (item place (reference folded n))) → getD a p 0 ≡ 11 → (t : Rule) → Part a t lo top p → Q t
   for-reference f e t h = go t h (sym (part-kind a t lo top p h) ∙ e)
     where
       go : (t : Rule) → Part a t lo top p → kindOf t ≡ 11 → Q t
-      go (item place (reference n)) h k = f place n h
-      go (item place (byteIn c)) h k = absurd (omega arith)
+      go (item place (reference folded n)) h k = f place folded n h
+      go (item place (byteIn folded c)) h k = absurd (omega arith)
       go (item place (assert c)) h k = absurd (omega arith)
       go (group n s) h k = absurd (omega arith)
       go (repeat place least most g s) h k = absurd (omega arith)
@@ -94,9 +95,9 @@ module _ (a : List ℕ) (lo top p : ℕ) (Q : Rule → Type 0) where
   for-item f e₄ e₇ e₁₀ e₁₁ t h = go t h (part-kind a t lo top p h)
     where
       go : (t : Rule) → Part a t lo top p → getD a p 0 ≡ kindOf t → Q t
-      go (item place (byteIn c)) h k = f place (byteIn c) (omega arith) h
+      go (item place (byteIn folded c)) h k = f place (byteIn folded c) (omega arith) h
       go (item place (assert c)) h k = f place (assert c) (omega arith) h
-      go (item place (reference n)) h k = absurd (e₁₁ k)
+      go (item place (reference folded n)) h k = absurd (e₁₁ k)
       go (group n s) h k = absurd (e₄ k)
       go (repeat place least most g s) h k = absurd (e₇ k)
       go empty h k = absurd (e₁₀ k)

@@ -3,7 +3,7 @@
 --
 --   byte       0, before, place, the class in eight words
 --   assertion  1, before, place, which
---   reference 11, before, place, the group's number
+--   reference 11, before, place, the group's number, 1 if it is folded
 --   group      4, before, 0, the slot of its span, 3, inside, 0       the close's four numbers, then the open's three
 --   plain     10, before, inside                                      a group that does not capture
 --   repeat     7, 8, least, most, greed, 0, body, before
@@ -21,7 +21,7 @@ use Rattle.syntax.specs.Limits.{slot}
 use Rattle.syntax.specs.Read.{if_then_else_}
 use Rattle.syntax.specs.Sets.{inClass}
 use Rattle.syntax.specs.Tree.{Item, byteIn, assert, reference, Rule, empty, item, seq, alt, group, repeat, Branches, one, also}
-use Rattle.syntax.specs.Compiled.{assertionWord, mostWord, greedWord}
+use Rattle.syntax.specs.Compiled.{assertionWord, mostWord, greedWord, foldedWord}
 
 -- the part before the one at p
 unfoldable pub beforeOf : List ℕ → ℕ → ℕ
@@ -71,13 +71,18 @@ module _ (a : List ℕ) where
     pub holds : Within lo p inside
 
   abbrev pub ItemPart : Item → (lo top p place : ℕ) → Type 0
-  ItemPart (byteIn c) lo top p place = record {
+  ItemPart (byteIn folded c) lo top p place = record {
     node : Last a lo top p 11 0;
     origin : getD a (p + 2) 0 ≡ place;
-    set : (x : ℕ) → x < 256 → has (drop (p + 3) a) x ≡ inClass c x;
+    set : (x : ℕ) → x < 256 → has (drop (p + 3) a) x ≡ inClass folded c x;
   }
   ItemPart (assert k) lo top p place = record { node : Last a lo top p 4 1; origin : getD a (p + 2) 0 ≡ place; which : getD a (p + 3) 0 ≡ assertionWord k }
-  ItemPart (reference n) lo top p place = record { node : Last a lo top p 4 11; origin : getD a (p + 2) 0 ≡ place; number : getD a (p + 3) 0 ≡ n }
+  ItemPart (reference folded n) lo top p place = record {
+    node : Last a lo top p 5 11;
+    origin : getD a (p + 2) 0 ≡ place;
+    number : getD a (p + 3) 0 ≡ n;
+    folds : getD a (p + 4) 0 ≡ foldedWord folded;
+  }
 
   unfoldable mutual
     -- a part of a sequence stands at p, its nodes from lo on and below top: an item, a group or a repeat; or a group that does not

@@ -1,5 +1,6 @@
 -- What the small functions write, number by number.
 use mathlib.Core.Path.{_≡_}
+use mathlib.Core.Bool.{false}
 use mathlib.Core.List.{List}
 use mathlib.Core.Logic.{_⊎_}
 use mathlib.Core.Option.{none}
@@ -55,12 +56,12 @@ pub record RepeatClosed (old new : List ℕ) (p kind next r entry : ℕ) : Type 
   pub goes : getD new (p + 7) 0 ≡ next
   pub rest : Outside p (p + 8) old new
 
--- a reference, whose number becomes its group's slot; or it is noted
+-- a reference, whose number becomes its group's slot; or it is noted. Whether it is folded makes no difference, and is left as it is.
 pub record Referred (groups : ℕ) (old new : List ℕ) (p next sofar found : ℕ) : Type 0 where
   pub kind : getD new p 0 ≡ getD old p 0
   pub origin : getD new (p + 2) 0 ≡ getD old (p + 2) 0
   pub rest : Outside p (p + 4) old new
-  pub known : dangling groups (getD old (p + 2) 0) (reference (getD old (p + 3) 0)) ≡ none → (1 ≤ getD old (p + 3) 0) × (getD old (p + 3) 0 ≤ groups)
-  pub goes : dangling groups (getD old (p + 2) 0) (reference (getD old (p + 3) 0)) ≡ none → getD new (p + 1) 0 ≡ next
-  pub span : dangling groups (getD old (p + 2) 0) (reference (getD old (p + 3) 0)) ≡ none → getD new (p + 3) 0 ≡ slot (getD old (p + 3) 0)
-  pub first : found ≡ noted (dangling groups (getD old (p + 2) 0) (reference (getD old (p + 3) 0))) sofar
+  pub known : dangling groups (getD old (p + 2) 0) (reference false (getD old (p + 3) 0)) ≡ none → (1 ≤ getD old (p + 3) 0) × (getD old (p + 3) 0 ≤ groups)
+  pub goes : dangling groups (getD old (p + 2) 0) (reference false (getD old (p + 3) 0)) ≡ none → getD new (p + 1) 0 ≡ next
+  pub span : dangling groups (getD old (p + 2) 0) (reference false (getD old (p + 3) 0)) ≡ none → getD new (p + 3) 0 ≡ slot (getD old (p + 3) 0)
+  pub first : found ≡ noted (dangling groups (getD old (p + 2) 0) (reference false (getD old (p + 3) 0))) sofar

@@ -131,7 +131,7 @@ fn close_repeat(area: &mut [u32], p: usize, kind: usize, next: usize, r: usize, 
     put(area, p + 7, next);
 }
 
-// A reference: its number becomes the slot of its group's span, if there is such a group.
+// A reference: its number becomes the slot of its group's span, if there is such a group. Whether it is folded stays as it was read.
 fn link_reference(area: &mut [u32], p: usize, next: usize, groups: usize, dangling: usize) -> usize
     requires { ⌜ (p + 4 ≤ length (now area)) × (next ≤ ruleAreaNeed) × (groups ≤ groupLimit) ⌝ }
     ensures { λ r. ⌜ Referred groups (now (area .entry)) (now (area .exit)) p next dangling r ⌝ }

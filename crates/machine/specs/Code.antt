@@ -23,7 +23,7 @@ Program = List ℕ
 pub data Test : Type 0 where
   inSet : (ℕ → Bool) → Test  -- the next byte is in the set
   holding : Assertion → Test
-  sameAs : ℕ → Test  -- the bytes of a span stand here too; the slot of that span
+  sameAs : Bool → ℕ → Test  -- the bytes of a span stand here too, folded or not; the slot of that span
 
 -- what a repeat's two nodes share
 pub record Repeat : Type 0 where
@@ -59,6 +59,9 @@ unfoldable pub greedOf : ℕ → Greed
 greedOf zero = Greedy
 greedOf (suc n) = Lazy
 
+unfoldable pub foldedOf : ℕ → Bool
+foldedOf n = eqb n 1
+
 unfoldable pub assertionOf : ℕ → Assertion
 assertionOf zero = TextStart
 assertionOf (suc zero) = LineStart
@@ -92,7 +95,7 @@ decodeAs (suc (suc (suc (suc (suc (suc (suc zero))))))) p pc = enters (pc + 2)
 decodeAs (suc (suc (suc (suc (suc (suc (suc (suc zero)))))))) p pc = loops (pc + 1)
 decodeAs (suc (suc (suc (suc (suc (suc (suc (suc (suc zero))))))))) p pc = ends
 decodeAs (suc (suc (suc (suc (suc (suc (suc (suc (suc (suc zero)))))))))) p pc = runs (pc + 2)
-decodeAs (suc (suc (suc (suc (suc (suc (suc (suc (suc (suc (suc zero))))))))))) p pc = tests (sameAs (getD p (pc + 3) 0)) (getD p (pc + 2) 0) (getD p (pc + 1) 0)
+decodeAs (suc (suc (suc (suc (suc (suc (suc (suc (suc (suc (suc zero))))))))))) p pc = tests (sameAs (foldedOf (getD p (pc + 4) 0)) (getD p (pc + 3) 0)) (getD p (pc + 2) 0) (getD p (pc + 1) 0)
 decodeAs (suc (suc (suc (suc (suc (suc (suc (suc (suc (suc (suc (suc n)))))))))))) p pc = ends
 
 unfoldable pub decode : Program → ℕ → Instruction
@@ -117,7 +120,7 @@ FitsAs (suc (suc (suc (suc (suc (suc (suc zero))))))) p pc = RepeatFits p (pc + 
 FitsAs (suc (suc (suc (suc (suc (suc (suc (suc zero)))))))) p pc = RepeatFits p (pc + 1)
 FitsAs (suc (suc (suc (suc (suc (suc (suc (suc (suc zero))))))))) p pc = Unit {0}
 FitsAs (suc (suc (suc (suc (suc (suc (suc (suc (suc (suc zero)))))))))) p pc = (pc + 8 ≤ length p) × (getD p (pc + 6) 0 + 11 ≤ length p)
-FitsAs (suc (suc (suc (suc (suc (suc (suc (suc (suc (suc (suc zero))))))))))) p pc = (pc + 4 ≤ length p) × (getD p (pc + 3) 0 + 2 ≤ spansLength)
+FitsAs (suc (suc (suc (suc (suc (suc (suc (suc (suc (suc (suc zero))))))))))) p pc = (pc + 5 ≤ length p) × (getD p (pc + 3) 0 + 2 ≤ spansLength)
 FitsAs (suc (suc (suc (suc (suc (suc (suc (suc (suc (suc (suc (suc n)))))))))))) p pc = ⊥
 
 pub record Fits (p : Program) (pc : ℕ) : Type 0 where

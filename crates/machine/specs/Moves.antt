@@ -103,13 +103,13 @@ bump n = min (n + 1) boundLimit
 unfoldable pub tested : List ℕ → Test → State → Tried
 tested sub (inSet f) s = when (ltb (s .at) (length sub)) (when (f (byte sub (s .at))) (goes (moved (suc (s .at)) s)))
 tested sub (holding a) s = when (holds sub a (s .at)) (goes s)
-tested sub (sameAs slot) s = refer sub (getD (s .spans) slot unset) (getD (s .spans) (slot + 1) unset) s
+tested sub (sameAs folded slot) s = refer folded sub (getD (s .spans) slot unset) (getD (s .spans) (slot + 1) unset) s
 
 -- the steps that it costs beside its own
 unfoldable pub price : List ℕ → Test → State → ℕ
 price sub (inSet f) s = 0
 price sub (holding a) s = 0
-price sub (sameAs slot) s = paidFor sub (getD (s .spans) slot unset) (getD (s .spans) (slot + 1) unset) (s .at)
+price sub (sameAs folded slot) s = paidFor folded sub (getD (s .spans) slot unset) (getD (s .spans) (slot + 1) unset) (s .at)
 
 -- Runs ------------------------------------------------------------------------
 

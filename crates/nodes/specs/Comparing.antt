@@ -10,11 +10,11 @@ use Rattle.nodes.specs.declared.references.Compared.{Compared}
 use Rattle.nodes.specs.declared.references.Compared.the-variants.{Same, Unlike, TooMany}
 
 -- whether the n bytes at a stand at b too
-abbrev pub standsAgain : List ℕ → (n a b : ℕ) → Bool
-standsAgain sub n a b = leb (b + n) (length sub) && sameAt sub n a b
+abbrev pub standsAgain : Bool → List ℕ → (n a b : ℕ) → Bool
+standsAgain folded sub n a b = leb (b + n) (length sub) && sameAt folded sub n a b
 
 -- A reference has its own step besides, so that fewer bytes are paid for than there are steps left.
-abbrev pub ComparedAs : List ℕ → (n a b left : ℕ) → Compared → Type 0
-ComparedAs sub n a b left Same = (standsAgain sub n a b ≡ true) × (compared sub n a b ≡ n) × (n < left)
-ComparedAs sub n a b left (Unlike k) = (standsAgain sub n a b ≡ false) × (compared sub n a b ≡ k) × (k < left)
-ComparedAs sub n a b left TooMany = left ≤ compared sub n a b
+abbrev pub ComparedAs : Bool → List ℕ → (n a b left : ℕ) → Compared → Type 0
+ComparedAs folded sub n a b left Same = (standsAgain folded sub n a b ≡ true) × (compared folded sub n a b ≡ n) × (n < left)
+ComparedAs folded sub n a b left (Unlike k) = (standsAgain folded sub n a b ≡ false) × (compared folded sub n a b ≡ k) × (k < left)
+ComparedAs folded sub n a b left TooMany = left ≤ compared folded sub n a b

@@ -136,7 +136,7 @@ pub fn take_reference(
     m: Machine,
     left: u32,
 ) -> Ran
-    requires { ⌜ (getD (now code) (m .pc) 0 ≡ 11) × (m .live ≡ true) × (1 ≤ left) × (m .pc + 4 ≤ length (now code)) × (getD (now code) (m .pc + 3) 0 + 2 ≤ spansLength) × (spansLength ≤ length (now regs)) ⌝ }
+    requires { ⌜ (getD (now code) (m .pc) 0 ≡ 11) × (m .live ≡ true) × (1 ≤ left) × (m .pc + 5 ≤ length (now code)) × (getD (now code) (m .pc + 3) 0 + 2 ≤ spansLength) × (spansLength ≤ length (now regs)) ⌝ }
     requires { ⌜ (length (now sub) < 2 ^ 32) × (length (now regs) ≡ registers) × (4 * m .height ≤ length (now work)) ⌝ }
     requires { ⌜ StackFits (now code) (stackOf (now work) (m .height)) ⌝ }
     ensures { λ r. ⌜ RanBy (now (code .entry)) (now (sub .entry)) (nowOf (now (regs .entry)) (now (work .entry)) m) left (now (regs .exit)) (now (work .exit)) r ⌝ }
@@ -150,7 +150,8 @@ pub fn take_reference(
         return Ran::Made(1, fallen);
     }
     let n = span_length(from, to);
-    match compare(sub, n, from, m.at, left) {
+    let folded = code[pc + 4] == 1;
+    match compare(sub, n, from, m.at, left, folded) {
         Compared::Same => {
             let next = code[pc + 1];
             let on = Machine {

@@ -1,5 +1,6 @@
 -- The parts of a sequence that are no groups: from what the item's reader or the quantifier's says to what the sequence then is.
 use mathlib.Core.Path.{_≡_, refl, ap, sym, subst, _∙_}
+use mathlib.Core.Bool.{Bool}
 use mathlib.Core.List.{List, [], _∷_}
 use Prim.Native.Nat.{ℕ, _+_, _≤_, _<_}
 use native.Mathlib.Omega.{arith}
@@ -15,8 +16,8 @@ use Rattle.syntax.specs.declared.Refusal.{Refusal}
 use Rattle.syntax.specs.Read.{byte, Read, sound, refused, andThen}
 use Rattle.syntax.specs.Tree.{Item, byteIn, assert, reference, item, seq, repeat}
 use Rattle.syntax.specs.Quantifiers.{quantifier}
-use Rattle.syntax.specs.Grammar.{atom, Sequence, unrepeatable, repeatable, repeated, whole, withItem, unfitFor, repeating, nextItem, part}
-use Rattle.syntax.specs.Compiled.{assertionWord, mostWord, greedWord}
+use Rattle.syntax.specs.Grammar.{ignoreCase, atom, Sequence, unrepeatable, repeatable, repeated, whole, withItem, unfitFor, repeating, nextItem, part}
+use Rattle.syntax.specs.Compiled.{assertionWord, mostWord, greedWord, foldedWord}
 use Rattle.syntax.specs.Laws.Forward.{Given, Past, Holding, Bounded, atom-on, quantifier-on}
 use Rattle.syntax.specs.Laws.Within.{Upto, atom-in, quantifier-in}
 use Rattle.lexer.specs.declared.Token.{Token}
@@ -84,12 +85,12 @@ given-at a P x n e g = subst (λ (y : Read _). Given y P) e g
 then-sound : {A B : Type 0} (a : Read A) (x : A) (n : ℕ) (k : A → ℕ → Read B) → a ≡ sound x n → andThen a k ≡ k x n
 then-sound a x n k e = ap (λ (y : Read _). andThen y k) e
 
-item-says : (a : Read Item) (l : Lexed) (t : Token) → l .token ≡ t → SaysItem a l → SaysItem a (record { words = l .words; token = t })
-item-says a l t e h = subst (λ (y : Token). SaysItem a (record { words = l .words; token = y })) e h
+item-says : (folded : Bool) (a : Read Item) (l : Lexed) (t : Token) → l .token ≡ t → SaysItem folded a l → SaysItem folded a (record { words = l .words; token = t })
+item-says folded a l t e h = subst (λ (y : Token). SaysItem folded a (record { words = l .words; token = y })) e h
 
-module _ (s : List ℕ) {old : List ℕ} {c : Cursor} (l : Lexed) (flags last : ℕ) (r : Ready (length s) old c) (inRule : c .at < length s) (says : SaysItem (atom s flags (c .opened) (c .at)) l) where
+module _ (s : List ℕ) {old : List ℕ} {c : Cursor} (l : Lexed) (flags last : ℕ) (r : Ready (length s) old c) (inRule : c .at < length s) (says : SaysItem (ignoreCase flags) (atom s flags (c .opened) (c .at)) l) where
   pub item-bad : (f : Refusal) → l .token ≡ BadItem f → Items s flags old old c last (Ends f)
-  item-bad f e = record { moved = tt; frame = λ i k. refl; claim = λ lo q h. rw (item-says _ l (BadItem f) e says) }
+  item-bad f e = record { moved = tt; frame = λ i k. refl; claim = λ lo q h. rw (item-says _ _ l (BadItem f) e says) }
 
   -- an item ends behind its beginning and within the rule
   module _ (i : Item) (next : ℕ) (is : atom s flags (c .opened) (c .at) ≡ sound i next) where
@@ -101,23 +102,23 @@ module _ (s : List ℕ) {old : List ℕ} {c : Cursor} (l : Lexed) (flags last : 
 
   pub item-byte : {new : List ℕ} (next : ℕ) → l .token ≡ Byte next → Wrote old new (c .used) 11 (0 ∷ last ∷ c .at ∷ l .words) → Items s flags old new c last (Goes (behindNode c next 11) (c .used) 1)
   item-byte {new} next e w =
-      let y = item-says (atom s flags (c .opened) (c .at)) l (Byte next) e says in
-      let n = on (byteIn (y .0)) next (y .1) in
-      let u = upto (byteIn (y .0)) next (y .1) in
+      let y = item-says (ignoreCase flags) (atom s flags (c .opened) (c .at)) l (Byte next) e says in
+      let n = on (byteIn (ignoreCase flags) (y .0)) next (y .1) in
+      let u = upto (byteIn (ignoreCase flags) (y .0)) next (y .1) in
       record {
         moved = record { on = n; within = u; grown = omega arith; paid = omega arith; address = omega arith; few = r .few };
         frame = w .below;
         claim = λ lo q h. (
-          repeatable (whole q) (item (c .at) (byteIn (y .0))),
+          repeatable (whole q) (item (c .at) (byteIn (ignoreCase flags) (y .0))),
           refl,
           then-sound _ _ next _ (y .1) ∙ (unfold withItem in refl),
-          so-far-more old new lo (c .used) last (c .used) (c .used + 11) (whole q) (item (c .at) (byteIn (y .0))) h (w .below) (byte-part (y .0) w (r .began) (y .2)),
+          so-far-more old new lo (c .used) last (c .used) (c .used + 11) (whole q) (item (c .at) (byteIn (ignoreCase flags) (y .0))) h (w .below) (byte-part (ignoreCase flags) (y .0) w (r .began) (y .2)),
         );
       }
 
   pub item-assert : {new : List ℕ} (k : Assertion) (next : ℕ) → l .token ≡ Assert k next → Wrote old new (c .used) 4 (1 ∷ last ∷ c .at ∷ assertionWord k ∷ []) → Items s flags old new c last (Goes (behindNode c next 4) (c .used) 0)
   item-assert {new} k next e w =
-      let y = item-says (atom s flags (c .opened) (c .at)) l (Assert k next) e says in
+      let y = item-says (ignoreCase flags) (atom s flags (c .opened) (c .at)) l (Assert k next) e says in
       let n = on (assert k) next y in
       let u = upto (assert k) next y in
       record {
@@ -131,19 +132,19 @@ module _ (s : List ℕ) {old : List ℕ} {c : Cursor} (l : Lexed) (flags last : 
         );
       }
 
-  pub item-reference : {new : List ℕ} (m next : ℕ) → l .token ≡ Reference m next → Wrote old new (c .used) 4 (11 ∷ last ∷ c .at ∷ m ∷ []) → Items s flags old new c last (Goes (behindNode c next 4) (c .used) 1)
+  pub item-reference : {new : List ℕ} (m next : ℕ) → l .token ≡ Reference m next → Wrote old new (c .used) 5 (11 ∷ last ∷ c .at ∷ m ∷ foldedWord (ignoreCase flags) ∷ []) → Items s flags old new c last (Goes (behindNode c next 5) (c .used) 1)
   item-reference {new} m next e w =
-      let y = item-says (atom s flags (c .opened) (c .at)) l (Reference m next) e says in
-      let n = on (reference m) next y in
-      let u = upto (reference m) next y in
+      let y = item-says (ignoreCase flags) (atom s flags (c .opened) (c .at)) l (Reference m next) e says in
+      let n = on (reference (ignoreCase flags) m) next y in
+      let u = upto (reference (ignoreCase flags) m) next y in
       record {
         moved = record { on = n; within = u; grown = omega arith; paid = omega arith; address = omega arith; few = r .few };
         frame = w .below;
         claim = λ lo q h. (
-          repeatable (whole q) (item (c .at) (reference m)),
+          repeatable (whole q) (item (c .at) (reference (ignoreCase flags) m)),
           refl,
           then-sound _ _ next _ y ∙ (unfold withItem in refl),
-          so-far-more old new lo (c .used) last (c .used) (c .used + 4) (whole q) (item (c .at) (reference m)) h (w .below) (reference-part w (r .began)),
+          so-far-more old new lo (c .used) last (c .used) (c .used + 5) (whole q) (item (c .at) (reference (ignoreCase flags) m)) h (w .below) (reference-part (ignoreCase flags) w (r .began)),
         );
       }
 

@@ -1,5 +1,6 @@
 -- What stands in the area once a node has been written: a chain with one part more, a group or a repeat around what stood there, a branch.
 use mathlib.Core.Path.{_≡_, refl, ap, sym, _∙_}
+use mathlib.Core.Bool.{Bool}
 use mathlib.Core.List.{List, [], _∷_}
 use Prim.Native.Nat.{ℕ, _+_, _/_, _%_, _≤_, _<_}
 use native.Mathlib.Omega.{arith}
@@ -14,7 +15,7 @@ use Rattle.syntax.specs.Limits.{slot}
 use Rattle.syntax.specs.Sets.{Class, inClass}
 use Rattle.syntax.specs.Tree.{byteIn, assert, reference, Rule, empty, item, seq, alt, group, repeat, Branches, one, also, alternatives}
 use Rattle.syntax.specs.Grammar.{Sequence, unrepeatable, repeatable, repeated, whole}
-use Rattle.syntax.specs.Compiled.{assertionWord, mostWord, greedWord}
+use Rattle.syntax.specs.Compiled.{assertionWord, mostWord, greedWord, foldedWord}
 use Rattle.linker.specs.Nodes.{beforeOf, Last, Region, Nothing, Branch, Part, Chain, Inside, Several}
 use Rattle.linker.proofs.Regions.{Same, part-here, chain-order, several-node, part-same, chain-same, inside-same, several-same}
 use Rattle.reader.specs.Wrote.{Below, Wrote}
@@ -54,9 +55,9 @@ has-same : (v w : List ℕ) → ((i : ℕ) → i < 8 → getD v i 0 ≡ getD w i
 unfolding has
 has-same v w e x h = ap (λ (n : ℕ). bit n (x % 32)) (e (x / 32) (omega arith))
 
-pub byte-part : {old new : List ℕ} {p before place : ℕ} {words : List ℕ} (c : Class) → Wrote old new p 11 (0 ∷ before ∷ place ∷ words) → 1 ≤ p → ((x : ℕ) → x < 256 → has words x ≡ inClass c x) → PartAfter before new (item place (byteIn c)) p (p + 11) p
+pub byte-part : {old new : List ℕ} {p before place : ℕ} {words : List ℕ} (folded : Bool) (c : Class) → Wrote old new p 11 (0 ∷ before ∷ place ∷ words) → 1 ≤ p → ((x : ℕ) → x < 256 → has words x ≡ inClass folded c x) → PartAfter before new (item place (byteIn folded c)) p (p + 11) p
 unfolding Part
-byte-part {old} {new} {p} {before} {place} {words} c w b h = (
+byte-part {old} {new} {p} {before} {place} {words} folded c w b h = (
   record { node = node w (omega arith) b p (omega arith); origin = w .at 2 (omega arith); set = λ x k. has-same (drop (p + 3) new) words word x k ∙ h x k },
   after w (omega arith) b (λ e. omega arith),
 )
@@ -70,9 +71,12 @@ pub assert-part : {old new : List ℕ} {p before place : ℕ} (k : Assertion) �
 unfolding Part
 assert-part {p = p} k w b = (record { node = node w (omega arith) b p (omega arith); origin = w .at 2 (omega arith); which = w .at 3 (omega arith) }, after w (omega arith) b (λ e. omega arith))
 
-pub reference-part : {old new : List ℕ} {p before place n : ℕ} → Wrote old new p 4 (11 ∷ before ∷ place ∷ n ∷ []) → 1 ≤ p → PartAfter before new (item place (reference n)) p (p + 4) p
+pub reference-part : {old new : List ℕ} {p before place n : ℕ} (folded : Bool) → Wrote old new p 5 (11 ∷ before ∷ place ∷ n ∷ foldedWord folded ∷ []) → 1 ≤ p → PartAfter before new (item place (reference folded n)) p (p + 5) p
 unfolding Part
-reference-part {p = p} w b = (record { node = node w (omega arith) b p (omega arith); origin = w .at 2 (omega arith); number = w .at 3 (omega arith) }, after w (omega arith) b (λ e. omega arith))
+reference-part {p = p} folded w b = (
+  record { node = node w (omega arith) b p (omega arith); origin = w .at 2 (omega arith); number = w .at 3 (omega arith); folds = w .at 4 (omega arith) },
+  after w (omega arith) b (λ e. omega arith),
+)
 
 -- Groups --------------------------------------------------------------------------
 

@@ -1,4 +1,5 @@
 // Reads a rule's alternations, sequences, items and groups, and appends a node for each part to a lent area.
+use lexer::behind_blanks;
 use lexer::peek;
 use syntax::Reason;
 use syntax::Refusal;
@@ -161,7 +162,7 @@ fn stops(b: u32) -> bool
     }
 }
 
-// The parts up to a bar, a closing bracket or the end.
+// The parts up to a bar, a closing bracket or the end. Blanks are skipped before each part and before the end, and nowhere else.
 fn sequence(rule: &[u8], flags: u32, area: &mut [u32], c: Cursor, depth: u32) -> Answer
     requires { ⌜ Ready (length (now rule)) (now area) c ⌝ }
     ensures { λ r. ⌜ Branch (now (rule .entry)) flags depth (now (area .entry)) (now (area .exit)) c r ⌝ }
@@ -170,13 +171,21 @@ fn sequence(rule: &[u8], flags: u32, area: &mut [u32], c: Cursor, depth: u32) ->
     let mut last: usize = 0;
     let mut kind = NOTHING;
     loop {
-        let at = d.at;
+        let from = d.at;
+        let used = d.used;
+        let opened = d.opened;
+        let at = behind_blanks(rule, flags, from);
+        let here = Cursor {
+            at: at,
+            used: used,
+            opened: opened,
+        };
         let b = peek(rule, at);
         let done = stops(b);
         if done {
-            return Answer::Sound(d, last);
+            return Answer::Sound(here, last);
         }
-        let r = piece(rule, flags, area, d, last, kind, depth);
+        let r = piece(rule, flags, area, here, last, kind, depth);
         match r {
             Turn::Ends(f) => {
                 return Answer::Refused(f);

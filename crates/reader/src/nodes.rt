@@ -7,7 +7,8 @@ ghost use mathlib.Core.List.{[], _∷_};
 ghost use Prim.Native.Nat.{_+_, _≤_};
 ghost use lib.ListN.{length};
 ghost use Rattle.syntax.specs.Limits.{groupLimit, slot};
-ghost use Rattle.syntax.specs.Compiled.{assertionWord, mostWord, greedWord};
+ghost use Rattle.syntax.specs.Grammar.{ignoreCase};
+ghost use Rattle.syntax.specs.Compiled.{assertionWord, mostWord, greedWord, foldedWord};
 ghost use Rattle.reader.specs.Wrote.{Wrote};
 
 // The kinds of nodes, as the linker's specs/Nodes.antt lists them.
@@ -31,7 +32,7 @@ pub const FINISH: u32 = 9;
 
 pub const PLAIN: u32 = 10;
 
-pub const REFERENCE: u32 = 11;
+const REFERENCE: u32 = 11;
 
 // The maximum of a repeat that has none.
 const UNLIMITED: u32 = 4294967295;
@@ -76,6 +77,15 @@ pub fn put_byte(area: &mut [u32], at: usize, before: u32, place: u32, class: [u3
     put_class(area, at + 3, class);
 }
 
+// Writes a reference.
+pub fn put_reference(area: &mut [u32], at: usize, before: u32, place: u32, number: u32, folded: u32)
+    requires { ⌜ at + 5 ≤ length (now area) ⌝ }
+    ensures { λ _. ⌜ Wrote (now (area .entry)) (now (area .exit)) at 5 (11 ∷ before ∷ place ∷ number ∷ folded ∷ []) ⌝ }
+{
+    put_four(area, at, REFERENCE, before, place, number);
+    area[at + 4] = folded;
+}
+
 // Writes a group that captures.
 pub fn put_group(area: &mut [u32], at: usize, before: u32, number: u32, inside: u32)
     requires { ⌜ (at + 7 ≤ length (now area)) × (1 ≤ number) × (number ≤ groupLimit) ⌝ }
@@ -98,6 +108,13 @@ pub fn assertion_word(k: Assertion) -> u32
         Assertion::WordBoundary => 5,
         Assertion::NoWordBoundary => 6,
     }
+}
+
+// The number that says whether items are folded. The flag is bit 2.
+pub fn folded_word(flags: u32) -> u32
+    ensures { λ r. ⌜ r ≡ foldedWord (ignoreCase flags) ⌝ }
+{
+    flags / 4 % 2
 }
 
 // The number of a repeat's maximum.

@@ -12,11 +12,12 @@ use crate::Turn;
 use crate::behind;
 use crate::nodes::ASSERTION;
 use crate::nodes::PLAIN;
-use crate::nodes::REFERENCE;
 use crate::nodes::assertion_word;
+use crate::nodes::folded_word;
 use crate::nodes::put_byte;
 use crate::nodes::put_four;
 use crate::nodes::put_group;
+use crate::nodes::put_reference;
 use crate::nodes::put_repeat;
 use crate::nodes::put_three;
 use lexer::Token;
@@ -111,8 +112,9 @@ fn item(rule: &[u8], flags: u32, area: &mut [u32], c: Cursor, last: usize) -> Tu
             Turn::Goes(behind(c, next, 4), used, NOTHING)
         }
         Token::Reference(n, next) => {
-            put_four(area, used, REFERENCE, last as u32, at as u32, n);
-            Turn::Goes(behind(c, next, 4), used, REPEATABLE)
+            let folded = folded_word(flags);
+            put_reference(area, used, last as u32, at as u32, n, folded);
+            Turn::Goes(behind(c, next, 5), used, REPEATABLE)
         }
     }
 }

@@ -49,6 +49,10 @@ fn letters(text: &[u8]) -> Value {
             flags = flags | 1;
         } else if text[i] == b'm' {
             flags = flags | 2;
+        } else if text[i] == b'i' {
+            flags = flags | 4;
+        } else if text[i] == b'x' {
+            flags = flags | 8;
         } else {
             return Value::Wrong;
         }
@@ -57,7 +61,7 @@ fn letters(text: &[u8]) -> Value {
     Value::Is(flags)
 }
 
-// Flags: a number from 0 to 3, letters out of `s` and `m`, or `-` for none.
+// Flags: a number from 0 to 15, letters out of `s`, `m`, `i` and `x`, or `-` for none.
 pub(crate) fn flags(text: &[u8]) -> Value {
     if text.len() == 0 {
         return Value::Wrong;
@@ -67,7 +71,7 @@ pub(crate) fn flags(text: &[u8]) -> Value {
             return Value::Is(0);
         }
     }
-    match decimal(text, 3) {
+    match decimal(text, 15) {
         Value::Is(n) => Value::Is(n),
         Value::Wrong => letters(text),
     }

@@ -1,4 +1,4 @@
-// Reads rules and writes what the reader says of each. A line of input is one digit, the flags, and then the rule's bytes in hex. A line of
+// Reads rules and writes what the reader says of each. A line of input is one hex digit, the flags, and then the rule's bytes in hex. A line of
 // output is 'sound' and the number of groups, or the refusal's number, 'at' and its place.
 use libc::STDIN_FILENO;
 use libc::STDOUT_FILENO;
@@ -48,7 +48,7 @@ fn lines(input: &[u8], area: &mut [u32])
 }
 
 fn main() {
-    let mut buffer = io::large_buffer();
+    let mut buffer = vectors::input_buffer();
     let n = io::read_full(STDIN_FILENO, &mut buffer);
     let mut area = [0u32; 16384];
     lines(&buffer[..n], &mut area);

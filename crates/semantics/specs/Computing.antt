@@ -3,7 +3,7 @@ use Rattle.syntax.specs.Limits.{ruleLimit, subjectLimit, budgetLimit, ruleAreaN
 use Rattle.syntax.specs.Computing.{computing-readings}
 use Rattle.semantics.specs.Assertions.{byteBefore, isNewline, isWord, exactlyOne, holds}
 use Rattle.semantics.specs.States.{starting, chose, moved, closed, row}
-use Rattle.semantics.specs.Items.{when, sameAt, refer, compared, paidFor, toll, try}
+use Rattle.semantics.specs.Items.{when, sameByte, sameAt, refer, compared, paidFor, toll, try}
 use Rattle.semantics.specs.Repeats.{isFull, allowed, decision}
 use Rattle.semantics.specs.Derivations.{branchCount}
 use Rattle.semantics.specs.Walk.{_▹_, done, tried, paying, decide, rounds, enough, walk, walks, trace}
@@ -12,5 +12,5 @@ use Rattle.semantics.specs.Answers.{unmatched, oneStepMore, first, answe
 use Rattle.semantics.specs.Calls.{workAreaNeed, unacceptable, over, cleared, untouched, leaving, withReading, unlessRefused, call, matchReturns, matchRule, matchCall, listOutcome, joined, room, listRule, listCall}
 
 unfoldable pub computing-calls : Unit {0}
-unfolding computing-readings ruleLimit subjectLimit budgetLimit ruleAreaNeed workPerStep flagBits unset spansLength rowLength byteBefore isNewline isWord exactlyOne holds slot starting chose moved closed row when sameAt refer compared paidFor toll try isFull allowed decision branchCount _▹_ done tried paying decide rounds enough walk walks trace moment meets spend run runs unmatched oneStepMore first answer known unless fresh unfilled plainly withRow fill listing workAreaNeed unacceptable over cleared untouched leaving withReading unlessRefused call matchReturns matchRule matchCall listOutcome joined room listRule listCall
+unfolding computing-readings ruleLimit subjectLimit budgetLimit ruleAreaNeed workPerStep flagBits unset spansLength rowLength byteBefore isNewline isWord exactlyOne holds slot starting chose moved closed row when sameByte sameAt refer compared paidFor toll try isFull allowed decision branchCount _▹_ done tried paying decide rounds enough walk walks trace moment meets spend run runs unmatched oneStepMore first answer known unless fresh unfilled plainly withRow fill listing workAreaNeed unacceptable over cleared untouched leaving withReading unlessRefused call matchReturns matchRule matchCall listOutcome joined room listRule listCall
 computing-calls = tt

@@ -51,7 +51,7 @@ stepsBefore walkFrom (suc n) = stepsBefore walkFrom n + length (walkFrom n)
 pub data Fault (c : Call) : Reason → Type 0 where
   ruleTooLong : ruleLimit < length (c .rule) → Fault c RuleTooLong  -- "rule over 1,000 bytes"
   subjectTooLong : subjectLimit < length (c .subject) → Fault c SubjectTooLong  -- "subject over 65,535 bytes"
-  unknownFlag : 2 ^ flagBits ≤ c .flags → Fault c UnknownFlag  -- "a flag bit above 1 set": bits 0 and 1 alone make less than 4
+  unknownFlag : 2 ^ flagBits ≤ c .flags → Fault c UnknownFlag  -- 02: "Refusal 3 now starts at bit 4": bits 0 to 3 alone make less than 16
   budgetTooLarge : budgetLimit < c .budget → Fault c BudgetTooLarge  -- "budget over 100,000"
   ruleAreaShort : length (c .ruleArea) < ruleAreaNeed → Fault c RuleAreaShort  -- "rule area short"
   workAreaShort : length (c .workArea) < workAreaNeed (c .budget) → Fault c WorkAreaShort  -- "work area short"

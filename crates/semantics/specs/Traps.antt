@@ -58,7 +58,7 @@ traps =
     -- lazy repeats go on first
     ∷ listing "a*?" 0 "aa" 99 9 (Complete 6 18) (rowOf 0 0 [] ∷ rowOf 0 1 [] ∷ rowOf 0 2 [] ∷ rowOf 1 1 [] ∷ rowOf 1 2 [] ∷ rowOf 2 2 [] ∷ [])
     -- refusals 3 and 4
-    ∷ matching "(" 4 "" 99 (Refused 0 UnknownFlag) []
+    ∷ matching "(" 16 "" 99 (Refused 0 UnknownFlag) []
     ∷ matching "(" 0 "" 100001 (Refused 0 BudgetTooLarge) []
     -- 02 A1: `\h` has A0 and `\v` has 85, in classes too; `\H` and `\V` do not
     ∷ matching "\\h" 0 "\u{a0}" 99 (Matched 2) (rowOf 0 1 [] ∷ [])
@@ -88,6 +88,41 @@ traps =
     ∷ matching "(a)\\1" 0 "ab" 4 (Exhausted 0 4) []
     -- 02 B3: an empty span costs one step
     ∷ matching "()\\1" 0 "" 99 (Matched 4) (rowOf 0 0 (0 ∷ 0 ∷ []) ∷ [])
+    -- 02 B4: under `i` a byte that is the other case of a letter is paid like an equal one
+    ∷ matching "(a)\\1" 4 "aA" 99 (Matched 6) (rowOf 0 2 (0 ∷ 1 ∷ []) ∷ [])
+    -- 02 C1: folded first, complemented after
+    ∷ matching "[[:^upper:]]" 4 "a" 99 (NotMatched 2) []
+    ∷ matching "[^a]" 4 "A" 99 (NotMatched 2) []
+    ∷ matching "[^[:^upper:]]" 4 "a" 99 (Matched 2) (rowOf 0 1 [] ∷ [])
+    -- 02 C2: a byte that an escape stands for is a literal
+    ∷ matching "\\x41" 4 "a" 99 (Matched 2) (rowOf 0 1 [] ∷ [])
+    ∷ matching "[\\101]" 4 "a" 99 (Matched 2) (rowOf 0 1 [] ∷ [])
+    -- 02 C3: a range's set is folded, not its ends
+    ∷ matching "[Z-a]" 4 "b" 99 (NotMatched 2) []
+    ∷ matching "[Z-a]" 4 "z" 99 (Matched 2) (rowOf 0 1 [] ∷ [])
+    ∷ matching "[\\x41-\\x5a]" 4 "q" 99 (Matched 2) (rowOf 0 1 [] ∷ [])
+    -- 02 C4, C5: no other byte is folded; upper and lower are
+    ∷ matching "\u{e9}" 4 "\u{c9}" 99 (NotMatched 2) []
+    ∷ matching "[[:lower:]][[:upper:]]" 4 "Ab" 99 (Matched 3) (rowOf 0 2 [] ∷ [])
+    -- 02 C10: a comment ends at 0A or with the rule, and what it holds is not looked at
+    ∷ matching "#\ra" 8 "" 99 (Matched 1) (rowOf 0 0 [] ∷ [])
+    ∷ matching "a#(" 8 "a" 99 (Matched 2) (rowOf 0 1 [] ∷ [])
+    ∷ matching "#\\" 8 "" 99 (Matched 1) (rowOf 0 0 [] ∷ [])
+    -- 02 C11: 0B is skipped; 85, A0 and 00 are literals
+    ∷ matching "\u{b}a" 8 "a" 99 (Matched 2) (rowOf 0 1 [] ∷ [])
+    ∷ matching "\u{85}\u{a0}\u{0}" 8 "\u{85}\u{a0}\u{0}" 99 (Matched 4) (rowOf 0 3 [] ∷ [])
+    -- 02 C13: a blank ends the number of a reference, and is a literal behind a backslash
+    ∷ matching "(a)\\1 0" 8 "aa0" 99 (Matched 7) (rowOf 0 3 (0 ∷ 1 ∷ []) ∷ [])
+    ∷ matching "\\ \\#" 8 " #" 99 (Matched 3) (rowOf 0 2 [] ∷ [])
+    -- 02 C14: between an item and its repeat
+    ∷ matching "a {2}" 8 "aa" 99 (Matched 6) (rowOf 0 2 [] ∷ [])
+    ∷ matching "a #c\n*" 8 "aa" 99 (Matched 7) (rowOf 0 2 [] ∷ [])
+    -- 02 C15: a class holds its blanks
+    ∷ matching "[ ][a #]" 8 " #" 99 (Matched 3) (rowOf 0 2 [] ∷ [])
+    -- 02 C16: a branch of blanks is empty
+    ∷ matching "a| " 8 "" 99 (Matched 4) (rowOf 0 0 [] ∷ [])
+    -- 02 C17: all four flags
+    ∷ matching "A . b" 15 "a\nB" 99 (Matched 4) (rowOf 0 3 [] ∷ [])
     ∷ []
 
 pub traps-avoided : map calls traps ≡ map expected traps

@@ -11,11 +11,12 @@
 --   repeat     7, 8, least, most, greed, register, body, next    entered at the 7, decided again at the 8
 --   end        9
 --   run       10, 8, least, most, greed, register, body, next    a greedy repeat of one byte item, `a*` or `(?:a)*`, which is taken as a whole
---   reference 11, next, place, the slot of its group's span
+--   reference 11, next, place, the slot of its group's span, 1 if it is folded
 --
 -- `next` is the position of the node after it, `place` the item's place in the rule. A group keeps where it was opened, and a repeat its
 -- rounds and where the last one began, in two registers from the number given on; nodes inside use those behind.
 use mathlib.Core.Path.{_≡_}
+use mathlib.Core.Bool.{Bool, true, false}
 use mathlib.Core.List.{List}
 use mathlib.Core.Logic.{_⊎_}
 use Prim.Native.Nat.{ℕ, _+_, _≤_, _<_}
@@ -51,14 +52,18 @@ unfoldable pub greedWord : Greed → ℕ
 greedWord Greedy = 0
 greedWord Lazy = 1
 
+unfoldable pub foldedWord : Bool → ℕ
+foldedWord false = 0
+foldedWord true = 1
+
 -- Runs ----------------------------------------------------------------------------
 
 -- one byte item, by itself or in a group that does not capture
 abbrev pub OneByte : Rule → Type 0
 OneByte empty = ⊥
-OneByte (item place (byteIn c)) = Unit {0}
+OneByte (item place (byteIn folded c)) = Unit {0}
 OneByte (item place (assert a)) = ⊥
-OneByte (item place (reference n)) = ⊥
+OneByte (item place (reference folded n)) = ⊥
 OneByte (seq empty b) = OneByte b
 OneByte (seq (item place i) b) = ⊥
 OneByte (seq (seq x y) b) = ⊥
@@ -90,11 +95,11 @@ module _ (p : List ℕ) (lo hi : ℕ) where
 
   -- the item whose place in the rule is given stands at pc and goes on at next
   abbrev pub CompiledItem : Item → (place pc next : ℕ) → Type 0
-  CompiledItem (byteIn c) place pc next = record {
+  CompiledItem (byteIn folded c) place pc next = record {
     node : Node pc 11 0;
     goes : getD p (pc + 1) 0 ≡ next;
     origin : getD p (pc + 2) 0 ≡ place;
-    set : (x : ℕ) → x < 256 → has (drop (pc + 3) p) x ≡ inClass c x;
+    set : (x : ℕ) → x < 256 → has (drop (pc + 3) p) x ≡ inClass folded c x;
   }
   CompiledItem (assert a) place pc next = record {
     node : Node pc 4 1;
@@ -102,12 +107,13 @@ module _ (p : List ℕ) (lo hi : ℕ) where
     origin : getD p (pc + 2) 0 ≡ place;
     which : getD p (pc + 3) 0 ≡ assertionWord a;
   }
-  CompiledItem (reference n) place pc next = record {
-    node : Node pc 4 11;
+  CompiledItem (reference folded n) place pc next = record {
+    node : Node pc 5 11;
     goes : getD p (pc + 1) 0 ≡ next;
     origin : getD p (pc + 2) 0 ≡ place;
     span : getD p (pc + 3) 0 ≡ slot n;
     fits : slot n + 2 ≤ spansLength;
+    folds : getD p (pc + 4) 0 ≡ foldedWord folded;
   }
 
   -- the rule stands at pc, goes on at next, and uses the registers from r on

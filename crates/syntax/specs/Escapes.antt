@@ -1,6 +1,6 @@
 -- Escapes. `at` is the backslash's position, and the place of every refusal.
 use mathlib.Core.List.{List, [], _∷_}
-use mathlib.Core.Bool.{not, _||_}
+use mathlib.Core.Bool.{Bool, not, _||_}
 use Prim.Native.Nat.{ℕ, _+_, _-_, _/_, _%_}
 use Prim.Native.Char.{Char}
 use lib.ListN.{length, take}
@@ -112,7 +112,7 @@ classEscape s at =
     else if between "0" "7" b then octal s at
     else common s at
 
--- Outside a class, where so many groups have been opened ------------------
+-- Outside a class, where so many groups have been opened; folded or not ----
 
 -- the group that N names: no rule has one above the limit, and 0 stands for "no such group"
 unfoldable pub forward : ℕ → ℕ
@@ -141,16 +141,16 @@ groupNumber s opened at =
     then andThen (signed s opened at (at + 3)) (λ n next. if is "}" (byte s next) then sound n (next + 1) else refused at MalformedEscape)
     else signed s opened at (at + 2)
 
-unfoldable pub escape : List ℕ → ℕ → ℕ → Read Item
-escape s opened at =
+unfoldable pub escape : List ℕ → Bool → ℕ → ℕ → Read Item
+escape s folded opened at =
     let b = byte s (at + 1) in
-    if is "N" b then sound (byteIn notNewline) (at + 2)
+    if is "N" b then sound (byteIn folded notNewline) (at + 2)
     else if is "A" b then sound (assert TextStart) (at + 2)
     else if is "z" b then sound (assert TextEnd) (at + 2)
     else if is "Z" b then sound (assert LastLineEnd) (at + 2)
     else if is "b" b then sound (assert WordBoundary) (at + 2)
     else if is "B" b then sound (assert NoWordBoundary) (at + 2)
-    else if is "0" b then andThen (octal s at) (λ m next. sound (byteIn (only m)) next)
-    else if between "1" "9" b then andThen (decimal s at (at + 1)) (λ n next. sound (reference (forward n)) next)
-    else if is "g" b then andThen (groupNumber s opened at) (λ n next. sound (reference n) next)
-    else andThen (common s at) (λ m next. sound (byteIn (only m)) next)
+    else if is "0" b then andThen (octal s at) (λ m next. sound (byteIn folded (only m)) next)
+    else if between "1" "9" b then andThen (decimal s at (at + 1)) (λ n next. sound (reference folded (forward n)) next)
+    else if is "g" b then andThen (groupNumber s opened at) (λ n next. sound (reference folded n) next)
+    else andThen (common s at) (λ m next. sound (byteIn folded (only m)) next)

@@ -1,16 +1,18 @@
 -- The grammar of rules: items, sequences, alternations and groups, read by recursion on the nesting depth.
-use mathlib.Core.List.{List}
-use mathlib.Core.Bool.{Bool, not, _||_}
+use mathlib.Core.List.{List, [], _∷_}
+use mathlib.Core.Bool.{Bool, true, false, not, _||_}
 use Prim.Native.Nat.{ℕ, zero, suc, _+_}
-use lib.ListN.{length}
-use lib.Dec.{ltb}
+use lib.ListN.{length, drop}
+use lib.Dec.{ltb, eqb}
 use Rattle.syntax.specs.declared.Assertion.the-variants.{TextStart, LineStart, LastLineEnd, LineEnd}
 use Rattle.syntax.specs.declared.Greed.{Greed}
 use Rattle.syntax.specs.declared.Most.{Most}
 use Rattle.syntax.specs.declared.Quantifier.{Quantifier}
 use Rattle.syntax.specs.declared.Quantifier.the-variants.{Absent, Stray, Unfit, Times}
 use Rattle.syntax.specs.declared.Reason.the-variants.{NothingToRepeat, BadBraces, RepeatOnRepeat, UnclosedGroup, UnknownGroup, TooManyGroups, TooDeep}
-use Rattle.syntax.specs.Limits.{dotAllBit, multilineBit, groupLimit}
+use Rattle.syntax.specs.Limits.{dotAllBit, multilineBit, ignoreCaseBit, extendedBit, groupLimit}
+use Rattle.charset.specs.declared.Named.the-variants.{Space}
+use Rattle.charset.specs.Named.{inNamed}
 use Rattle.charset.specs.Class.{bit}
 use Rattle.syntax.specs.Read.{if_then_else_, byte, isEnd, is, Read, sound, refused, andThen}
 use Rattle.syntax.specs.Sets.{single, only, notNewline, anyByte}
@@ -19,12 +21,31 @@ use Rattle.syntax.specs.Escapes.{escape}
 use Rattle.syntax.specs.Classes.{class}
 use Rattle.syntax.specs.Quantifiers.{quantifier}
 
--- "Flags: bit 0 is `s`, bit 1 is `m`."
+-- "Flags: bit 0 is `s`, bit 1 is `m`." 02: "Flag bit 2 is `i`", "Flag bit 3 is `x`".
 unfoldable pub dotAll : ℕ → Bool
 dotAll flags = bit flags dotAllBit
 
 unfoldable pub multiline : ℕ → Bool
 multiline flags = bit flags multilineBit
+
+unfoldable pub ignoreCase : ℕ → Bool
+ignoreCase flags = bit flags ignoreCaseBit
+
+unfoldable pub extended : ℕ → Bool
+extended flags = bit flags extendedBit
+
+-- Blanks --------------------------------------------------------------------
+
+-- "bytes 09 to 0D and 20", which are the set space, "and `#` up to the line's end, are skipped": how many of the bytes at the beginning of a list
+-- are, within a comment or not. A line ends at 0A.
+unfoldable pub skipped : Bool → List ℕ → ℕ
+skipped comment [] = 0
+skipped true (b ∷ bs) = suc (skipped (not (eqb b 0x0A)) bs)
+skipped false (b ∷ bs) = if inNamed Space b then suc (skipped false bs) else if is "#" b then suc (skipped true bs) else 0
+
+-- the position behind what is skipped from a position on, under `x`
+unfoldable pub behindBlanks : List ℕ → ℕ → ℕ → ℕ
+behindBlanks s flags at = if extended flags then at + skipped false (drop at s) else at
 
 -- Single items ------------------------------------------------------------
 
@@ -32,12 +53,13 @@ multiline flags = bit flags multilineBit
 unfoldable pub atom : List ℕ → ℕ → ℕ → ℕ → Read Item
 atom s flags opened at =
     let b = byte s at in
-    if is "\\" b then escape s opened at
-    else if is "[" b then andThen (class s at) (λ c next. sound (byteIn c) next)
-    else if is "." b then sound (byteIn (if dotAll flags then anyByte else notNewline)) (at + 1)
+    let folded = ignoreCase flags in
+    if is "\\" b then escape s folded opened at
+    else if is "[" b then andThen (class s at) (λ c next. sound (byteIn folded c) next)
+    else if is "." b then sound (byteIn folded (if dotAll flags then anyByte else notNewline)) (at + 1)
     else if is "^" b then sound (assert (if multiline flags then LineStart else TextStart)) (at + 1)
     else if is "$" b then sound (assert (if multiline flags then LineEnd else LastLineEnd)) (at + 1)
-    else sound (byteIn (only (single b))) (at + 1)
+    else sound (byteIn folded (only (single b))) (at + 1)
 
 -- Groups --------------------------------------------------------------------
 
@@ -76,9 +98,9 @@ whole (repeatable before last) = seq before last
 whole (repeated t) = t
 
 unfoldable pub withItem : Sequence → ℕ → Item → Sequence
-withItem q at (byteIn c) = repeatable (whole q) (item at (byteIn c))
+withItem q at (byteIn folded c) = repeatable (whole q) (item at (byteIn folded c))
 withItem q at (assert a) = unrepeatable (seq (whole q) (item at (assert a)))
-withItem q at (reference n) = repeatable (whole q) (item at (reference n))
+withItem q at (reference folded n) = repeatable (whole q) (item at (reference folded n))
 
 -- "17 a well-formed repeat with nothing to repeat", 18 for its bounds, "19 a repeat on a repeat"; "on one byte the lower number"
 unfoldable pub unfitFor : Sequence → ℕ → Read (Sequence × ℕ)
@@ -107,10 +129,12 @@ part s flags inner q opened at (Times n m g next) = repeating q at n m g opened 
 unfoldable pub ends : ℕ → Bool
 ends b = is "|" b || is ")" b || isEnd b
 
--- the parts as long as there are any. Each takes a byte or more: the first number bounds them
+-- The parts as long as there are any. Each takes a byte or more: the first number bounds them. 02: blanks are skipped "outside classes, also between an
+-- item and its repeat, but not inside an escape, a repeat (`a* ?` is 19) or a group's opening", which is before each part, and before the end.
 unfoldable pub sequence : ℕ → List ℕ → ℕ → Inner → Sequence → ℕ → ℕ → Read (Rule × ℕ)
-sequence zero s flags inner q opened at = sound (whole q, opened) at
-sequence (suc f) s flags inner q opened at =
+sequence zero s flags inner q opened from = sound (whole q, opened) from
+sequence (suc f) s flags inner q opened from =
+    let at = behindBlanks s flags from in
     if ends (byte s at) then sound (whole q, opened) at
     else andThen (part s flags inner q opened at (quantifier s at)) (λ r next. sequence f s flags inner (r .0) (r .1) next)
 

@@ -1,4 +1,5 @@
 -- What is proved of the reading of a rule.
+pub mod Blanks
 pub mod Forward
 pub mod Within
 pub mod Fuel

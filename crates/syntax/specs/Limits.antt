@@ -20,15 +20,21 @@ ruleAreaNeed = 16384
 unfoldable pub workPerStep : ℕ
 workPerStep = 16
 
--- "Flags: bit 0 is `s`, bit 1 is `m`", and there are no others
+-- 01: "Flags: bit 0 is `s`, bit 1 is `m`"; 02, request c): "Flag bit 2 is `i`", "Flag bit 3 is `x`", and "Refusal 3 now starts at bit 4"
 unfoldable pub dotAllBit : ℕ
 dotAllBit = 0
 
 unfoldable pub multilineBit : ℕ
 multilineBit = 1
 
+unfoldable pub ignoreCaseBit : ℕ
+ignoreCaseBit = 2
+
+unfoldable pub extendedBit : ℕ
+extendedBit = 3
+
 unfoldable pub flagBits : ℕ
-flagBits = 2
+flagBits = 4
 
 -- What a rule may hold --------------------------------------------------------
 

@@ -22,9 +22,9 @@ firstOf (some p) q = some p
 
 -- "no such group, or N is 0"
 unfoldable pub dangling : ℕ → ℕ → Item → Option ℕ
-dangling groups at (byteIn c) = none
+dangling groups at (byteIn folded c) = none
 dangling groups at (assert a) = none
-dangling groups at (reference n) = if eqb n 0 || not (leb n groups) then some at else none
+dangling groups at (reference folded n) = if eqb n 0 || not (leb n groups) then some at else none
 
 -- the place of the first reference to no group
 unfoldable mutual

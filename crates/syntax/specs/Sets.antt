@@ -8,6 +8,7 @@ use lib.Dec.{eqb}
 use Rattle.charset.specs.declared.Named.{Named}
 use Rattle.charset.specs.declared.Named.the-variants.{Digit, Word, Space, Alpha, Upper, Lower, Alnum, Xdigit, Blank, Cntrl, Ascii, Print, Graph, Punct}
 use Rattle.charset.specs.Named.{_to_, inRange, inNamed}
+use Rattle.charset.specs.Cases.{folding}
 use Rattle.syntax.specs.Read.{if_then_else_, bytes}
 
 infix 70 _names_
@@ -59,18 +60,20 @@ pub record Class : Type 0 where
   pub negated : Bool
   pub members : List Member
 
-unfoldable pub isMember : ℕ → Member → Bool
-isMember b (single c) = eqb b c
-isMember b (range low high) = inRange b (low to high)
-isMember b (named set) = inNamed set b
-isMember b (notNamed set) = not (inNamed set b)
+-- 02, request c): under `i`, where a class is folded, "A to Z and a to z match each other in literals, ranges, references and the sets upper and
+-- lower; a negated class or named set is folded first and complemented after". The other sets have both cases of each of their letters.
+unfoldable pub isMember : Bool → ℕ → Member → Bool
+isMember folded b (single c) = folding folded (λ x. eqb x c) b
+isMember folded b (range low high) = folding folded (λ x. inRange x (low to high)) b
+isMember folded b (named set) = folding folded (inNamed set) b
+isMember folded b (notNamed set) = not (folding folded (inNamed set) b)
 
-unfoldable pub isAny : ℕ → List Member → Bool
-isAny b [] = false
-isAny b (m ∷ ms) = isMember b m || isAny b ms
+unfoldable pub isAny : Bool → ℕ → List Member → Bool
+isAny folded b [] = false
+isAny folded b (m ∷ ms) = isMember folded b m || isAny folded b ms
 
-unfoldable pub inClass : Class → ℕ → Bool
-inClass c b = if c .negated then not (isAny b (c .members)) else isAny b (c .members)
+unfoldable pub inClass : Bool → Class → ℕ → Bool
+inClass folded c b = if c .negated then not (isAny folded b (c .members)) else isAny folded b (c .members)
 
 -- a literal, an escape for one byte, or a set's escape
 unfoldable pub only : Member → Class

@@ -1,4 +1,4 @@
--- The inputs that tell the readings of 01's open points apart (docs/DECISIONS.md), with the verdict that the reading of a rule gives.
+-- The inputs that tell the readings of 01's and 02's open points apart (docs/DECISIONS.md), with the verdict that the reading of a rule gives.
 use mathlib.Core.Path.{_≡_, refl}
 use mathlib.Core.List.{List, [], _∷_, map}
 use Prim.Native.Nat.{ℕ}
@@ -19,10 +19,12 @@ unfoldable pub verdict : String → Read (Rule × ℕ) → Verdict
 verdict rule (sound r end) = rule holds (r .1)
 verdict rule (refused place why) = rule gives (numberOf why) at place
 
--- what the reading of the rule says, without flags
-unfoldable pub read : Verdict → Verdict
-read (rule gives n at place) = verdict rule (reading (bytes rule) 0)
-read (rule holds n) = verdict rule (reading (bytes rule) 0)
+-- what the reading of the rule says under the flags
+unfoldable pub read : ℕ → Verdict → Verdict
+read flags (rule gives n at place) = verdict rule (reading (bytes rule) flags)
+read flags (rule holds n) = verdict rule (reading (bytes rule) flags)
+
+-- Without flags -------------------------------------------------------------------
 
 unfoldable pub verdicts : List Verdict
 verdicts =
@@ -205,6 +207,71 @@ verdicts =
     ∷ "[" gives 14 at 0
     ∷ []
 
-pub verdicts-hold : map read verdicts ≡ verdicts
+pub verdicts-hold : map (read 0) verdicts ≡ verdicts
 unfolding computing-readings verdict read verdicts
 verdicts-hold = refl
+
+-- Under `i` -----------------------------------------------------------------------
+
+unfoldable pub foldedVerdicts : List Verdict
+foldedVerdicts =
+    -- 02 C3: a range's ends are compared as they are written
+    "[a-Z]" gives 15 at 1
+    ∷ "[Z-a]" holds 0
+    ∷ "[\\x41-\\x5a]" holds 0
+    ∷ []
+
+pub folded-verdicts-hold : map (read 4) foldedVerdicts ≡ foldedVerdicts
+unfolding computing-readings verdict read foldedVerdicts
+folded-verdicts-hold = refl
+
+-- Under `x` -----------------------------------------------------------------------
+
+unfoldable pub extendedVerdicts : List Verdict
+extendedVerdicts =
+    -- 02 C10: a comment ends at 0A or at the rule's end, and what it holds is not looked at
+    "#\ra" holds 0
+    ∷ "#\r(" holds 0
+    ∷ "#\n(" gives 20 at 2
+    ∷ "a#(" holds 0
+    ∷ "#\\" holds 0
+    -- 02 C11: 09 to 0D and 20 are skipped; 85, A0 and 00 can be repeated
+    ∷ "\t\n\u{b}\u{c}\r *" gives 17 at 6
+    ∷ "\u{85}*" holds 0
+    ∷ "\u{a0}*" holds 0
+    ∷ "\0*" holds 0
+    -- 02 C12: a group's opening
+    ∷ "( ?:a)" gives 17 at 2
+    ∷ "(? :a)" gives 22 at 0
+    ∷ "(?: a)" holds 0
+    ∷ "( ?<n>a)" gives 17 at 2
+    ∷ "( ?=a)" gives 17 at 2
+    -- 02 C13: escapes
+    ∷ "()\\1 0" holds 1
+    ∷ "()\\10" gives 13 at 2
+    ∷ "\\ *" holds 0
+    ∷ "\\#*" holds 0
+    ∷ "\\c " gives 12 at 0
+    ∷ "\\x4 1" gives 12 at 0
+    ∷ "\\g {1}" gives 12 at 0
+    -- 02 C14: repeats
+    ∷ "a* ?" gives 19 at 3
+    ∷ "a{2} ?" gives 19 at 5
+    ∷ "a{2 }" gives 18 at 1
+    ∷ "a {2}" holds 0
+    ∷ "a #c\n*" holds 0
+    ∷ "^ *" gives 17 at 2
+    ∷ "( *)" gives 17 at 2
+    ∷ "\\N {" gives 18 at 3
+    -- 02 C15: classes
+    ∷ "[ ]" holds 0
+    ∷ "[#]" holds 0
+    ∷ "[a #]" holds 0
+    -- 02 C16: places count what is skipped, and a branch of blanks is empty
+    ∷ "a| " holds 0
+    ∷ "#)\n )" gives 21 at 4
+    ∷ []
+
+pub extended-verdicts-hold : map (read 8) extendedVerdicts ≡ extendedVerdicts
+unfolding computing-readings verdict read extendedVerdicts
+extended-verdicts-hold = refl

@@ -25,9 +25,9 @@ abbrev mutual
   Propers groups (also bs b) = Propers groups bs × Proper groups b
 
 abbrev pub Refers : ℕ → Item → Type 0
-Refers groups (byteIn c) = Unit
+Refers groups (byteIn folded c) = Unit
 Refers groups (assert a) = Unit
-Refers groups (reference n) = (1 ≤ n) × (n ≤ groups)
+Refers groups (reference folded n) = (1 ≤ n) × (n ≤ groups)
 
 -- every reference is to a group of the rule
 abbrev mutual

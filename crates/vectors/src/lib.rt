@@ -5,6 +5,13 @@ ghost use lib.ListN.{length};
 ghost use lib.Seq.{slice};
 ghost use Rattle.vectors.specs.Text.{digitValue, numberIn, Decoded, wordEnd, nextWord};
 
+// 131,072 zeros, for the whole input of a program.
+pub fn input_buffer() -> [u8; 131072]
+    ensures { λ r. ⌜ 131072 ≡ length r ⌝ }
+{
+    [0; 131072]
+}
+
 // What a hex digit stands for; 0 for any other byte.
 pub fn digit(b: u8) -> u8
     ensures { λ r. ⌜ r ≡ digitValue b ⌝ }

@@ -1,6 +1,6 @@
 // Walks rules from given starts and writes each end, with its captures and the steps up to it, and how the walk stopped.
 //
-// A line of input has one digit, the flags, and then four words: the budget and the start in decimal, the rule and the subject in hex.
+// A line of input has one hex digit, the flags, and then four words: the budget and the start in decimal, the rule and the subject in hex.
 // It gives a line for each end, 'end', the steps, the position and each group's span, 's-e' or '-'; and last 'done' or 'spent' and the steps,
 // or, for a rule that is refused, the refusal's number, 'at' and its place.
 use libc::STDIN_FILENO;
@@ -187,7 +187,7 @@ fn lines(input: &[u8], area: &mut [u32], work: &mut [u32])
 }
 
 fn main() {
-    let mut buffer = io::large_buffer();
+    let mut buffer = vectors::input_buffer();
     let n = io::read_full(STDIN_FILENO, &mut buffer);
     let mut area = [0u32; 16384];
     let mut work = [0u32; 160000];

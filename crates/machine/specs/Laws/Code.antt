@@ -1,6 +1,7 @@
 -- Reading nodes: what is written for an assertion, a bound or a greed is read back, and a node of a known kind is read as that kind.
 use mathlib.Core.Path.{_≡_, refl}
 use mathlib.Core.Logic.{_⊎_, inl, inr}
+use mathlib.Core.Bool.{Bool, true, false}
 use Prim.Native.Nat.{ℕ, zero, suc, _+_, _≤_, _<_}
 use native.Mathlib.Omega.{arith}
 use lib.ListN.{length, getD}
@@ -13,8 +14,8 @@ use Rattle.syntax.specs.declared.Most.{Most}
 use Rattle.syntax.specs.declared.Most.the-variants.{AtMost, Unlimited}
 use Rattle.syntax.specs.Limits.{unset, boundLimit, spansLength, registers}
 use Rattle.syntax.specs.WellFormed.{BoundsFit}
-use Rattle.syntax.specs.Compiled.{assertionWord, mostWord, greedWord}
-use Rattle.machine.specs.Code.{Program, pickMost, mostOf, greedOf, assertionOf, repeatAt, decodeAs, decode, FitsAs, Fits}
+use Rattle.syntax.specs.Compiled.{assertionWord, mostWord, greedWord, foldedWord}
+use Rattle.machine.specs.Code.{Program, pickMost, mostOf, greedOf, foldedOf, assertionOf, repeatAt, decodeAs, decode, FitsAs, Fits}
 
 -- the captures are registers
 pub spans-in-registers : spansLength ≤ registers
@@ -35,6 +36,11 @@ pub greed-read : (g : Greed) → greedOf (greedWord g) ≡ g
 unfolding greedOf greedWord
 greed-read Greedy = refl
 greed-read Lazy = refl
+
+pub folded-read : (folded : Bool) → foldedOf (foldedWord folded) ≡ folded
+unfolding foldedOf foldedWord
+folded-read true = refl
+folded-read false = refl
 
 bound-set : (n : ℕ) → n ≤ boundLimit → n ≡ unset → ⊥
 unfolding boundLimit unset

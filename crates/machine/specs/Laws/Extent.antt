@@ -122,28 +122,28 @@ module _ (sub : List ℕ) (f : ℕ → Bool) where
 
 -- The walk ------------------------------------------------------------------------
 
-module _ (sub : List ℕ) (bytes : Bytes sub) (c : Class) (f : ℕ → Bool) (same : (x : ℕ) → x < 256 → f x ≡ inClass c x) where
-  try-as : (s : State) → try sub (byteIn c) s ≡ when (takes sub f (s .at)) (goes (moved (suc (s .at)) s))
+module _ (sub : List ℕ) (bytes : Bytes sub) (folded : Bool) (c : Class) (f : ℕ → Bool) (same : (x : ℕ) → x < 256 → f x ≡ inClass folded c x) where
+  try-as : (s : State) → try sub (byteIn folded c) s ≡ when (takes sub f (s .at)) (goes (moved (suc (s .at)) s))
   unfolding try takes when
   try-as s = by (ltb (s .at) (length sub)) refl
     where
       by : (b : Bool) → ltb (s .at) (length sub) ≡ b
-          → when b (when (inClass c (byte sub (s .at))) (goes (moved (suc (s .at)) s))) ≡ when (b && f (byte sub (s .at))) (goes (moved (suc (s .at)) s))
+          → when b (when (inClass folded c (byte sub (s .at))) (goes (moved (suc (s .at)) s))) ≡ when (b && f (byte sub (s .at))) (goes (moved (suc (s .at)) s))
       by true x = rw (same (byte sub (s .at)) (byte-small sub bytes (s .at) (ltb-true (s .at) (length sub) x)))
       by false x = refl
 
   module _ (place : ℕ) (R k : Go) (t : State) where
-    body-hit : takes sub f (t .at) ≡ true → (walk sub (item place (byteIn c)) t ▹ R) ▹ k ≡ step ∷ (R (moved (suc (t .at)) t) ▹ k)
+    body-hit : takes sub f (t .at) ≡ true → (walk sub (item place (byteIn folded c)) t ▹ R) ▹ k ≡ step ∷ (R (moved (suc (t .at)) t) ▹ k)
     unfolding walk toll paying tried when done _▹_
     body-hit e = rw (try-as t, e, append-nil (R (moved (suc (t .at)) t)))
 
-    body-miss : takes sub f (t .at) ≡ false → (walk sub (item place (byteIn c)) t ▹ R) ▹ k ≡ miss place (t .at) ∷ []
+    body-miss : takes sub f (t .at) ≡ false → (walk sub (item place (byteIn folded c)) t ▹ R) ▹ k ≡ miss place (t .at) ∷ []
     unfolding walk toll paying tried when _▹_
     body-miss e = rw (try-as t, e)
 
   module _ (place least : ℕ) (most : Most) (k : Go) (fuel n : ℕ) (s : State) where
     abbrev from : ℕ → ℕ → State → Trace
-    from d m t = rounds (walk sub (item place (byteIn c))) least most Greedy d m false t ▹ k
+    from d m t = rounds (walk sub (item place (byteIn folded c))) least most Greedy d m false t ▹ k
 
     pub owed-hit : n < least → takes sub f (s .at) ≡ true → from (suc fuel) n s ≡ step ∷ step ∷ from fuel (suc n) (moved (suc (s .at)) s)
     unfolding rounds decide decision allowed _▹_ moved

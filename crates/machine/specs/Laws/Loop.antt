@@ -16,7 +16,7 @@ use Rattle.semantics.specs.Repeats.{isFull}
 use Rattle.semantics.specs.Walk.{Event, step, miss, end, Trace}
 use Rattle.semantics.specs.Laws.Loops.{Quiet}
 use Rattle.machine.specs.declared.Machine.{Machine}
-use Rattle.machine.specs.Code.{Program, sameAs, Repeat, repeatAt, decodeAs, decode, FitsAs, Fits}
+use Rattle.machine.specs.Code.{foldedOf, Program, sameAs, Repeat, repeatAt, decodeAs, decode, FitsAs, Fits}
 use Rattle.machine.specs.Moves.{Stack, Configuration, Now, idle, busy, Move, emitting, paid, state, shown, tested, price, strides, stopped, fall, tried, ran, bytesOf, carryOut, move, Emits}
 use Rattle.machine.specs.Words.{stackOf, configurationOf, nowOf}
 use Rattle.machine.specs.Ready.{ended, nothing, spent, until, Several, Leads, stay, onward, along, StackFits, Ready}
@@ -184,7 +184,7 @@ module _ (p : Program) (sub : List ℕ) where
 
   -- a reference's move
   pub move-reference : (c : Configuration) → getD p (c .pc) 0 ≡ 11
-      → move p sub c ≡ paid (price sub (sameAs (getD p (c .pc + 3) 0)) (state (c .at) (c .regs))) (tried p (tested sub (sameAs (getD p (c .pc + 3) 0)) (state (c .at) (c .regs))) (getD p (c .pc + 2) 0) (getD p (c .pc + 1) 0) (c .at) (c .regs) (c .stack))
+      → move p sub c ≡ paid (price sub (sameAs (foldedOf (getD p (c .pc + 4) 0)) (getD p (c .pc + 3) 0)) (state (c .at) (c .regs))) (tried p (tested sub (sameAs (foldedOf (getD p (c .pc + 4) 0)) (getD p (c .pc + 3) 0)) (state (c .at) (c .regs))) (getD p (c .pc + 2) 0) (getD p (c .pc + 1) 0) (c .at) (c .regs) (c .stack))
   unfolding move decode carryOut
   move-reference c e = rw e
 

@@ -29,7 +29,7 @@ use Rattle.semantics.specs.Laws.Right.{try-reach}
 use Rattle.semantics.specs.Laws.Rounds.{unlessIdle, left, fewer}
 use Rattle.machine.specs.Code.{Program, Test, inSet, holding, sameAs, Instruction, tests, opens, closes, branches, lastBranch, enters, loops, runs, repeatAt, decode, Fits}
 use Rattle.machine.specs.Moves.{Bytes, stretch, Stack, emitting, set2, state, go, tested, price, takes, extent, allowance, strides, stopped, descend, below, endsOf, fall, decides, ran, bytesOf, carryOut, Emits}
-use Rattle.machine.specs.Laws.Code.{assertion-read, repeat-read, decode-at, fits}
+use Rattle.machine.specs.Laws.Code.{assertion-read, folded-read, repeat-read, decode-at, fits}
 use Rattle.machine.specs.Laws.Registers.{length-set2, getD-set2, first-set2, second-set2, take-behind, take-within}
 use Rattle.machine.specs.Laws.Run.{Way, plain, join, emit-pending, Run, run-miss, run-hit, run-open, run-close, run-branch, run-last, run-decides, run-end}
 use Rattle.machine.specs.Laws.Extent.{byte-small, takes-inside, owed-room, extent-none, extent-full, extent-more, owed-hit, owed-miss, at-most, both-hit, both-miss}
@@ -52,17 +52,17 @@ agree-when s false true x y e h = let z : _≡_ {A = ℕ} 0 1 = cc in absurd (om
 agree-when s false false x y e h = tt
 
 module _ (sub : List ℕ) (s : State) (regs : List ℕ) where
-  agree-byte : Bytes sub → (c : Class) (f : ℕ → Bool) → ((x : ℕ) → x < 256 → f x ≡ inClass c x) → Agree s (try sub (byteIn c) s) (tested sub (inSet f) (state (s .at) regs))
+  agree-byte : Bytes sub → (folded : Bool) (c : Class) (f : ℕ → Bool) → ((x : ℕ) → x < 256 → f x ≡ inClass folded c x) → Agree s (try sub (byteIn folded c) s) (tested sub (inSet f) (state (s .at) regs))
   unfolding try tested moved
-  agree-byte bytes c f same = agree-when s _ _ _ _ refl (λ e. agree-when s _ _ _ _ (sym (same (byte sub (s .at)) (byte-small sub bytes (s .at) (ltb-true (s .at) (length sub) e)))) (λ _. (refl, refl)))
+  agree-byte bytes folded c f same = agree-when s _ _ _ _ refl (λ e. agree-when s _ _ _ _ (sym (same (byte sub (s .at)) (byte-small sub bytes (s .at) (ltb-true (s .at) (length sub) e)))) (λ _. (refl, refl)))
 
   agree-assert : (a : Assertion) → Agree s (try sub (assert a) s) (tested sub (holding a) (state (s .at) regs))
   unfolding try tested
   agree-assert a = agree-when s _ _ _ _ refl (λ _. (refl, refl))
 
-  agree-reference : (n : ℕ) → s .spans ≡ take spansLength regs → Agree s (try sub (reference n) s) (tested sub (sameAs (slot n)) (state (s .at) regs))
+  agree-reference : (folded : Bool) (n : ℕ) → s .spans ≡ take spansLength regs → Agree s (try sub (reference folded n) s) (tested sub (sameAs folded (slot n)) (state (s .at) regs))
   unfolding try tested refer moved
-  agree-reference n e = rw (← e) (agree-when s _ _ _ _ refl (λ _. agree-when s _ _ _ _ refl (λ _. agree-when s _ _ _ _ refl (λ _. (refl, refl)))))
+  agree-reference folded n e = rw (← e) (agree-when s _ _ _ _ refl (λ _. agree-when s _ _ _ _ refl (λ _. agree-when s _ _ _ _ refl (λ _. (refl, refl)))))
 
 -- Carrying out a walk ---------------------------------------------------------
 
@@ -275,7 +275,7 @@ module _ (p : Program) (sub : List ℕ) where
   unfolding descend
   below-none pc at st = rw (le-ltb at at (omega arith))
 
-  module _ (bytes : Bytes sub) (place : ℕ) (c : Class) (least : ℕ) (most : Most) (fit : BoundsFit least most) (next r : ℕ) (f : ℕ → Bool) (same : (x : ℕ) → x < 256 → f x ≡ inClass c x) (W : Way) (k : Go) (regs : List ℕ) where
+  module _ (bytes : Bytes sub) (place : ℕ) (folded : Bool) (c : Class) (least : ℕ) (most : Most) (fit : BoundsFit least most) (next r : ℕ) (f : ℕ → Bool) (same : (x : ℕ) → x < 256 → f x ≡ inClass folded c x) (W : Way) (k : Go) (regs : List ℕ) where
     -- the bytes that are taken after n rounds, and what is emitted for k of them
     abbrev far : (n at : ℕ) → ℕ
     far n at = extent sub f (allowance most n (length sub - at)) at
@@ -284,7 +284,7 @@ module _ (p : Program) (sub : List ℕ) where
     emitted n at k = step ∷ strides k (stopped (isFull most (n + k)) place (at + k))
 
     abbrev from : ℕ → ℕ → State → Trace
-    from d m t = rounds (walk sub (item place (byteIn c))) least most Greedy d m false t ▹ k
+    from d m t = rounds (walk sub (item place (byteIn folded c))) least most Greedy d m false t ▹ k
 
     -- Once the least rounds are made: the positions below this one are left, and lead to u.
     abbrev Climbs : (fuel n low : ℕ) → State → Stack → Trace → Type 0
@@ -304,16 +304,16 @@ module _ (p : Program) (sub : List ℕ) where
 
         by : ((s′ : State) (v : Trace) → Climbs fuel (suc n) low s′ st v) → (x : Bool) → isFull most n ≡ x → (y : Bool) → takes sub f (s .at) ≡ y
             → Emits p sub (emitted n (s .at) (far n (s .at))) (fall p regs (stretch next (s .at + far n (s .at)) low ∷ st)) (W .says (from (suc fuel) n s ++ u))
-        by i true x y w = rw (extent-full sub f most n (s .at) x, at-most sub bytes c f same place least most k fuel n s l x, none, same-round, x, W .on-step) (refl, g s regs (at-once r s regs m) _ u (base-below W _ next _ low regs st o) e)
+        by i true x y w = rw (extent-full sub f most n (s .at) x, at-most sub bytes folded c f same place least most k fuel n s l x, none, same-round, x, W .on-step) (refl, g s regs (at-once r s regs m) _ u (base-below W _ next _ low regs st o) e)
         by i false x true w =
             let t = takes-inside sub f (s .at) w in
             let e₀ : n + suc (far (suc n) (suc (s .at))) ≡ suc n + far (suc n) (suc (s .at)) = omega arith in
             let e₁ : s .at + suc (far (suc n) (suc (s .at))) ≡ suc (s .at) + far (suc n) (suc (s .at)) = omega arith in
             let a : Later r s regs (moved (suc (s .at)) (chose (again Greedy) s)) regs = later-chose (again Greedy) (unfold chose in later-byte r t (mirrors-chose (again Greedy) m)) in
             let d = carries-leaving (either Greedy) W next r s regs k m g _ u (base-below W _ next _ low regs st o) e in
-            rw (extent-more sub f most n (s .at) x w, both-hit sub bytes c f same place least most k fuel n s l x w, e₀, e₁, W .on-step, W .on-step, append-assoc)
+            rw (extent-more sub f most n (s .at) x w, both-hit sub bytes folded c f same place least most k fuel n s l x w, e₀, e₁, W .on-step, W .on-step, append-assoc)
             (refl, (refl, unfold moved chose in i (moved (suc (s .at)) (chose (again Greedy) s)) (k (chose (goOn Greedy) s) ++ u) (omega arith) (omega arith) (omega arith) (a .mirrors) (λ s′ regs′ b. g s′ regs′ (later-still a b)) o (rw (below-next next (s .at) low st h) d)))
-        by i false x false w = rw (extent-none sub f _ (s .at) w, both-miss sub bytes c f same place least most k fuel n s l x w, none, same-round, x, W .on-step, W .on-miss) (refl, (refl, carries-leaving (either Greedy) W next r s regs k m g _ u (base-below W _ next _ low regs st o) e))
+        by i false x false w = rw (extent-none sub f _ (s .at) w, both-miss sub bytes folded c f same place least most k fuel n s l x w, none, same-round, x, W .on-step, W .on-miss) (refl, (refl, carries-leaving (either Greedy) W next r s regs k m g _ u (base-below W _ next _ low regs st o) e))
 
     -- From any round on.
     abbrev Goes : (fuel n : ℕ) → State → Stack → Trace → Type 0
@@ -339,40 +339,40 @@ module _ (p : Program) (sub : List ℕ) where
             let e₀ : n + suc (far (suc n) (suc (s .at))) ≡ suc n + far (suc n) (suc (s .at)) = omega arith in
             let e₁ : s .at + suc (far (suc n) (suc (s .at))) ≡ suc (s .at) + far (suc n) (suc (s .at)) = omega arith in
             let e₂ : s .at + (least - n) ≡ suc (s .at) + (least - suc n) = omega arith in
-            rw (extent-more sub f most n (s .at) (owed-room least most n fit l) w, owed-hit sub bytes c f same place least most k fuel n s l w, e₀, e₁, e₂, W .on-step, W .on-step)
+            rw (extent-more sub f most n (s .at) (owed-room least most n fit l) w, owed-hit sub bytes folded c f same place least most k fuel n s l w, e₀, e₁, e₂, W .on-step, W .on-step)
             (refl, (refl, unfold moved in i (moved (suc (s .at)) s) (omega (arith, takes-inside sub f (s .at) w)) (a .mirrors) (λ s′ regs′ b. g s′ regs′ (later-still a b)) o e))
         by i true x false w =
             let l = ltb-true n least x in
-            rw (extent-none sub f _ (s .at) w, owed-miss sub bytes c f same place least most k fuel n s l w, none, same-round, owed-room least most n fit l, x, W .on-step, W .on-miss) (refl, (refl, e))
+            rw (extent-none sub f _ (s .at) w, owed-miss sub bytes folded c f same place least most k fuel n s l w, none, same-round, owed-room least most n fit l, x, W .on-step, W .on-miss) (refl, (refl, e))
         by i false x y w =
             let l = ltb-false n least x in
             let e₀ : s .at + (least - n) ≡ s .at = omega arith in
             rw (le-ltb (n + far n (s .at)) least (omega arith), e₀) (climb (suc fuel) n (s .at) s st u l (omega arith) z m g o (rw (below-none next (s .at) st) e))
 
-  carries-run : Bytes sub → (at-rule place : ℕ) (c : Class) (least : ℕ) (most : Most) (pc next r body : ℕ) → BoundsFit least most → ((x : ℕ) → x < 256 → has (drop (body + 3) p) x ≡ inClass c x) → getD p (body + 2) 0 ≡ place
+  carries-run : Bytes sub → (at-rule place : ℕ) (folded : Bool) (c : Class) (least : ℕ) (most : Most) (pc next r body : ℕ) → BoundsFit least most → ((x : ℕ) → x < 256 → has (drop (body + 3) p) x ≡ inClass folded c x) → getD p (body + 2) 0 ≡ place
       → repeatAt p (pc + 2) ≡ record { least = least; most = most; greed = Greedy; register = r; body = body; next = next } → Fits p pc → decode p pc ≡ runs (pc + 2)
-      → Carries (walk sub (repeat at-rule least most Greedy (item place (byteIn c)))) pc next r
+      → Carries (walk sub (repeat at-rule least most Greedy (item place (byteIn folded c)))) pc next r
   unfolding Run walk enough carryOut ran bytesOf
-  carries-run bytes at-rule place c least most pc next r body fit same origin given f d W s regs k m h st u o z =
+  carries-run bytes at-rule place folded c least most pc next r body fit same origin given f d W s regs k m h st u o z =
       let k₀ = extent sub (has (drop (body + 3) p)) (allowance most 0 (length sub - s .at)) (s .at) in
       let e₀ : 0 + k₀ ≡ k₀ = omega arith in
       let e₁ : least - 0 ≡ least = omega arith in
-      let i = run-bytes bytes place c least most fit next r (has (drop (body + 3) p)) same W k regs (enough sub least (s .at)) 0 s st u (omega arith) m h o z in
+      let i = run-bytes bytes place folded c least most fit next r (has (drop (body + 3) p)) same W k regs (enough sub least (s .at)) 0 s st u (omega arith) m h o z in
       emit-pending p sub pc (s .at) regs st (runs (pc + 2)) (ran p (repeatAt p (pc + 2)) (bytesOf p sub (repeatAt p (pc + 2)) 0 (s .at)) (s .at) regs st) d refl f _ (rw (given, origin) (rw (e₀, e₁) at i))
 
   -- Rules -----------------------------------------------------------------------------
 
   module _ (lo hi : ℕ) (within : hi ≤ length p) (bytes : Bytes sub) where
     items : (i : Item) (place pc next r : ℕ) → CompiledItem p lo hi i place pc next → Carries (walk sub (item place i)) pc next r
-    items (byteIn c) place pc next r k =
+    items (byteIn folded c) place pc next r k =
         let o = k .node in
-        carries-item place (byteIn c) (inSet (has (drop (pc + 3) p))) pc next r (fits p pc 0 (o .is) (omega (arith, o .high)) (omega (arith, o .high))) (decode-at p pc 0 (o .is) ∙ rw (k .goes, k .origin)) (λ s regs _. (unfold toll price in refl, agree-byte sub s regs bytes c _ (k .set)))
+        carries-item place (byteIn folded c) (inSet (has (drop (pc + 3) p))) pc next r (fits p pc 0 (o .is) (omega (arith, o .high)) (omega (arith, o .high))) (decode-at p pc 0 (o .is) ∙ rw (k .goes, k .origin)) (λ s regs _. (unfold toll price in refl, agree-byte sub s regs bytes folded c _ (k .set)))
     items (assert a) place pc next r k =
         let o = k .node in
         carries-item place (assert a) (holding a) pc next r (fits p pc 1 (o .is) (omega (arith, o .high)) (omega (arith, o .high))) (decode-at p pc 1 (o .is) ∙ rw (k .goes, k .origin, k .which, assertion-read a)) (λ s regs _. (unfold toll price in refl, agree-assert sub s regs a))
-    items (reference n) place pc next r k =
+    items (reference folded n) place pc next r k =
         let o = k .node in
-        carries-item place (reference n) (sameAs (slot n)) pc next r (fits p pc 11 (o .is) (omega (arith, o .high)) (omega (arith, o .high), rw (k .span) (k .fits))) (decode-at p pc 11 (o .is) ∙ rw (k .goes, k .origin, k .span)) (λ s regs e. (unfold toll price in rw e, agree-reference sub s regs n e))
+        carries-item place (reference folded n) (sameAs folded (slot n)) pc next r (fits p pc 11 (o .is) (omega (arith, o .high)) (omega (arith, o .high), rw (k .span) (k .fits))) (decode-at p pc 11 (o .is) ∙ rw (k .goes, k .origin, k .span, k .folds, folded-read folded)) (λ s regs e. (unfold toll price in rw e, agree-reference sub s regs folded n e))
 
     -- a group that does not capture and holds one part is repeated as that part
     same-repeat : (b : Rule) (place least : ℕ) (most : Most) (g : Greed) → _≡_ {A = Go} (walk sub (repeat place least most g b)) (walk sub (repeat place least most g (seq empty b)))
@@ -383,8 +383,8 @@ module _ (p : Program) (sub : List ℕ) where
         → repeatAt p (pc + 2) ≡ record { least = least; most = most; greed = g; register = r; body = body; next = next } → pc + 8 ≤ length p → getD p (pc + 6) 0 ≡ body → getD p pc 0 ≡ 10 → Compiled p lo hi a body loop r′
         → Carries (walk sub (repeat place least most g a)) pc next r
     unfolding Compiled
-    works-run Greedy (item place′ (byteIn s)) place least most pc next r body loop r′ single fit given h e is k =
-        carries-run bytes place place′ s least most pc next r body fit (k .set) (k .origin) given (fits p pc 10 is (omega arith) (h, rw e (omega (arith, k .node .high)))) (decode-at p pc 10 is)
+    works-run Greedy (item place′ (byteIn folded s)) place least most pc next r body loop r′ single fit given h e is k =
+        carries-run bytes place place′ folded s least most pc next r body fit (k .set) (k .origin) given (fits p pc 10 is (omega arith) (h, rw e (omega (arith, k .node .high)))) (decode-at p pc 10 is)
     works-run Greedy (seq empty b) place least most pc next r body loop r′ single fit given h e is k =
         subst (λ (f : Go). Carries f pc next r) (same-repeat b place least most Greedy) (works-run Greedy b place least most pc next r body loop r′ single fit given h e is (rw (k .left) (k .right)))
 

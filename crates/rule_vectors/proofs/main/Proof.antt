@@ -4,8 +4,8 @@ use borrow.Author.Needs.{needs}
 use Rattle.rule_vectors.proofs.main.Statement.{statement}
 use Rattle.rule_vectors.proofs.main.Tie as tie
 
-large-buffer-requires : tie.Need-large-buffer-requires
-large-buffer-requires c κs = search needs
+input-buffer-requires : tie.Need-input-buffer-requires
+input-buffer-requires c κs = search needs
 
 slice-aggregate-read-full : tie.Need-slice-aggregate-read-full
 slice-aggregate-read-full c = search needs
@@ -33,7 +33,7 @@ pub main-spec : {M : Type 1} → statement M
 main-spec =
     tie.close
     (tie.spec
-    large-buffer-requires
+    input-buffer-requires
     slice-aggregate-read-full
     read-full-requires
     array-share-prefix-buffer

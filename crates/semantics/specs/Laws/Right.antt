@@ -121,12 +121,12 @@ moves N n s t l h e = let z : t ≡ moved n s = cc in rw z (record { up = l; ins
 
 pub try-reach : (sub : List ℕ) (i : Item) (s t : State) → s .at ≤ length sub → try sub i s ≡ goes t → Reach (length sub) s t
 unfolding try refer moved
-try-reach sub (byteIn c) s t h e =
+try-reach sub (byteIn folded c) s t h e =
     let x = when-goes (ltb (s .at) (length sub)) _ t e in
     let y = when-goes _ _ t (x .1) in
     moves _ (suc (s .at)) s t (omega arith) (ltb-true (s .at) (length sub) (x .0)) (y .1)
 try-reach sub (assert a) s t h e = moves _ (s .at) s t (omega arith) h (when-goes _ _ t e .1)
-try-reach sub (reference n) s t h e =
+try-reach sub (reference folded n) s t h e =
     let x = when-goes _ _ t e in
     let y = when-goes (leb _ (length sub)) _ t (x .1) in
     let z = when-goes _ _ t (y .1) in

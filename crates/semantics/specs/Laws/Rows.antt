@@ -92,9 +92,9 @@ module _ (sub : List ℕ) (start groups : ℕ) (few : groups ≤ groupLimit) whe
 
   try-spans : (i : Item) (s t : State) → try sub i s ≡ goes t → t .spans ≡ s .spans
   unfolding try refer
-  try-spans (byteIn c) s t e = moved-spans (suc (s .at)) s t (when-goes _ _ t (when-goes _ _ t e .1) .1)
+  try-spans (byteIn folded c) s t e = moved-spans (suc (s .at)) s t (when-goes _ _ t (when-goes _ _ t e .1) .1)
   try-spans (assert a) s t e = let z : t ≡ s = cc (when-goes _ _ t e .1) in ap (λ (u : State). u .spans) z
-  try-spans (reference n) s t e = moved-spans _ s t (when-goes _ _ t (when-goes _ _ t (when-goes _ _ t e .1) .1) .1)
+  try-spans (reference folded n) s t e = moved-spans _ s t (when-goes _ _ t (when-goes _ _ t (when-goes _ _ t e .1) .1) .1)
 
   kept-tried : (i : Item) (s t : State) → try sub i s ≡ goes t → Kept s → Kept t
   kept-tried i s t e h = let x = try-reach sub i s t (h .inside) e in kept-on s t (try-spans i s t e) (x .up) (x .inside) h

@@ -16,7 +16,7 @@ use Rattle.syntax.specs.Limits.{groupLimit, nestingLimit}
 use Rattle.syntax.specs.Read.{if_then_else_, byte, isEnd, is, Read, sound, refused}
 use Rattle.syntax.specs.Tree.{Item, byteIn, assert, reference, Rule, empty, item, seq, alt, group, repeat, Branches, one, also, alternatives}
 use Rattle.syntax.specs.Quantifiers.{quantifier}
-use Rattle.syntax.specs.Grammar.{atom, Inner, closing, capturing, grouped, Sequence, unrepeatable, repeatable, repeated, whole, withItem, unfitFor, repeating, nextItem, part, ends, sequence, branch, further, alternation, inside}
+use Rattle.syntax.specs.Grammar.{behindBlanks, atom, Inner, closing, capturing, grouped, Sequence, unrepeatable, repeatable, repeated, whole, withItem, unfitFor, repeating, nextItem, part, ends, sequence, branch, further, alternation, inside}
 use Rattle.syntax.specs.Reading.{parsed, firstOf, dangling, unresolved, unresolvedIn, resolved, reading}
 use Rattle.syntax.specs.WellFormed.{BoundsFit, Proper, Propers, Refers, Resolved, ResolvedIn, groupDepth, groupDepths, repeatDepth, repeatDepths, WellFormed}
 use Rattle.syntax.specs.Laws.Forward.{Given, if-given, test-given, then-given, given-less, Holding, Bounded, quantifier-on}
@@ -131,9 +131,9 @@ grouped-fits s inner at opened d h l =
 
 withItem-fits : (g d : ℕ) (q : Sequence) (at : ℕ) (i : Item) → FitsIn g d q → FitsIn g d (withItem q at i)
 unfolding withItem
-withItem-fits g d q at (byteIn c) f = (whole-fits g d q f, fits-item g d d at (byteIn c))
+withItem-fits g d q at (byteIn folded c) f = (whole-fits g d q f, fits-item g d d at (byteIn folded c))
 withItem-fits g d q at (assert a) f = fits-seq g d (suc d) (whole q) (item at (assert a)) (whole-fits g d q f) (fits-item g d (suc d) at (assert a))
-withItem-fits g d q at (reference n) f = (whole-fits g d q f, fits-item g d d at (reference n))
+withItem-fits g d q at (reference folded n) f = (whole-fits g d q f, fits-item g d d at (reference folded n))
 
 nextItem-fits : (s : List ℕ) (flags : ℕ) (inner : Inner) (q : Sequence) (opened at d : ℕ) → InnerFits d inner → opened ≤ groupLimit → FitsIn opened d q → Given (nextItem s flags inner q opened at) (GoodIn opened d)
 unfolding nextItem
@@ -170,7 +170,9 @@ part-fits s flags inner q opened at d (Times n m x next) h l f b = repeating-fit
 sequence-fits : (k : ℕ) (s : List ℕ) (flags : ℕ) (inner : Inner) (q : Sequence) (old opened at d : ℕ) → InnerFits d inner → Grown old opened → FitsIn opened d q → Given (sequence k s flags inner q opened at) (Good old d (suc d))
 unfolding sequence
 sequence-fits zero s flags inner q old opened at d h l f = (l, whole-fits opened d q f)
-sequence-fits (suc k) s flags inner q old opened at d h l f = if-given _ _ _ (ends (byte s at)) (l, whole-fits opened d q f)
+sequence-fits (suc k) s flags inner q old opened start d h l f =
+    let at = behindBlanks s flags start in
+    if-given _ _ _ (ends (byte s at)) (l, whole-fits opened d q f)
     (then-given (GoodIn opened d) (Good old d (suc d)) (part s flags inner q opened at (quantifier s at)) _ (part-fits s flags inner q opened at d (quantifier s at) h (l .1) f (quantifier-on s at))
     (λ r p g. sequence-fits k s flags inner (r .0) old (r .1) p d h (omega (arith, l .0, g .0 .0), g .0 .1) (g .1)))
 
@@ -221,9 +223,9 @@ tested false at e = refl
 
 refers : (groups at : ℕ) (i : Item) → dangling groups at i ≡ none → Refers groups i
 unfolding dangling
-refers groups at (byteIn c) e = tt
+refers groups at (byteIn folded c) e = tt
 refers groups at (assert a) e = tt
-refers groups at (reference n) e =
+refers groups at (reference folded n) e =
     let t = or-false (eqb n 0) (not (leb n groups)) (tested (eqb n 0 || not (leb n groups)) at e) in
     let z : n ≡ 0 → ⊥ = eqb-false n 0 (t .0) in
     (positive n z, leb-true n groups (not-false (leb n groups) (t .1)))

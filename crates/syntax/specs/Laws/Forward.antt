@@ -24,8 +24,9 @@ use Rattle.syntax.specs.Numbers.{digits, value, isNone}
 use Rattle.syntax.specs.Escapes.{Meaning, _means_, meanings, byteOf, braced, hex, bracedOctal, octal, control, letter, common, classEscape, decimal, signed, groupNumber, escape}
 use Rattle.syntax.specs.Classes.{letters, posixMember, posixName, posix, element, rangeEnd, rangeOf, makesRange, member, members, class}
 use Rattle.syntax.specs.Quantifiers.{withGreed, atLeast, fromTo, upper, braces, quantifier}
-use Rattle.syntax.specs.Grammar.{atom, Inner, closing, capturing, grouped, Sequence, unrepeatable, repeatable, repeated, unfitFor, repeating, nextItem, part, ends, sequence, branch, further, alternation, inside}
+use Rattle.syntax.specs.Grammar.{ignoreCase, behindBlanks, atom, Inner, closing, capturing, grouped, Sequence, unrepeatable, repeatable, repeated, unfitFor, repeating, nextItem, part, ends, sequence, branch, further, alternation, inside}
 use Rattle.syntax.specs.WellFormed.{BoundsFit}
+use Rattle.syntax.specs.Laws.Blanks.{blanks-on}
 
 -- P holds of what a sound reading gives, and of the position behind it
 abbrev pub Given : {A : Type 0} → Read A → (A → ℕ → Type 0) → Type 0
@@ -133,9 +134,9 @@ groupNumber-on s opened at = if-given _ _ _ (is "{" (byte s (at + 2)))
     (then-given (Past (at + 1)) (Past (at + 1)) (signed s opened at (at + 3)) _ (signed-on s opened at (at + 3) (at + 1) (omega arith)) (λ v p l. if-given _ _ _ (is "}" (byte s p)) (omega arith) tt))
     (signed-on s opened at (at + 2) (at + 1) (omega arith))
 
-escape-on : (s : List ℕ) (opened at : ℕ) → Given (escape s opened at) (Past (at + 1))
+escape-on : (s : List ℕ) (folded : Bool) (opened at : ℕ) → Given (escape s folded opened at) (Past (at + 1))
 unfolding escape
-escape-on s opened at =
+escape-on s folded opened at =
     let b = byte s (at + 1) in
     let h : at + 1 ≤ at + 2 = omega arith in
     if-given _ _ _ (is "N" b) h (if-given _ _ _ (is "A" b) h (if-given _ _ _ (is "z" b) h (if-given _ _ _ (is "Z" b) h (if-given _ _ _ (is "b" b) h (if-given _ _ _ (is "B" b) h
@@ -260,7 +261,7 @@ unfolding atom
 atom-on s flags opened at =
     let b = byte s at in
     let h : at + 1 ≤ at + 1 = omega arith in
-    if-given _ _ _ (is "\\" b) (escape-on s opened at)
+    if-given _ _ _ (is "\\" b) (escape-on s (ignoreCase flags) opened at)
     (if-given _ _ _ (is "[" b) (then-given (Past (at + 1)) (Past (at + 1)) (class s at) _ (class-on s at) (λ c p l. l))
     (if-given _ _ _ (is "." b) h (if-given _ _ _ (is "^" b) h (if-given _ _ _ (is "$" b) h h))))
 
@@ -310,7 +311,10 @@ part-on s flags inner q opened at h = part-by s flags inner q opened at (quantif
 pub sequence-on : (f : ℕ) (s : List ℕ) (flags : ℕ) (inner : Inner) (q : Sequence) (opened at n : ℕ) → Forward inner → n ≤ at → Given (sequence f s flags inner q opened at) (Past n)
 unfolding sequence
 sequence-on zero s flags inner q opened at n h l = l
-sequence-on (suc f) s flags inner q opened at n h l = if-given _ _ _ (ends (byte s at)) l
+sequence-on (suc f) s flags inner q opened start n h l =
+    let at = behindBlanks s flags start in
+    let on : n ≤ at = omega (arith, blanks-on s flags start) in
+    if-given _ _ _ (ends (byte s at)) on
     (then-given (Past (at + 1)) (Past n) (part s flags inner q opened at (quantifier s at)) _ (part-on s flags inner q opened at h) (λ r p k. sequence-on f s flags inner (r .0) (r .1) p n h (omega arith)))
 
 pub branch-on : (s : List ℕ) (flags : ℕ) (inner : Inner) (opened at : ℕ) → Forward inner → Given (branch s flags inner opened at) (Past at)

@@ -24,7 +24,7 @@ use Rattle.syntax.specs.Numbers.{digits, value, isNone}
 use Rattle.syntax.specs.Escapes.{Meaning, _means_, meanings, byteOf, braced, hex, bracedOctal, octal, control, letter, common, classEscape, decimal, signed, groupNumber, escape}
 use Rattle.syntax.specs.Classes.{letters, posixMember, posixName, posix, element, rangeEnd, rangeOf, makesRange, member, members, class}
 use Rattle.syntax.specs.Quantifiers.{quantifier}
-use Rattle.syntax.specs.Grammar.{atom, Inner, closing, capturing, grouped, Sequence, unrepeatable, repeatable, repeated, whole, withItem, unfitFor, repeating, nextItem, part, ends, sequence, branch, further, alternation, inside}
+use Rattle.syntax.specs.Grammar.{ignoreCase, behindBlanks, atom, Inner, closing, capturing, grouped, Sequence, unrepeatable, repeatable, repeated, whole, withItem, unfitFor, repeating, nextItem, part, ends, sequence, branch, further, alternation, inside}
 use Rattle.syntax.specs.Reading.{parsed, firstOf, dangling, unresolved, unresolvedIn, resolved, reading}
 use Rattle.syntax.specs.Laws.Forward.{Given, if-given, test-given, then-given}
 use Rattle.syntax.specs.Laws.Within.{Upto, Inward, not-end, is-in, quantifier-in, part-by, ends-false, branch-in, alternation-in, inside-in}
@@ -122,9 +122,9 @@ module _ (n at : ℕ) (h : at ≤ n) where
       (on-placed n (signed s opened at (at + 3)) _ (signed-placed s opened (at + 3)) (λ x p. if-placed n _ _ (is "}" (byte s p)) tt h))
       (signed-placed s opened (at + 2))
 
-  escape-placed : (s : List ℕ) (opened : ℕ) → Placed n (escape s opened at)
+  escape-placed : (s : List ℕ) (folded : Bool) (opened : ℕ) → Placed n (escape s folded opened at)
   unfolding escape
-  escape-placed s opened =
+  escape-placed s folded opened =
       let b = byte s (at + 1) in
       if-placed n _ _ (is "N" b) tt
       (if-placed n _ _ (is "A" b) tt
@@ -231,9 +231,9 @@ whole-in n (repeated t) h = h
 
 withItem-in : (n : ℕ) (q : Sequence) (at : ℕ) (i : Item) → SequenceIn n q → at ≤ n → SequenceIn n (withItem q at i)
 unfolding withItem SequenceIn
-withItem-in n q at (byteIn c) h l = (whole-in n q h, l)
+withItem-in n q at (byteIn folded c) h l = (whole-in n q h, l)
 withItem-in n q at (assert a) h l = (whole-in n q h, l)
-withItem-in n q at (reference k) h l = (whole-in n q h, l)
+withItem-in n q at (reference folded k) h l = (whole-in n q h, l)
 
 alternatives-in : (n : ℕ) (bs : Branches) → BranchesIn n bs → ItemsIn n (alternatives bs)
 unfolding alternatives
@@ -269,7 +269,7 @@ module _ (s : List ℕ) where
   unfolding atom
   atom-placed flags opened at h =
       let b = byte s at in
-      if-placed (length s) _ _ (is "\\" b) (escape-placed (length s) at h s opened)
+      if-placed (length s) _ _ (is "\\" b) (escape-placed (length s) at h s (ignoreCase flags) opened)
       (if-placed (length s) _ _ (is "[" b) (on-placed (length s) (class s at) _ (class-placed s at h) (λ c p. tt))
       (if-placed (length s) _ _ (is "." b) tt (if-placed (length s) _ _ (is "^" b) tt (if-placed (length s) _ _ (is "$" b) tt tt))))
 
@@ -321,7 +321,9 @@ module _ (s : List ℕ) where
   sequence-well : (f flags : ℕ) (inner : Inner) (q : Sequence) (opened at : ℕ) → InnerWell inner → Inward s inner → at ≤ length s → SequenceIn (length s) q → Well (length s) (Treed (length s)) (sequence f s flags inner q opened at)
   unfolding sequence
   sequence-well zero flags inner q opened at h i l g = (tt, whole-in (length s) q g)
-  sequence-well (suc f) flags inner q opened at h i l g = well-test (length s) _ _ _ (ends (byte s at)) (λ e. (tt, whole-in (length s) q g)) (λ e.
+  sequence-well (suc f) flags inner q opened start h i l g =
+      let at = behindBlanks s flags start in
+      well-test (length s) _ _ _ (ends (byte s at)) (λ e. (tt, whole-in (length s) q g)) (λ e.
       let k = ends-false s at e in
       well-then (length s) (Sequenced (length s)) (Upto s) (Treed (length s)) (part s flags inner q opened at (quantifier s at)) _ (part-well flags inner q opened at (quantifier s at) h k g) (part-by s flags inner q opened at (quantifier s at) i k (quantifier-in s at))
       (λ r p t u. sequence-well f flags inner (r .0) (r .1) p h i u t))
@@ -371,9 +373,9 @@ if-found n at false h = tt
 
 dangling-found : (n groups at : ℕ) (i : Item) → at ≤ n → Found n (dangling groups at i)
 unfolding dangling
-dangling-found n groups at (byteIn c) h = tt
+dangling-found n groups at (byteIn folded c) h = tt
 dangling-found n groups at (assert a) h = tt
-dangling-found n groups at (reference k) h = if-found n at (eqb k 0 || not (leb k groups)) h
+dangling-found n groups at (reference folded k) h = if-found n at (eqb k 0 || not (leb k groups)) h
 
 mutual
   unfolding unresolved unresolvedIn

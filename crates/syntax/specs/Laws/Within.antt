@@ -25,7 +25,8 @@ use Rattle.syntax.specs.Numbers.{run, isDigit, digits, value, isNone}
 use Rattle.syntax.specs.Escapes.{Meaning, _means_, meanings, byteOf, braced, hex, bracedOctal, octal, control, letter, common, classEscape, decimal, signed, groupNumber, escape}
 use Rattle.syntax.specs.Classes.{letters, posixMember, posixName, posix, element, rangeEnd, rangeOf, makesRange, member, members, class}
 use Rattle.syntax.specs.Quantifiers.{withGreed, atLeast, fromTo, upper, braces, quantifier}
-use Rattle.syntax.specs.Grammar.{atom, Inner, closing, capturing, grouped, Sequence, unrepeatable, repeatable, repeated, nextItem, unfitFor, repeating, part, ends, sequence, branch, further, alternation, inside}
+use Rattle.syntax.specs.Grammar.{ignoreCase, behindBlanks, atom, Inner, closing, capturing, grouped, Sequence, unrepeatable, repeatable, repeated, nextItem, unfitFor, repeating, part, ends, sequence, branch, further, alternation, inside}
+use Rattle.syntax.specs.Laws.Blanks.{blanks-in}
 use Rattle.syntax.specs.Laws.Forward.{Given, if-given, test-given, then-given, Holding, if-holding, and-left, and-right}
 use Rattle.syntax.specs.Laws.Fuel.{byte-past, byte-in}
 
@@ -158,9 +159,9 @@ groupNumber-in s opened at h = test-given _ _ _ (is "{" (byte s (at + 2)))
     test-given _ _ _ (is "}" (byte s p)) (λ f. let j = is-in s p 125 (omega arith) f in omega arith) (λ f. tt)))
     (λ e. signed-in s opened at (at + 2) h)
 
-escape-in : (s : List ℕ) (opened at : ℕ) → at < length s → Given (escape s opened at) (Upto s)
+escape-in : (s : List ℕ) (folded : Bool) (opened at : ℕ) → at < length s → Given (escape s folded opened at) (Upto s)
 unfolding escape
-escape-in s opened at h =
+escape-in s folded opened at h =
     let b = byte s (at + 1) in
     test-given _ _ _ (is "N" b) (λ e. let i = is-in s (at + 1) 78 (omega arith) e in omega arith) (λ e.
     test-given _ _ _ (is "A" b) (λ e. let i = is-in s (at + 1) 65 (omega arith) e in omega arith) (λ e.
@@ -276,7 +277,7 @@ unfolding atom
 atom-in s flags opened at h =
     let b = byte s at in
     let k : at + 1 ≤ length s = omega arith in
-    if-given _ _ _ (is "\\" b) (escape-in s opened at h)
+    if-given _ _ _ (is "\\" b) (escape-in s (ignoreCase flags) opened at h)
     (if-given _ _ _ (is "[" b) (then-given (Upto s) (Upto s) (class s at) _ (class-in s at) (λ c p l. l))
     (if-given _ _ _ (is "." b) k (if-given _ _ _ (is "^" b) k (if-given _ _ _ (is "$" b) k k))))
 
@@ -330,7 +331,9 @@ ends-false s at e = by-length s at (decLt at (length s)) (λ h. true-false (sym 
 pub sequence-in : (f : ℕ) (s : List ℕ) (flags : ℕ) (inner : Inner) (q : Sequence) (opened at : ℕ) → Inward s inner → at ≤ length s → Given (sequence f s flags inner q opened at) (Upto s)
 unfolding sequence
 sequence-in zero s flags inner q opened at h l = l
-sequence-in (suc f) s flags inner q opened at h l = test-given _ _ _ (ends (byte s at)) (λ e. l) (λ e.
+sequence-in (suc f) s flags inner q opened start h l =
+    let at = behindBlanks s flags start in
+    test-given _ _ _ (ends (byte s at)) (λ e. blanks-in s flags start l) (λ e.
     then-given (Upto s) (Upto s) (part s flags inner q opened at (quantifier s at)) _ (part-by s flags inner q opened at (quantifier s at) h (ends-false s at e) (quantifier-in s at))
     (λ r p k. sequence-in f s flags inner (r .0) (r .1) p h k))
 

@@ -24,7 +24,7 @@ member-item-requires : tie.Need-member-item-requires
 member-item-requires c κs = search needs
 
 returns : tie.Need-returns
-returns c = same-item (c .member-item .result) (escape-end _ _ _ _ (c .before .before .before .peek .ensures .is) (c .before .before .if1 .taken) (memberOf (c .before .common-at .result)) (c .before .common-at .ensures)) (c .member-item .ensures)
+returns c = same-item _ (c .member-item .result) (escape-end _ _ _ _ _ (c .before .before .before .peek .ensures .is) (c .before .before .if1 .taken) (memberOf (c .before .common-at .result)) (c .before .common-at .ensures)) (c .member-item .ensures)
 
 cast-byte : tie.Need-cast-byte
 cast-byte c = search needs
@@ -75,35 +75,35 @@ member-item-requires-3 : tie.Need-member-item-requires-3
 member-item-requires-3 c κs = search needs
 
 returns-2 : tie.Need-returns-2
-returns-2 c = (notNewline, escape-newline _ _ _ _ (c .before .before .before .peek .ensures .is) (c .before .match .keys1), c .not-newline .ensures)
+returns-2 c = (notNewline, escape-newline _ _ _ _ _ (c .before .before .before .peek .ensures .is) (c .before .match .keys1), c .not-newline .ensures _)
 
 returns-3 : tie.Need-returns-3
-returns-3 c = same-item (c .assertion .result) (escape-text-start _ _ _ _ (c .before .before .before .peek .ensures .is) (c .before .match .keys2)) (c .assertion .ensures)
+returns-3 c = same-item _ (c .assertion .result) (escape-text-start _ _ _ _ _ (c .before .before .before .peek .ensures .is) (c .before .match .keys2)) (c .assertion .ensures _)
 
 returns-4 : tie.Need-returns-4
-returns-4 c = same-item (c .assertion2 .result) (escape-text-end _ _ _ _ (c .before .before .before .peek .ensures .is) (c .before .match .keys3)) (c .assertion2 .ensures)
+returns-4 c = same-item _ (c .assertion2 .result) (escape-text-end _ _ _ _ _ (c .before .before .before .peek .ensures .is) (c .before .match .keys3)) (c .assertion2 .ensures _)
 
 returns-5 : tie.Need-returns-5
-returns-5 c = same-item (c .assertion3 .result) (escape-last-line-end _ _ _ _ (c .before .before .before .peek .ensures .is) (c .before .match .keys4)) (c .assertion3 .ensures)
+returns-5 c = same-item _ (c .assertion3 .result) (escape-last-line-end _ _ _ _ _ (c .before .before .before .peek .ensures .is) (c .before .match .keys4)) (c .assertion3 .ensures _)
 
 returns-6 : tie.Need-returns-6
-returns-6 c = same-item (c .assertion4 .result) (escape-boundary _ _ _ _ (c .before .before .before .peek .ensures .is) (c .before .match .keys5)) (c .assertion4 .ensures)
+returns-6 c = same-item _ (c .assertion4 .result) (escape-boundary _ _ _ _ _ (c .before .before .before .peek .ensures .is) (c .before .match .keys5)) (c .assertion4 .ensures _)
 
 returns-7 : tie.Need-returns-7
-returns-7 c = same-item (c .assertion5 .result) (escape-no-boundary _ _ _ _ (c .before .before .before .peek .ensures .is) (c .before .match .keys6)) (c .assertion5 .ensures)
+returns-7 c = same-item _ (c .assertion5 .result) (escape-no-boundary _ _ _ _ _ (c .before .before .before .peek .ensures .is) (c .before .match .keys6)) (c .assertion5 .ensures _)
 
 returns-8 : tie.Need-returns-8
-returns-8 c = same-item (c .member-item2 .result) (escape-octal _ _ _ _ (c .before .before .before .before .peek .ensures .is) (c .before .before .match .keys7) (memberOf (c .before .octal-at .result)) (c .before .octal-at .ensures)) (c .member-item2 .ensures)
+returns-8 c = same-item _ (c .member-item2 .result) (escape-octal _ _ _ _ _ (c .before .before .before .before .peek .ensures .is) (c .before .before .match .keys7) (memberOf (c .before .octal-at .result)) (c .before .octal-at .ensures)) (c .member-item2 .ensures)
 
 returns-9 : tie.Need-returns-9
-returns-9 c = same-item (c .group-item .result) (escape-group _ _ _ _ (c .before .before .before .before .peek .ensures .is) (c .before .before .match .keys8) (groupOf (c .before .group-number-at .result)) (c .before .group-number-at .ensures)) (c .group-item .ensures)
+returns-9 c = same-item _ (c .group-item .result) (escape-group _ _ _ _ _ (c .before .before .before .before .peek .ensures .is) (c .before .before .match .keys8) (groupOf (c .before .group-number-at .result)) (c .before .group-number-at .ensures)) (c .group-item .ensures _)
 
 returns-10 : tie.Need-returns-10
-returns-10 c = same-item (c .group-item2 .result) (escape-number _ _ _ _ (c .before .before .before .before .before .before .peek .ensures .is) (c .before .before .before .if2 .left) (c .before .before .before .before .match .rest .0 .1) (c .before .before .if3 .taken) (groupOf (c .before .forward-at .result)) (c .before .forward-at .ensures)) (c .group-item2 .ensures)
+returns-10 c = same-item _ (c .group-item2 .result) (escape-number _ _ _ _ _ (c .before .before .before .before .before .before .peek .ensures .is) (c .before .before .before .if2 .left) (c .before .before .before .before .match .rest .0 .1) (c .before .before .if3 .taken) (groupOf (c .before .forward-at .result)) (c .before .forward-at .ensures)) (c .group-item2 .ensures _)
 
 returns-11 : tie.Need-returns-11
 returns-11 c = let n = c .before .before .before .match .rest in
-    same-item (c .member-item3 .result) (escape-common _ _ _ _ (c .before .before .before .before .before .peek .ensures .is) (n .0 .0 .0 .0 .0 .0 .0 .1) (n .0 .0 .0 .0 .0 .0 .1) (n .0 .0 .0 .0 .0 .1) (n .0 .0 .0 .0 .1) (n .0 .0 .0 .1) (n .0 .0 .1) (n .0 .1) (n .1) (⊎-elim (λ w. inl (omega arith)) (λ w. inr (omega arith)) (c .before .before .if2 .came)) (memberOf (c .before .common-at2 .result)) (c .before .common-at2 .ensures)) (c .member-item3 .ensures)
+    same-item _ (c .member-item3 .result) (escape-common _ _ _ _ _ (c .before .before .before .before .before .peek .ensures .is) (n .0 .0 .0 .0 .0 .0 .0 .1) (n .0 .0 .0 .0 .0 .0 .1) (n .0 .0 .0 .0 .0 .1) (n .0 .0 .0 .0 .1) (n .0 .0 .0 .1) (n .0 .0 .1) (n .0 .1) (n .1) (⊎-elim (λ w. inl (omega arith)) (λ w. inr (omega arith)) (c .before .before .if2 .came)) (memberOf (c .before .common-at2 .result)) (c .before .common-at2 .ensures)) (c .member-item3 .ensures)
 
 pub escape-at-spec : {M : Type 1} → statement M
 escape-at-spec =

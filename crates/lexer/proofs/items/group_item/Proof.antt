@@ -1,6 +1,6 @@
 -- `group_item` meets its contract, by the variant.
 use borrow.Author.Needs.{needs}
-use Rattle.lexer.proofs.ItemCases.{same-item, referring-bad}
+use Rattle.lexer.proofs.ItemCases.{same-item, referring-sound, referring-bad}
 use Rattle.lexer.proofs.items.group_item.Statement.{statement}
 use Rattle.lexer.proofs.items.group_item.Tie as tie
 
@@ -14,10 +14,10 @@ bad-item-requires : tie.Need-bad-item-requires
 bad-item-requires c κs = search needs
 
 returns : tie.Need-returns
-returns c = search needs
+returns c = λ folded. referring-sound folded (c .before .before .before .args .group) _ _ (c .before .group .given .1)
 
 returns-2 : tie.Need-returns-2
-returns-2 c = same-item (c .bad-item .result) (referring-bad (c .before .before .before .before .args .group) _ (c .before .before .group2 .given .1)) (c .bad-item .ensures)
+returns-2 c = λ folded. same-item folded (c .bad-item .result) (referring-bad folded (c .before .before .before .before .args .group) _ (c .before .before .group2 .given .1)) (c .bad-item .ensures folded)
 
 pub group-item-spec : {M : Type 1} → statement M
 group-item-spec =

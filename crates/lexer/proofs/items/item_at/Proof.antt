@@ -1,9 +1,12 @@
 -- `item_at` meets its contract, by the byte that stands there.
 use borrow.Author.Needs.{needs}
 use Rattle.lexer.proofs.Bytes.{byte-at}
-use Rattle.lexer.proofs.ItemCases.{same-item, atom-escape, atom-class, atom-dot, atom-caret, atom-dollar, atom-byte}
+use Rattle.lexer.proofs.ItemCases.{as-atom, atom-escape, atom-class, atom-dot, atom-caret, atom-dollar, atom-byte}
 use Rattle.lexer.proofs.items.item_at.Statement.{statement}
 use Rattle.lexer.proofs.items.item_at.Tie as tie
+
+ignores-case-requires : tie.Need-ignores-case-requires
+ignores-case-requires c κs = search needs
 
 add-next : tie.Need-add-next
 add-next c = search needs
@@ -33,28 +36,29 @@ member-item-requires : tie.Need-member-item-requires
 member-item-requires c κs = search needs
 
 returns : tie.Need-returns
-returns c = same-item (c .escape-at .result) (atom-escape _ _ _ _ _ (byte-at _ _ (c .before .before .before .before .pre .1)) (c .before .match .keys1)) (c .escape-at .ensures)
+returns c = as-atom _ _ (c .before .before .before .ignores-case .ensures) (c .escape-at .result) (atom-escape _ _ _ _ _ (byte-at _ _ (c .before .before .before .before .before .pre .1)) _ (c .before .before .before .ignores-case .ensures) (c .before .match .keys1)) (c .escape-at .ensures)
 
 returns-2 : tie.Need-returns-2
-returns-2 c = same-item (c .class-item .result) (atom-class _ _ _ _ _ (byte-at _ _ (c .before .before .before .before .before .pre .1)) (c .before .before .match .keys2)) (c .class-item .ensures _ (c .before .class-at .ensures))
+returns-2 c = as-atom _ _ (c .before .before .before .before .ignores-case .ensures) (c .class-item .result) (atom-class _ _ _ _ _ (byte-at _ _ (c .before .before .before .before .before .before .pre .1)) _ (c .before .before .before .before .ignores-case .ensures) (c .before .before .match .keys2)) (c .class-item .ensures _ _ (c .before .class-at .ensures))
 
 returns-3 : tie.Need-returns-3
-returns-3 c = same-item (c .dot .result) (atom-dot _ _ _ _ _ (byte-at _ _ (c .before .before .before .before .pre .1)) (c .before .match .keys3)) (c .dot .ensures)
+returns-3 c = as-atom _ _ (c .before .before .before .ignores-case .ensures) (c .dot .result) (atom-dot _ _ _ _ _ (byte-at _ _ (c .before .before .before .before .before .pre .1)) _ (c .before .before .before .ignores-case .ensures) (c .before .match .keys3)) (c .dot .ensures _)
 
 returns-4 : tie.Need-returns-4
-returns-4 c = same-item (c .caret .result) (atom-caret _ _ _ _ _ (byte-at _ _ (c .before .before .before .before .pre .1)) (c .before .match .keys4)) (c .caret .ensures)
+returns-4 c = as-atom _ _ (c .before .before .before .ignores-case .ensures) (c .caret .result) (atom-caret _ _ _ _ _ (byte-at _ _ (c .before .before .before .before .before .pre .1)) _ (c .before .before .before .ignores-case .ensures) (c .before .match .keys4)) (c .caret .ensures _)
 
 returns-5 : tie.Need-returns-5
-returns-5 c = same-item (c .dollar .result) (atom-dollar _ _ _ _ _ (byte-at _ _ (c .before .before .before .before .pre .1)) (c .before .match .keys5)) (c .dollar .ensures)
+returns-5 c = as-atom _ _ (c .before .before .before .ignores-case .ensures) (c .dollar .result) (atom-dollar _ _ _ _ _ (byte-at _ _ (c .before .before .before .before .before .pre .1)) _ (c .before .before .before .ignores-case .ensures) (c .before .match .keys5)) (c .dollar .ensures _)
 
 returns-6 : tie.Need-returns-6
 returns-6 c = let n = c .before .match .rest in
-    same-item (c .member-item .result) (atom-byte _ _ _ _ _ (byte-at _ _ (c .before .before .before .before .pre .1)) (n .0 .0 .0 .0 .1) (n .0 .0 .0 .1) (n .0 .0 .1) (n .0 .1) (n .1)) (c .member-item .ensures)
+    as-atom _ _ (c .before .before .before .ignores-case .ensures) (c .member-item .result) (atom-byte _ _ _ _ _ (byte-at _ _ (c .before .before .before .before .before .pre .1)) _ (c .before .before .before .ignores-case .ensures) (n .0 .0 .0 .0 .1) (n .0 .0 .0 .1) (n .0 .0 .1) (n .0 .1) (n .1)) (c .member-item .ensures)
 
 pub item-at-spec : {M : Type 1} → statement M
 item-at-spec =
     tie.close
     (tie.spec
+    ignores-case-requires
     add-next
     shared-slice-read-b
     escape-at-requires

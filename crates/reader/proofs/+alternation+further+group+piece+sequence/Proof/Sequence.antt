@@ -5,7 +5,7 @@ use native.Mathlib.Omega.{arith}
 use borrow.Author.Needs.{needs}
 use lib.ListN.{length}
 use Rattle.reader.proofs.Answers.{moved-turn}
-use Rattle.reader.proofs.Sequences.{Passed, passed-none, passed-ready, goes-on, sequence-stops, sequence-refused, passed-more}
+use Rattle.reader.proofs.Sequences.{Passed, passed-none, past-blanks, ready-past, moved-past, goes-on, sequence-stops, sequence-refused, passed-more}
 use Rattle.reader.proofs.sequence.Reads.{Post}
 use Rattle.reader.proofs.+alternation+further+group+piece+sequence.Lts-sequence as lts
 use Rattle.reader.proofs.+alternation+further+group+piece+sequence.Proof.Shared.{sequence-calls as calls, sequence-at as at}
@@ -22,6 +22,9 @@ module _ (t : ℕ) where
       let start = c .before .before in
       passed-none (start .args .rule .now) (start .args .flags) (start .args .depth) (start .pre .1)
 
+  pub behind-blanks-requires : lts.Need-behind-blanks-requires (calls t) (at t) Post Inv-loop μ-loop
+  behind-blanks-requires c κs = search needs
+
   pub peek-requires : lts.Need-peek-requires (calls t) (at t) Post Inv-loop μ-loop
   peek-requires c κs = search needs
 
@@ -29,31 +32,32 @@ module _ (t : ℕ) where
   stops-requires c κs = search needs
 
   pub same-length : lts.Need-same-length (calls t) (at t) Post Inv-loop μ-loop
-  same-length c = c .before .before .before .loop .inv .long
+  same-length c = c .before .before .before .before .loop .inv .long
 
   pub returns : lts.Need-returns (calls t) (at t) Post Inv-loop μ-loop
   returns c =
-      let start = c .before .before .before .before .before .before in
-      sequence-stops (start .args .flags) (start .args .depth) (c .before .before .before .loop .inv) (c .before .before .peek .ensures) (c .before .stops .ensures) (c .if1 .taken)
+      let start = c .before .before .before .before .before .before .before in
+      sequence-stops (start .args .flags) (start .args .depth) (c .before .before .before .before .loop .inv) (c .before .before .before .behind-blanks .ensures) (c .before .before .peek .ensures) (c .before .stops .ensures) (c .if1 .taken)
 
   pub piece-requires : lts.Need-piece-requires (calls t) (at t) Post Inv-loop μ-loop
   piece-requires c κs =
-      let start = c .before .before .before .before .before .before .before in
+      let start = c .before .before .before .before .before .before .before .before in
       let h = goes-on (c .before .before .before .peek .ensures) (c .before .before .stops .ensures) (c .before .if1 .left) in
-      let y = passed-ready (start .pre .1) (c .before .before .before .before .loop .inv) in
+      let m = moved-past (c .before .before .before .before .before .loop .inv) (c .before .before .before .before .behind-blanks .ensures) in
+      let y = ready-past (c .before .before .before .before .before .loop .inv) (c .before .before .before .before .behind-blanks .ensures) (start .pre .1) in
       search needs
 
   pub enum-known-r : lts.Need-enum-known-r (calls t) (at t) Post Inv-loop μ-loop
   enum-known-r c = search needs
 
   pub same-length-2 : lts.Need-same-length-2 (calls t) (at t) Post Inv-loop μ-loop
-  same-length-2 c = c .before .before .before .before .before .piece .kept .1 .1 .0 ∙ c .before .before .before .before .before .before .before .before .before .before .loop .inv .long
+  same-length-2 c = c .before .before .before .before .before .piece .kept .1 .1 .0 ∙ c .before .before .before .before .before .before .before .before .before .before .before .loop .inv .long
 
   pub returns-2 : lts.Need-returns-2 (calls t) (at t) Post Inv-loop μ-loop
   returns-2 c =
-      let start = c .before .before .before .before .before .before .before .before .before .before .before .before .before in
+      let start = c .before .before .before .before .before .before .before .before .before .before .before .before .before .before in
       let turn = c .before .before .before .before .before .piece in
-      sequence-refused (start .args .flags) (start .args .depth) (c .before .before .before .before .before .before .before .before .before .before .loop .inv) (c .before .before .before .before .before .before .before .before .before .peek .ensures) (c .before .before .before .before .before .before .before .before .stops .ensures) (c .before .before .before .before .before .before .before .if1 .left) (turn .result) (turn .ensures) _ (c .before .r .given .1)
+      sequence-refused (start .args .flags) (start .args .depth) (c .before .before .before .before .before .before .before .before .before .before .before .loop .inv) (c .before .before .before .before .before .before .before .before .before .before .behind-blanks .ensures) (c .before .before .before .before .before .before .before .before .before .peek .ensures) (c .before .before .before .before .before .before .before .before .stops .ensures) (c .before .before .before .before .before .before .before .if1 .left) (turn .result) (turn .ensures) _ (c .before .r .given .1)
 
   pub enum-known-r-2 : lts.Need-enum-known-r-2 (calls t) (at t) Post Inv-loop μ-loop
   enum-known-r-2 c = search needs
@@ -61,10 +65,11 @@ module _ (t : ℕ) where
   pub loop-less : lts.Need-loop-less (calls t) (at t) Post Inv-loop μ-loop
   loop-less c =
       let m = moved-turn _ _ _ _ (c .before .r2 .given .1) (c .before .before .before .before .before .piece .ensures .moved) in
+      let l = past-blanks (c .before .before .before .before .before .before .before .before .before .before .before .loop .inv) (c .before .before .before .before .before .before .before .before .before .before .behind-blanks .ensures) in
       omega (arith, m .on, m .within)
 
   pub loop-again : lts.Need-loop-again (calls t) (at t) Post Inv-loop μ-loop
   loop-again c =
-      let start = c .before .before .before .before .before .before .before .before .before .before .before .before .before in
+      let start = c .before .before .before .before .before .before .before .before .before .before .before .before .before .before in
       let turn = c .before .before .before .before .before .piece in
-      passed-more (start .args .flags) (start .args .depth) (c .before .before .before .before .before .before .before .before .before .before .loop .inv) (c .before .before .before .before .before .before .before .before .before .peek .ensures) (c .before .before .before .before .before .before .before .before .stops .ensures) (c .before .before .before .before .before .before .before .if1 .left) (turn .result) (turn .ensures) _ _ _ (c .before .r2 .given .1) (turn .kept .1 .1 .0)
+      passed-more (start .args .flags) (start .args .depth) (c .before .before .before .before .before .before .before .before .before .before .before .loop .inv) (c .before .before .before .before .before .before .before .before .before .before .behind-blanks .ensures) (c .before .before .before .before .before .before .before .before .before .peek .ensures) (c .before .before .before .before .before .before .before .before .stops .ensures) (c .before .before .before .before .before .before .before .if1 .left) (turn .result) (turn .ensures) _ _ _ (c .before .r2 .given .1) (turn .kept .1 .1 .0)

@@ -3,6 +3,7 @@ use Prim.Native.Nat.{ℕ, _<_, _+_, _-_, _*_}
 use borrow.Fn.Kinds.{In}
 use borrow.Fn.PlainCycle.{Measures, is, falls, and}
 use lib.ListN.{length}
+use Rattle.lexer.proofs.behind_blanks.Reads as behind-blanks-reads
 use Rattle.lexer.proofs.peek.Reads as peek-reads
 use Rattle.reader.proofs.alternation.Reads as alternation
 use Rattle.reader.proofs.alternation.Kinds as alternation-kinds
@@ -87,4 +88,4 @@ abbrev pub piece-calls : ℕ → piece-lts.Claims
 piece-calls t = (peek-reads.Asked, peek-reads.Learnt, group-below t, group.Post, other-reads.Asked, other-reads.Learnt)
 
 abbrev pub sequence-calls : ℕ → sequence-lts.Claims
-sequence-calls t = (peek-reads.Asked, peek-reads.Learnt, stops-reads.Asked, stops-reads.Learnt, piece-below t, piece.Post)
+sequence-calls t = (behind-blanks-reads.Asked, behind-blanks-reads.Learnt, peek-reads.Asked, peek-reads.Learnt, stops-reads.Asked, stops-reads.Learnt, piece-below t, piece.Post)

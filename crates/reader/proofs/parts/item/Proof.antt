@@ -46,14 +46,17 @@ behind-requires-2 c κs = search needs
 enum-known-token-4 : tie.Need-enum-known-token-4
 enum-known-token-4 c = search needs
 
-cast-put-four-3 : tie.Need-cast-put-four-3
-cast-put-four-3 c = search needs
+folded-word-requires : tie.Need-folded-word-requires
+folded-word-requires c κs = search needs
 
-cast-put-four-4 : tie.Need-cast-put-four-4
-cast-put-four-4 c = search needs
+cast-put-reference : tie.Need-cast-put-reference
+cast-put-reference c = search needs
 
-put-four-requires-2 : tie.Need-put-four-requires-2
-put-four-requires-2 c κs = search needs
+cast-put-reference-2 : tie.Need-cast-put-reference-2
+cast-put-reference-2 c = search needs
+
+put-reference-requires : tie.Need-put-reference-requires
+put-reference-requires c κs = search needs
 
 behind-requires-3 : tie.Need-behind-requires-3
 behind-requires-3 c κs = search needs
@@ -87,9 +90,9 @@ same-length-3 c = search needs
 
 returns-4 : tie.Need-returns-4
 returns-4 c =
-    let start = c .before .before .before .before .before .before .before .before .before .before .before .before in
+    let start = c .before .before .before .before .before .before .before .before .before .before .before .before .before in
     let a = start .args in
-    rw (c .behind3 .ensures) (item-reference (a .rule .now) _ (a .flags) (a .last) (start .pre .0) (start .pre .1) (c .before .before .before .before .before .before .before .before .before .item-at .ensures) _ _ (c .before .before .before .before .before .before .token4 .given .1) (c .before .before .before .put-four2 .ensures))
+    rw (c .behind3 .ensures) (item-reference (a .rule .now) _ (a .flags) (a .last) (start .pre .0) (start .pre .1) (c .before .before .before .before .before .before .before .before .before .before .item-at .ensures) _ _ (c .before .before .before .before .before .before .before .token4 .given .1) (rw (c .before .before .before .before .before .folded-word .ensures) at (c .before .before .before .put-reference .ensures)))
 
 pub item-spec : {M : Type 1} → statement M
 item-spec =
@@ -109,9 +112,10 @@ item-spec =
     put-four-requires
     behind-requires-2
     enum-known-token-4
-    cast-put-four-3
-    cast-put-four-4
-    put-four-requires-2
+    folded-word-requires
+    cast-put-reference
+    cast-put-reference-2
+    put-reference-requires
     behind-requires-3
     returns
     same-length

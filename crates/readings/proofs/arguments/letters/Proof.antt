@@ -20,6 +20,12 @@ shared-slice-read-if1 c = search needs
 shared-slice-read-if2 : tie.Need-shared-slice-read-if2 Inv-loop μ-loop
 shared-slice-read-if2 c = search needs
 
+shared-slice-read-if3 : tie.Need-shared-slice-read-if3 Inv-loop μ-loop
+shared-slice-read-if3 c = search needs
+
+shared-slice-read-if4 : tie.Need-shared-slice-read-if4 Inv-loop μ-loop
+shared-slice-read-if4 c = search needs
+
 returns : tie.Need-returns Inv-loop μ-loop
 returns c = search needs
 
@@ -44,6 +50,8 @@ letters-spec =
     loop-holds
     shared-slice-read-if1
     shared-slice-read-if2
+    shared-slice-read-if3
+    shared-slice-read-if4
     returns
     add-i
     loop-less

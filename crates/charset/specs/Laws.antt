@@ -1,0 +1,2 @@
+-- The facts that are proved of the definitions.
+pub mod Cases
