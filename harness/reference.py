@@ -3,6 +3,7 @@
 import sys
 sys.setrecursionlimit(1000000)
 U=4294967295
+S,M,I,X=1,2,4,8
 class Refuse(Exception):
     def __init__(s,n,p): s.n=n; s.p=p
 def rng(*ps):
@@ -12,9 +13,16 @@ def rng(*ps):
 D=rng((0x30,0x39)); UP=rng((0x41,0x5a)); LO=rng((0x61,0x7a)); AL=UP|LO
 SETS={'digit':D,'word':D|AL|{0x5f},'space':rng((9,13),(32,32)),'alpha':AL,'upper':UP,'lower':LO,'alnum':D|AL,'xdigit':rng((0x30,0x39),(0x41,0x46),(0x61,0x66)),'blank':frozenset({9,32}),'cntrl':rng((0,31),(127,127)),'ascii':rng((0,127)),'print':rng((0x20,0x7e)),'graph':rng((0x21,0x7e)),'punct':rng((0x21,0x2f),(0x3a,0x40),(0x5b,0x60),(0x7b,0x7e))}
 H=frozenset({9,32,0xa0}); V=rng((10,13),(0x85,0x85)); ALL=frozenset(range(256))
+def fold(t): return frozenset(t)|frozenset(b^32 for b in t if b in AL)
 LET={'d':D,'w':SETS['word'],'s':SETS['space'],'h':H,'v':V}
 class Parser:
     def __init__(s,r,flags): s.r=r; s.flags=flags; s.i=0; s.opened=0; s.refs=[]
+    def fold(s,t): return fold(t) if s.flags&I else frozenset(t)
+    def blanks(s):
+        """under x: moves past blanks and comments"""
+        while s.flags&X and s.ch(s.i) and s.ch(s.i) in '\t\n\v\f\r #':
+            if s.ch(s.i)!='#': s.i+=1; continue
+            e=s.r.find(b'\n',s.i); s.i=len(s.r) if e<0 else e+1
     def b(s,i): return s.r[i] if i<len(s.r) else None
     def ch(s,i): return chr(s.r[i]) if i<len(s.r) else ''
     def run(s,i,digs):
@@ -51,7 +59,9 @@ class Parser:
         return n,m,(n<=255 and m<=255 and n<=m),k+1
     def seq(s,depth):
         items=[]; last='none'
-        while s.i<len(s.r) and s.ch(s.i) not in '|)':
+        while True:
+            s.blanks()
+            if s.i>=len(s.r) or s.ch(s.i) in '|)': break
             at=s.i; q=s.quant()
             if q=='stray': raise Refuse(18,at)
             if q is not None:
@@ -85,10 +95,10 @@ class Parser:
         if c=='[':
             return ('set',at,s.klass(at))
         s.i=at+1
-        if c=='.': return ('set',at,ALL if s.flags&1 else ALL-{10})
-        if c=='^': return ('place',at,'mstart' if s.flags&2 else 'A')
-        if c=='$': return ('place',at,'mend' if s.flags&2 else 'Z')
-        return ('set',at,frozenset({s.r[at]}))
+        if c=='.': return ('set',at,ALL if s.flags&S else ALL-{10})
+        if c=='^': return ('place',at,'mstart' if s.flags&M else 'A')
+        if c=='$': return ('place',at,'mend' if s.flags&M else 'Z')
+        return ('set',at,s.fold({s.r[at]}))
     def common(s,at):
         """escapes shared: returns ('b',byte) or ('s',set); sets s.i"""
         if at+1>=len(s.r): raise Refuse(10,at)
@@ -125,7 +135,7 @@ class Parser:
         c=s.ch(at+1)
         if c=='N': s.i=at+2; return ('set',at,ALL-{10})
         if c and c in 'AzZbB': s.i=at+2; return ('place',at,c)
-        if c=='0': return ('set',at,frozenset({s.octal(at,3)}))
+        if c=='0': return ('set',at,s.fold({s.octal(at,3)}))
         if c and c in '123456789':
             d,j=s.run(at+1,'0123456789'); s.i=j; return s.ref(at,int(d))
         if c=='g':
@@ -142,8 +152,8 @@ class Parser:
             if neg: n=0 if n==0 else s.opened+1-n
             s.i=j; return s.ref(at,n)
         k,v=s.common(at)
-        return ('set',at,frozenset({v}) if k=='b' else v)
-    def ref(s,at,n): s.refs.append((at,n)); return ('ref',at,n)
+        return ('set',at,s.fold({v}) if k=='b' else v)
+    def ref(s,at,n): s.refs.append((at,n)); return ('ref',at,n,bool(s.flags&I))
     def element(s,op):
         at=s.i
         if at>=len(s.r): raise Refuse(14,op)
@@ -159,7 +169,7 @@ class Parser:
             n,k=s.run(j,'abcdefghijklmnopqrstuvwxyz')
             if s.ch(k)==':' and s.ch(k+1)==']':
                 if n not in SETS: raise Refuse(16,at)
-                s.i=k+2; return 's',(ALL-SETS[n] if neg else SETS[n])
+                t=s.fold(SETS[n]); s.i=k+2; return 's',(ALL-t if neg else t)
         s.i=at+1; return 'b',s.r[at]
     def klass(s,op):
         s.i=op+1; neg=False; out=set()
@@ -175,7 +185,8 @@ class Parser:
                 out|=set(range(lo[1],hi[1]+1))
             elif lo[0]=='b': out.add(lo[1])
             else: out|=lo[1]
-        return frozenset(ALL-out if neg else out)
+        out=s.fold(out)
+        return ALL-out if neg else out
 W=SETS['word']
 class Done(Exception): pass
 class Walk:
@@ -217,7 +228,7 @@ class Walk:
         if y=='ref':
             s.step()
             if t[2] not in caps: return
-            a,b=caps[t[2]]; u=s.sub
+            a,b=caps[t[2]]; u=s.sub.upper() if t[3] else s.sub # bytes.upper moves a to z alone
             for x in range(b-a):
                 if i+x==len(u): return # nothing is compared with what is not there
                 s.step()

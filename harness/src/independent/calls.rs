@@ -4,7 +4,7 @@ use std::collections::HashSet;
 
 use crate::raw::Call;
 
-use super::reader::{self, Refusal};
+use super::reader::{self, Refusal, ALL_FLAGS};
 use super::tree::Rule;
 use super::walk::{End, Event, Walk};
 
@@ -87,7 +87,7 @@ fn unacceptable(inputs: &Inputs) -> Option<u32> {
     let tests = [
         inputs.rule.len() > 1_000,
         inputs.subject.len() > 65_535,
-        inputs.flags > 3,
+        inputs.flags > ALL_FLAGS,
         inputs.budget > 100_000,
         inputs.rule_area < RULE_AREA,
         inputs.work_area < WORK_PER_STEP * inputs.budget as usize,

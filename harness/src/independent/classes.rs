@@ -1,4 +1,4 @@
-//! Bracketed classes: document 01, "Bracketed classes".
+//! Bracketed classes: document 01, "Bracketed classes", and what `i` does to them by document 02.
 
 use super::escapes::Escape;
 use super::reader::{Reader, Refusal};
@@ -32,6 +32,8 @@ impl Reader<'_> {
             }
         }
         self.at += 1;
+        // 02: "a negated class or named set is folded first and complemented after"
+        let marks = self.folded(marks);
         Ok(if complemented { marks.complement() } else { marks })
     }
 
@@ -92,7 +94,7 @@ impl Reader<'_> {
             }
             let name = &self.bytes[from..self.at];
             if self.skip(b':') && self.skip(b']') {
-                let set = sets::by_name(name).ok_or(Refusal { number: UNKNOWN_SET, place })?;
+                let set = self.folded(sets::by_name(name).ok_or(Refusal { number: UNKNOWN_SET, place })?);
                 return Ok(Member::Set(if complemented { set.complement() } else { set }));
             }
         }

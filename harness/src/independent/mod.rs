@@ -10,5 +10,5 @@ pub mod tree;
 mod walk;
 
 pub use calls::{answer, references_at, steps_at, Answer, Ending, Inputs, Row, ROW_LENGTH, RULE_AREA, UNSET, WORK_PER_STEP};
-pub use reader::{read, Refusal, FLAG_M, FLAG_S};
+pub use reader::{read, Refusal, ALL_FLAGS, FLAG_I, FLAG_M, FLAG_S, FLAG_X};
 pub use sets::ByteSet;

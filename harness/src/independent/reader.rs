@@ -13,6 +13,10 @@ pub struct Refusal {
 
 pub const FLAG_S: u32 = 1;
 pub const FLAG_M: u32 = 2;
+pub const FLAG_I: u32 = 4;
+pub const FLAG_X: u32 = 8;
+/// Document 02: "Refusal 3 now starts at bit 4".
+pub const ALL_FLAGS: u32 = FLAG_S | FLAG_M | FLAG_I | FLAG_X;
 
 const MOST_GROUPS: usize = 32;
 const MOST_DEPTH: usize = 24;
@@ -60,7 +64,7 @@ pub fn read(rule: &[u8], flags: u32) -> Result<Rule, Refusal> {
         return Err(Refusal { number: BRACKET_NOT_OPENED, place: reader.at });
     }
     reader.references_are_met()?;
-    Ok(Rule { whole, groups: reader.groups })
+    Ok(Rule { whole, groups: reader.groups, folds: flags & FLAG_I != 0 })
 }
 
 impl<'r> Reader<'r> {
@@ -80,6 +84,28 @@ impl<'r> Reader<'r> {
         let there = self.peek() == Some(wanted);
         self.at += usize::from(there);
         there
+    }
+
+    /// 02, on `x`: "bytes 09 to 0D and 20, and `#` up to the line's end, are skipped outside classes". It is called before an item, before a repeat
+    /// and behind one, so never inside an escape, a repeat or a group's opening.
+    fn skip_blanks(&mut self) {
+        if self.flags & FLAG_X == 0 {
+            return;
+        }
+        while let Some(0x09..=0x0D | 0x20 | b'#') = self.peek() {
+            if self.take() == Some(b'#') {
+                while self.take().is_some_and(|byte| byte != 0x0A) {}
+            }
+        }
+    }
+
+    /// A byte item for a set: 02, on `i`: "A to Z and a to z match each other". Complements are taken of sets that were folded before.
+    pub fn folded(&self, set: ByteSet) -> ByteSet {
+        if self.flags & FLAG_I != 0 {
+            set.folded()
+        } else {
+            set
+        }
     }
 
     /// The value of the run of digits that begins here, at most so many of them, or none if there is no digit. A value too great for the
@@ -118,9 +144,11 @@ impl<'r> Reader<'r> {
 
     fn branch(&mut self, depth: usize) -> Result<Vec<Part>, Refusal> {
         let mut parts = Vec::new();
+        self.skip_blanks();
         while !matches!(self.peek(), None | Some(b'|') | Some(b')')) {
             self.no_repeat_here()?;
             let part = self.item(depth)?;
+            self.skip_blanks();
             parts.push(if matches!(part, Part::Place(_)) { part } else { self.with_repeat(part)? });
         }
         Ok(parts)
@@ -152,13 +180,13 @@ impl<'r> Reader<'r> {
             b'$' => Part::Place(Place::EndOrLastNewline),
             b'.' if self.flags & FLAG_S != 0 => Part::Byte(ByteSet::empty().complement()),
             b'.' => Part::Byte(ByteSet::one(0x0A).complement()),
-            byte => Part::Byte(ByteSet::one(byte)),
+            byte => Part::Byte(self.folded(ByteSet::one(byte))),
         })
     }
 
     fn escaped(&mut self, place: usize) -> Result<Part, Refusal> {
         Ok(match self.escape_outside()? {
-            Escape::Byte(byte) => Part::Byte(ByteSet::one(byte)),
+            Escape::Byte(byte) => Part::Byte(self.folded(ByteSet::one(byte))),
             Escape::Set(set) => Part::Byte(set),
             Escape::Place(place) => Part::Place(place),
             Escape::Reference(group) => {
@@ -192,7 +220,7 @@ impl<'r> Reader<'r> {
         Ok(Part::Group(Group { number, inside }))
     }
 
-    /// The part with the repeat that follows it, if one does.
+    /// The part with the repeat that stands here behind it, if one does, and the blanks behind that.
     fn with_repeat(&mut self, body: Part) -> Result<Part, Refusal> {
         let (least, most) = match self.good_bounds_here()? {
             None => return Ok(body),
@@ -202,6 +230,7 @@ impl<'r> Reader<'r> {
             }
         };
         let greedy = !self.skip(b'?');
+        self.skip_blanks();
         if self.good_bounds_here()?.is_some() {
             return Err(Refusal { number: REPEATED_REPEAT, place: self.at });
         }

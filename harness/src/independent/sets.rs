@@ -1,4 +1,5 @@
-//! Sets of bytes: 256 marks, one for each byte value, and the named sets of document 01, "Named sets", as request a) of document 02 moved them.
+//! Sets of bytes: 256 marks, one for each byte value, and the named sets of document 01, "Named sets", as request a) of document 02 moved
+//! them; `i` folds a set by request c).
 
 #[derive(Clone, PartialEq, Eq)]
 pub struct ByteSet(Box<[bool; 256]>);
@@ -31,6 +32,16 @@ impl ByteSet {
         for byte in 0..256 {
             self.0[byte] |= other.0[byte];
         }
+    }
+
+    /// The set with each of its letters in both cases; A to Z and a to z are all letters that there are.
+    pub fn folded(mut self) -> ByteSet {
+        for letter in b'A'..=b'Z' {
+            let (upper, lower) = (usize::from(letter), usize::from(letter.to_ascii_lowercase()));
+            let either = self.0[upper] || self.0[lower];
+            (self.0[upper], self.0[lower]) = (either, either);
+        }
+        self
     }
 
     /// The complement over all 256 bytes, 0A and 80 to FF too.

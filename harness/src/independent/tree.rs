@@ -6,6 +6,8 @@ use super::sets::ByteSet;
 pub struct Rule {
     pub whole: Alternation,
     pub groups: usize,
+    /// Under `i` references take letters of the other case too; the sets of byte items are folded already.
+    pub folds: bool,
 }
 
 /// Branches in the rule's order; there is always one, which may be empty.

@@ -26,6 +26,8 @@ pub enum Event {
 
 pub struct Walk<'r> {
     subject: &'r [u8],
+    /// References compare letters without their case.
+    folds: bool,
     budget: u64,
     pub steps: u64,
     /// The steps before and behind each reference tried, for budgets that end within one.
@@ -76,7 +78,7 @@ impl<'r> Walk<'r> {
     pub fn new(rule: &'r Rule, subject: &'r [u8], start: usize, budget: u64) -> Walk<'r> {
         let todo = push(Task::Branch(&rule.whole, 0), &None);
         let begin = State { at: start, spans: Rc::new(vec![None; rule.groups + 1]), todo };
-        Walk { subject, budget, steps: 0, references: Vec::new(), pending: vec![begin] }
+        Walk { subject, folds: rule.folds, budget, steps: 0, references: Vec::new(), pending: vec![begin] }
     }
 
     /// Goes on until the rule's end is reached, the budget is used or nothing is left.
@@ -174,7 +176,7 @@ impl<'r> Walk<'r> {
     }
 
     /// "A reference needs its group set, and matches the same bytes"; "A reference tried now costs 1 step plus one for each byte compared, the
-    /// first unequal byte included". The byte that a subject too short lacks is not compared.
+    /// first unequal byte included". The byte that a subject too short lacks is not compared. Bytes that are equal once folded are equal under `i`.
     fn refer(&mut self, group: usize, mut state: State<'r>) -> Result<Tried<'r>, NoStepLeft> {
         self.step()?;
         let Some((from, to)) = state.spans[group] else { return Ok(Tried::Failed) };
@@ -182,7 +184,8 @@ impl<'r> Walk<'r> {
         for wanted in &subject[from..to] {
             let Some(met) = subject.get(state.at) else { return Ok(Tried::Failed) };
             self.step()?;
-            if met != wanted {
+            let equal = if self.folds { met.eq_ignore_ascii_case(wanted) } else { met == wanted };
+            if !equal {
                 return Ok(Tried::Failed);
             }
             state.at += 1;
