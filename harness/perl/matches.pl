@@ -1,4 +1,5 @@
-# Reads one question a line: flags, rule and subject in hex, and the number of groups, with tabs between them.
+# Reads one question a line: flags, the character set's modifier (`a`, or nothing for `/d`), rule and subject in hex, and the number of groups, with
+# tabs between them.
 # Answers on one line each: `failed` for a rule refused or a panic, `slow` for a match that takes more than ten seconds, `none`, or start, end
 # and each group's span, `-` for a group that is not set.
 # The rule stands in a variable, so that nothing in it is interpolated.
@@ -10,10 +11,11 @@ $| = 0;
 POSIX::sigaction(POSIX::SIGALRM(), POSIX::SigAction->new(sub { die "slow\n" }));
 while (my $line = <STDIN>) {
     chomp $line;
-    my ($flags, $rule, $subject, $groups) = split /\t/, $line, -1;
+    my ($flags, $charset, $rule, $subject, $groups) = split /\t/, $line, -1;
     ($rule, $subject) = (pack("H*", $rule), pack("H*", $subject));
-    my $modifiers = "a" . (($flags & 1) ? "s" : "") . (($flags & 2) ? "m" : "");
-    my $text = "(?^$modifiers:$rule)";
+    my $modifiers = join "", $charset, map { $flags & 1 << $_ ? qw(s m i x)[$_] : () } 0 .. 3;
+    # Under `x` the rule may end in a comment.
+    my $text = "(?^$modifiers:$rule" . ($modifiers =~ /x/ ? "\n" : "") . ")";
     my $compiled = eval { qr/$text/ };
     if (!defined $compiled) {
         print "failed\n";

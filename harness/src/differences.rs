@@ -3,8 +3,8 @@
 
 use std::collections::BTreeMap;
 
-use crate::independent::tree::Rule;
-use crate::independent::{Row, UNSET};
+use crate::independent::{Row, FLAG_X, UNSET};
+use crate::random::shared::Shared;
 use crate::shapes::shape;
 
 /// A point of the list.
@@ -26,26 +26,67 @@ pub enum Class {
     SkippedStart = 12,
     /// 13: PCRE2 refuses a class that is written like a named set, `[:alpha:]`.
     ColonClass = 13,
+    /// 14: under `i` Perl's `/a` folds bytes above 7F by Unicode's rules.
+    FoldedAbove = 14,
+    /// 15: under `x` Perl and PCRE2 skip a byte 85.
+    NextLine = 15,
+    /// 16: under `i` Perl takes a byte DF for the `s` that ends a branch of literals, under `/d` too.
+    SharpS = 16,
 }
 
 /// PCRE2's error "POSIX named classes are supported only within a class".
 const PCRE2_NAMED_SET_OUTSIDE: i32 = 112;
 
-/// The rule of one comparison: what was read of it, and its bytes.
+/// What is compared.
 pub struct Compared<'a> {
-    pub tree: &'a Rule,
-    pub rule: &'a [u8],
+    pub case: &'a Shared,
 }
 
 impl Compared<'_> {
+    /// The class of what Perl does here beyond document 02, if it has the marks of one. It is left out by `/d` in place of `/a`, and by
+    /// `plain_rule`: a difference that stays when Perl is asked so is another one.
+    pub fn perl_excess(&self) -> Option<Class> {
+        if self.case.tree.folds && has_folded_above(&self.case.subject) {
+            Some(Class::FoldedAbove)
+        } else {
+            self.pcre2_excess()
+        }
+    }
+
+    /// The same for PCRE2; `plain_rule` leaves it out.
+    pub fn pcre2_excess(&self) -> Option<Class> {
+        (self.plain_rule() != self.case.rule).then_some(Class::NextLine)
+    }
+
+    /// The rule with each byte 85 written as an escape under `x`, so that all take it for a literal.
+    pub fn plain_rule(&self) -> Vec<u8> {
+        if self.case.flags & FLAG_X == 0 {
+            return self.case.rule.clone();
+        }
+        let mut plain = Vec::new();
+        let mut is_escaped = false;
+        for &byte in &self.case.rule {
+            if byte == 0x85 && !is_escaped {
+                plain.extend(b"\\x85");
+            } else {
+                plain.push(byte);
+            }
+            is_escaped = byte == b'\\' && !is_escaped;
+        }
+        plain
+    }
+
     /// The class of a difference from Perl, if it has the marks of one. Rows are none where nothing matched.
     pub fn perl_class(&self, ours: Option<&Row>, perls: Option<&Row>) -> Option<Class> {
-        if self.rule.windows(2).any(|pair| pair == b"$\0") {
+        if self.case.rule.windows(2).any(|pair| pair == b"$\0") {
             return Some(Class::DollarBeforeZero);
         }
-        let shape = shape(self.tree);
+        let shape = shape(&self.case.tree);
         if shape.has_repeated_empty_class {
             return Some(Class::EmptyClass);
+        }
+        if shape.has_s_in_branch && self.case.tree.folds && self.case.subject.contains(&0xDF) {
+            return Some(Class::SharpS);
         }
         let missed = ours.is_some_and(|ours| perls.is_none_or(|perls| perls[0] > ours[0]));
         if missed && shape.has_unbounded_repeat && shape.has_exact_in_repeat {
@@ -65,20 +106,26 @@ impl Compared<'_> {
 
     /// The class of a rule that Perl refuses or fails on.
     pub fn perl_failure_class(&self) -> Option<Class> {
-        shape(self.tree).has_repeated_empty_class.then_some(Class::EmptyClass)
+        shape(&self.case.tree).has_repeated_empty_class.then_some(Class::EmptyClass)
     }
 
     /// The class of a difference from PCRE2.
     pub fn pcre2_class(&self) -> Option<Class> {
-        let shape = shape(self.tree);
+        let shape = shape(&self.case.tree);
         let classes = [(shape.has_bounded_repeat_of_empty, Class::Unrolled), (shape.has_skipped_start, Class::SkippedStart)];
         classes.into_iter().find(|(marked, _)| *marked).map(|(_, class)| class)
     }
 
     /// The class of a rule that PCRE2 refuses with this error.
     pub fn pcre2_refusal_class(&self, error: i32) -> Option<Class> {
-        (error == PCRE2_NAMED_SET_OUTSIDE && self.rule.windows(2).any(|pair| pair == b"[:")).then_some(Class::ColonClass)
+        (error == PCRE2_NAMED_SET_OUTSIDE && self.case.rule.windows(2).any(|pair| pair == b"[:")).then_some(Class::ColonClass)
     }
+}
+
+/// Has the subject what Unicode folds into other bytes: a letter from C0 on (D7 and F7 are none), or two `s`, which fold with DF?
+fn has_folded_above(subject: &[u8]) -> bool {
+    let is_letter = |&byte: &u8| byte >= 0xC0 && byte != 0xD7 && byte != 0xF7;
+    subject.iter().any(is_letter) || subject.windows(2).any(|pair| pair.eq_ignore_ascii_case(b"ss"))
 }
 
 /// The groups whose spans differ, and for each whether it is the other matcher that has none.

@@ -3,6 +3,7 @@
 pub mod arguments;
 pub mod bench;
 pub mod case;
+pub mod contender;
 pub mod differences;
 pub mod examples;
 pub mod fence;

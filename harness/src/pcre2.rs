@@ -6,7 +6,7 @@ use std::ffi::{c_int, c_void};
 use std::ptr::null_mut;
 
 use self::sys::*;
-use crate::independent::{Row, FLAG_M, FLAG_S, ROW_LENGTH, UNSET};
+use crate::independent::{Row, FLAG_I, FLAG_M, FLAG_S, FLAG_X, ROW_LENGTH, UNSET};
 
 /// An address for an empty subject.
 static NOWHERE: [u8; 1] = [0];
@@ -31,10 +31,8 @@ pub struct Pattern {
 impl Pattern {
     /// Compiles a rule, or gives PCRE2's error number.
     pub fn new(rule: &[u8], flags: u32) -> Result<Pattern, i32> {
-        let text = [b"(?:", rule, b")(?C1)"].concat();
-        let mut options = NEVER_UTF | NO_AUTO_POSSESS | NO_DOTSTAR_ANCHOR | NO_START_OPTIMIZE;
-        options |= if flags & FLAG_S != 0 { DOTALL } else { 0 };
-        options |= if flags & FLAG_M != 0 { MULTILINE } else { 0 };
+        let text = [b"(?:", rule, closing(flags), b"(?C1)"].concat();
+        let options = NEVER_UTF | NO_AUTO_POSSESS | NO_DOTSTAR_ANCHOR | NO_START_OPTIMIZE | options_of(flags);
         let (mut error, mut at) = (0, 0);
         // Safety: the text's pointer goes with its length, and what is made here is freed by `drop`, or below where nothing was made.
         unsafe {
@@ -96,6 +94,21 @@ impl Drop for Pattern {
             pcre2_match_context_free_8(self.context);
             pcre2_code_free_8(self.code);
         }
+    }
+}
+
+/// PCRE2's options that are the flags of a rule.
+pub fn options_of(flags: u32) -> u32 {
+    let options = [(FLAG_S, DOTALL), (FLAG_M, MULTILINE), (FLAG_I, CASELESS), (FLAG_X, EXTENDED)];
+    options.iter().filter(|(flag, _)| flags & flag != 0).map(|(_, option)| option).sum()
+}
+
+/// What closes a group around a rule. Under `x` the rule may end in a comment, which an 0A ends and which is skipped itself.
+pub fn closing(flags: u32) -> &'static [u8] {
+    if flags & FLAG_X != 0 {
+        b"\n)"
+    } else {
+        b")"
     }
 }
 

@@ -10,8 +10,18 @@ use crate::text;
 pub struct Question<'a> {
     pub rule: &'a [u8],
     pub flags: u32,
+    pub charset: Charset,
     pub subject: &'a [u8],
     pub groups: usize,
+}
+
+/// By which of its character sets Perl reads a rule. On bytes the two have the same sets, and differ in what `i` folds.
+#[derive(Clone, Copy)]
+pub enum Charset {
+    /// `/a`: under `i` the bytes above 7F are Unicode's letters.
+    Ascii,
+    /// `/d`: they are none.
+    Native,
 }
 
 pub enum Answer {
@@ -29,7 +39,9 @@ const SCRIPT: &str = include_str!("../perl/matches.pl");
 pub fn answers(questions: &[Question]) -> Result<Vec<Answer>, String> {
     let mut asked = String::new();
     for question in questions {
-        asked += &format!("{}\t{}\t{}\t{}\n", question.flags, text::hex(question.rule), text::hex(question.subject), question.groups);
+        let Question { flags, groups, .. } = question;
+        let charset = if let Charset::Ascii = question.charset { "a" } else { "" };
+        asked += &format!("{flags}\t{charset}\t{}\t{}\t{groups}\n", text::hex(question.rule), text::hex(question.subject));
     }
     let output = run_script(SCRIPT, asked).map_err(|error| format!("perl does not run: {error}"))?;
     let answers: Option<Vec<Answer>> = output.lines().map(answer).collect();

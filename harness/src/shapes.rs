@@ -25,6 +25,8 @@ pub struct Shape {
     pub has_exact_in_repeat: bool,
     /// A group under `{0}`, of whose branches a later one begins with `\A` or `^`.
     pub has_skipped_start: bool,
+    /// One of two or more branches has the letter `s` as an item that takes either case.
+    pub has_s_in_branch: bool,
     closed: BTreeSet<usize>,
 }
 
@@ -44,7 +46,9 @@ pub fn shape(rule: &Rule) -> Shape {
 
 impl Shape {
     fn alternation(&mut self, alternation: &Alternation, around: Around) {
+        let is_s = |part: &Part| matches!(part, Part::Byte(set) if set.bytes() == b"Ss");
         for part in alternation.branches.iter().flatten() {
+            self.has_s_in_branch |= alternation.branches.len() > 1 && is_s(part);
             self.part(part, around);
         }
     }

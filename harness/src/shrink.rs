@@ -1,6 +1,7 @@
 //! Makes a case that fails smaller, so that a person can read it.
 
 use crate::case::Case;
+use crate::independent::{FLAG_I, FLAG_M, FLAG_S, FLAG_X};
 
 /// The smallest case found that still fails, by leaving out bytes of rule and subject and lowering the budget.
 pub fn shrunk(case: &Case, mut fails: impl FnMut(&Case) -> bool) -> Case {
@@ -25,8 +26,10 @@ fn candidates(case: &Case) -> Vec<Case> {
             candidates.push(smaller);
         }
     }
-    if case.flags & 3 != 0 {
-        candidates.push(Case { flags: case.flags & !3, ..case.clone() });
+    for flag in [FLAG_S, FLAG_M, FLAG_I, FLAG_X] {
+        if case.flags & flag != 0 {
+            candidates.push(Case { flags: case.flags & !flag, ..case.clone() });
+        }
     }
     candidates
 }

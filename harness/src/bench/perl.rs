@@ -1,7 +1,7 @@
 //! Perl as a contender: one process that takes its own time for each case, apart from the others' turns.
 
 use super::{Case, Reply};
-use crate::perl::{self, Answer, Question};
+use crate::perl::{self, Answer, Charset, Question};
 use crate::raw::Call;
 use crate::text;
 
@@ -28,7 +28,8 @@ pub fn run(cases: &[Case]) -> Result<Perl, String> {
 }
 
 fn replies(cases: &[&Case]) -> Result<Vec<Reply>, String> {
-    let questions: Vec<Question> = cases.iter().map(|case| Question { rule: &case.rule, flags: 0, subject: &case.subject, groups: 32 }).collect();
+    let questions: Vec<Question> =
+        cases.iter().map(|case| Question { rule: &case.rule, flags: 0, charset: Charset::Ascii, subject: &case.subject, groups: 32 }).collect();
     let reply = |answer| match answer {
         Answer::Matched(row) => Reply::Rows(row.to_vec()),
         Answer::NotMatched => Reply::Rows(Vec::new()),

@@ -1,11 +1,11 @@
 //! The library's matches and listings against those of PCRE2 on random sound rules. PCRE2 lists the readings from a start by a callout at the
-//! rule's end that fails each time.
+//! rule's end that fails each time. `--independent` puts the independent matcher in the library's place.
 
-use harness::arguments::arguments;
+use harness::arguments::arguments_and_switch;
 use harness::case::{shown, shown_row, Case};
+use harness::contender::Contender;
 use harness::differences::{Compared, SetAside};
 use harness::independent::{Ending, Row};
-use harness::lender::Lender;
 use harness::pcre2::{Found, Pattern};
 use harness::random::shared::{self, Shared};
 use harness::raw::Call;
@@ -17,10 +17,10 @@ const BUDGET: u32 = 5_000;
 const ROWS: usize = 500;
 
 fn main() -> std::process::ExitCode {
-    let arguments = arguments(20_000, 1..2);
+    let (arguments, is_independent) = arguments_and_switch("--independent", 20_000, 1..2);
     let mut tester = Tester {
         group: Group::new("matches and listings against PCRE2"),
-        lender: Lender::default(),
+        contender: Contender::new(is_independent),
         aside: SetAside::default(),
         rows: 0,
         left_out: 0,
@@ -35,7 +35,7 @@ fn main() -> std::process::ExitCode {
 
 struct Tester {
     group: Group,
-    lender: Lender,
+    contender: Contender,
     aside: SetAside,
     rows: usize,
     left_out: u64,
@@ -44,26 +44,25 @@ struct Tester {
 impl Tester {
     fn judge(&mut self, case: &Shared) {
         let (Some(matched), Some(listed)) = (self.ours(Call::Match, case, 1), self.ours(Call::List, case, ROWS)) else { return };
-        let compared = Compared { tree: &case.tree, rule: &case.rule };
-        let pattern = match Pattern::new(&case.rule, case.flags) {
-            Ok(pattern) => pattern,
-            Err(error) => return self.refused(case, &compared, error),
-        };
-        let mut readings = Vec::new();
-        for start in 0..=case.subject.len() {
-            match pattern.readings(&case.subject, start) {
-                Found::Rows(rows) => readings.extend(rows),
-                Found::Limit => return self.left_out += 1,
+        let ours = Results { matched, listed };
+        let compared = Compared { case };
+        let mut results = theirs(case, &case.rule);
+        if let (Some(class), true) = (compared.pcre2_excess(), differ(&results, &ours)) {
+            // Asked again without what PCRE2 does beyond document 02: a difference that stays is another one.
+            results = theirs(case, &compared.plain_rule());
+            if !differ(&results, &ours) {
+                return self.aside.count(class);
             }
         }
-        let same = listed == readings && pattern.first(&case.subject) == Found::Rows(matched);
-        match compared.pcre2_class() {
-            _ if same => {
-                self.rows += listed.len();
+        match (results, compared.pcre2_class()) {
+            (Err(error), _) => self.refused(case, &compared, error),
+            (Ok(None), _) => self.left_out += 1,
+            (Ok(Some(results)), _) if results == ours => {
+                self.rows += ours.listed.len();
                 self.group.pass();
             }
-            Some(class) => self.aside.count(class),
-            None => self.group.fail(&told(case, &listed, &readings)),
+            (_, Some(class)) => self.aside.count(class),
+            (Ok(Some(results)), None) => self.group.fail(&told(case, &ours.listed, &results.listed)),
         }
     }
 
@@ -77,7 +76,7 @@ impl Tester {
     /// The library's rows, or none where the case is too long.
     fn ours(&mut self, call: Call, case: &Shared, rows: usize) -> Option<Vec<Row>> {
         let call = Case::new(call, &case.rule, case.flags, &case.subject, BUDGET, rows);
-        let answer = self.lender.run(&call).answer;
+        let answer = self.contender.answer(&call);
         match answer.ending {
             Ending::Matched | Ending::NotMatched | Ending::Complete => return Some(answer.rows),
             Ending::Full | Ending::Exhausted(_) => self.left_out += 1,
@@ -85,6 +84,34 @@ impl Tester {
         }
         None
     }
+}
+
+/// The row of a match, if it matched, and all rows of a listing.
+#[derive(PartialEq)]
+struct Results {
+    matched: Vec<Row>,
+    listed: Vec<Row>,
+}
+
+/// PCRE2's results for a case with this as its rule: none where it gave up, or its error where it refuses the rule.
+fn theirs(case: &Shared, rule: &[u8]) -> Result<Option<Results>, i32> {
+    let pattern = Pattern::new(rule, case.flags)?;
+    let mut listed = Vec::new();
+    for start in 0..=case.subject.len() {
+        match pattern.readings(&case.subject, start) {
+            Found::Rows(rows) => listed.extend(rows),
+            Found::Limit => return Ok(None),
+        }
+    }
+    Ok(match pattern.first(&case.subject) {
+        Found::Rows(matched) => Some(Results { matched, listed }),
+        Found::Limit => None,
+    })
+}
+
+/// Are these other results than ours, or a refusal? Where PCRE2 gave up it cannot be told.
+fn differ(theirs: &Result<Option<Results>, i32>, ours: &Results) -> bool {
+    theirs.as_ref().map_or(true, |theirs| theirs.as_ref().is_some_and(|theirs| theirs != ours))
 }
 
 fn told(case: &Shared, ours: &[Row], theirs: &[Row]) -> String {

@@ -1,13 +1,14 @@
 //! The library's matches against those of Perl on random sound rules: matched or not, start, end and captures. A difference has to have the
-//! marks of a known class; where PCRE2 is installed it has to side with the library, unless it has a difference of its own there.
+//! marks of a known class, and PCRE2 has to side with the library, unless it has a difference of its own there. `--independent` puts the
+//! independent matcher in the library's place: what the library is held against elsewhere is then held against Perl itself.
 
-use harness::arguments::arguments;
+use harness::arguments::arguments_and_switch;
 use harness::case::{shown, shown_row, Case};
-use harness::differences::{Compared, SetAside};
+use harness::contender::Contender;
+use harness::differences::{Class, Compared, SetAside};
 use harness::independent::{Ending, Row};
-use harness::lender::Lender;
 use harness::pcre2::{Found, Pattern};
-use harness::perl::{self, Answer, Question};
+use harness::perl::{self, Answer, Charset, Question};
 use harness::random::shared::{self, Shared};
 use harness::raw::Call;
 use harness::report::Group;
@@ -21,9 +22,14 @@ const CLASSES: u64 = 100;
 const BATCH: usize = 5_000;
 
 fn main() -> std::process::ExitCode {
-    let arguments = arguments(50_000, 1..2);
-    let mut tester =
-        Tester { group: Group::new("matches against Perl"), lender: Lender::default(), aside: SetAside::default(), confirmed: 0, left_out: 0 };
+    let (arguments, is_independent) = arguments_and_switch("--independent", 50_000, 1..2);
+    let mut tester = Tester {
+        group: Group::new("matches against Perl"),
+        contender: Contender::new(is_independent),
+        aside: SetAside::default(),
+        confirmed: 0,
+        left_out: 0,
+    };
     tester.batch(shared::set_cases());
     for seed in arguments.seeds.clone() {
         let numbers: Vec<u64> = (0..arguments.cases).collect();
@@ -39,7 +45,7 @@ fn main() -> std::process::ExitCode {
 
 struct Tester {
     group: Group,
-    lender: Lender,
+    contender: Contender,
     aside: SetAside,
     confirmed: u64,
     left_out: u64,
@@ -48,17 +54,42 @@ struct Tester {
 impl Tester {
     fn batch(&mut self, cases: Vec<Shared>) {
         let ours: Vec<(Shared, Option<Row>)> = cases.into_iter().filter_map(|case| self.ours(case)).collect();
-        let questions: Vec<Question> = ours.iter().map(|(case, _)| question(case)).collect();
-        match perl::answers(&questions) {
-            Err(error) => self.group.fail(&error),
-            Ok(answers) => ours.iter().zip(answers).for_each(|((case, row), answer)| self.judge(case, row.as_ref(), &answer)),
+        let questions: Vec<Question> = ours.iter().map(|(case, _)| question(case, &case.rule, Charset::Ascii)).collect();
+        let mut again = Vec::new();
+        for ((case, row), answer) in ours.iter().zip(self.answers(&questions)) {
+            match (Compared { case }).perl_excess() {
+                Some(class) if !is_same(row.as_ref(), &answer) => again.push((case, row.as_ref(), class)),
+                _ => self.judge(case, row.as_ref(), &answer),
+            }
         }
+        self.without_excess(&again);
+    }
+
+    /// Asks again what differed where Perl does more than document 02 says, this time without that.
+    fn without_excess(&mut self, differing: &[(&Shared, Option<&Row>, Class)]) {
+        let rules: Vec<Vec<u8>> = differing.iter().map(|&(case, ..)| Compared { case }.plain_rule()).collect();
+        let questions: Vec<Question> = differing.iter().zip(&rules).map(|(&(case, ..), rule)| question(case, rule, Charset::Native)).collect();
+        for (&(case, row, class), answer) in differing.iter().zip(self.answers(&questions)) {
+            if is_same(row, &answer) {
+                self.set_aside(case, row, &answer, class);
+            } else {
+                self.judge(case, row, &answer);
+            }
+        }
+    }
+
+    /// Perl's answers, or none where it does not run.
+    fn answers(&mut self, questions: &[Question]) -> Vec<Answer> {
+        perl::answers(questions).unwrap_or_else(|error| {
+            self.group.fail(&error);
+            Vec::new()
+        })
     }
 
     /// The library's row, or no row where it does not match. Cases that are too long are left out.
     fn ours(&mut self, case: Shared) -> Option<(Shared, Option<Row>)> {
         let call = Case::new(Call::Match, &case.rule, case.flags, &case.subject, BUDGET, 1);
-        let answer = self.lender.run(&call).answer;
+        let answer = self.contender.answer(&call);
         match answer.ending {
             Ending::Matched | Ending::NotMatched => return Some((case, answer.rows.first().copied())),
             Ending::Exhausted(_) => self.left_out += 1,
@@ -68,10 +99,9 @@ impl Tester {
     }
 
     fn judge(&mut self, case: &Shared, ours: Option<&Row>, answer: &Answer) {
-        let compared = Compared { tree: &case.tree, rule: &case.rule };
+        let compared = Compared { case };
         let class = match answer {
-            Answer::NotMatched if ours.is_none() => return self.group.pass(),
-            Answer::Matched(row) if ours == Some(&**row) => return self.group.pass(),
+            _ if is_same(ours, answer) => return self.group.pass(),
             Answer::Slow => {
                 self.left_out += 1;
                 return;
@@ -81,20 +111,26 @@ impl Tester {
             Answer::Matched(row) => compared.perl_class(ours, Some(row)),
         };
         match class {
-            Some(_) if !self.pcre2_sides_with(ours, case, &compared) => {
-                self.group.fail(&format!("{}\nPCRE2 does not side with the library", told(case, ours, answer)));
-            }
-            Some(class) => self.aside.count(class),
+            Some(class) => self.set_aside(case, ours, answer, class),
             None => self.group.fail(&told(case, ours, answer)),
         }
     }
 
+    fn set_aside(&mut self, case: &Shared, ours: Option<&Row>, answer: &Answer, class: Class) {
+        if self.pcre2_sides_with(ours, case) {
+            self.aside.count(class);
+        } else {
+            self.group.fail(&format!("{}\nPCRE2 does not side with the library", told(case, ours, answer)));
+        }
+    }
+
     /// Does PCRE2 find the library's row? Where it differs by a point of its own, it cannot be asked.
-    fn pcre2_sides_with(&mut self, ours: Option<&Row>, case: &Shared, compared: &Compared) -> bool {
+    fn pcre2_sides_with(&mut self, ours: Option<&Row>, case: &Shared) -> bool {
+        let compared = Compared { case };
         if compared.pcre2_class().is_some() {
             return true;
         }
-        let found = match Pattern::new(&case.rule, case.flags) {
+        let found = match Pattern::new(&compared.plain_rule(), case.flags) {
             Ok(pattern) => pattern.first(&case.subject),
             Err(error) => return compared.pcre2_refusal_class(error).is_some(),
         };
@@ -104,8 +140,17 @@ impl Tester {
     }
 }
 
-fn question(case: &Shared) -> Question<'_> {
-    Question { rule: &case.rule, flags: case.flags, subject: &case.subject, groups: case.tree.groups }
+fn question<'c>(case: &'c Shared, rule: &'c [u8], charset: Charset) -> Question<'c> {
+    Question { rule, flags: case.flags, charset, subject: &case.subject, groups: case.tree.groups }
+}
+
+/// Is Perl's answer this row, or "not matched" where there is none?
+fn is_same(ours: Option<&Row>, answer: &Answer) -> bool {
+    match answer {
+        Answer::NotMatched => ours.is_none(),
+        Answer::Matched(row) => ours == Some(&**row),
+        Answer::Failed | Answer::Slow => false,
+    }
 }
 
 fn told(case: &Shared, ours: Option<&Row>, answer: &Answer) -> String {

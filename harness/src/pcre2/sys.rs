@@ -3,7 +3,9 @@
 use std::ffi::{c_int, c_void};
 
 pub const ANCHORED: u32 = 0x8000_0000;
+pub const CASELESS: u32 = 0x0000_0008;
 pub const DOTALL: u32 = 0x0000_0020;
+pub const EXTENDED: u32 = 0x0000_0080;
 pub const MULTILINE: u32 = 0x0000_0400;
 pub const NEVER_UTF: u32 = 0x0000_1000;
 pub const NO_AUTO_POSSESS: u32 = 0x0000_4000;

@@ -9,15 +9,16 @@ use crate::raw::Call;
 /// The case of this seed and number.
 pub fn case(seed: u64, number: u64) -> Case {
     let rng = &mut Rng::new(seed, number);
-    let style = rules::any_style(rng);
-    let rule = match rng.weighted(&[62, 17, 12, 3, 6]) {
+    let flags = if rng.percent(1) { *rng.pick(&[16, 17, 31, 32, 1 << 20, 0x8000_0000, u32::MAX]) } else { rng.below(16) as u32 };
+    let style = rules::any_style(rng, flags);
+    let rule = match rng.weighted(&[56, 16, 12, 3, 6, 7]) {
         0 => rules::rule(rng, style),
-        1 => damage::damaged(rng),
+        1 => damage::damaged(rng, style),
         2 => damage::jumble(rng),
         3 => damage::noise(rng),
-        _ => damage::at_limit(rng),
+        4 => damage::at_limit(rng),
+        _ => damage::with_odd_blanks(rng, style),
     };
-    let flags = if rng.percent(1) { *rng.pick(&[4, 5, 8, 0x8000_0000, u32::MAX]) } else { rng.below(4) as u32 };
     let tree = independent::read(&rule, flags).ok();
     let mut subject = subjects::subject(rng, tree.as_ref(), style.alphabet);
     // Seldom a subject over its limit, or a long one: the same bytes over and over.

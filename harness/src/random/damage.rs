@@ -1,19 +1,41 @@
-//! Rules that are mostly refused: sound ones with bytes changed, cut or doubled, rules at the limits, and bytes that are no rule at all.
+//! Rules that are mostly refused: sound ones with bytes changed, cut or doubled, or with blanks at odd places, rules at the limits, and bytes that
+//! are no rule at all.
 
-use super::{rules, Rng};
+use super::rules::{self, Style};
+use super::Rng;
 
 /// Bytes that mean something in a rule.
-const MEANT: &[u8] = b"\\\\\\()[]{}|*+?^$.-:,=!<>0123456789abcdghknoswxzABDEGKLNQRSUVWXZ_ \n\x00\xFF";
+const MEANT: &[u8] = b"\\\\\\()[]{}|*+?^$.-:,=!<>0123456789abcdghknoswxzABDEGKLNQRSUVWXZ_# \t\n\x00\x85\xFF";
 
 /// A rule with one to three faults.
-pub fn damaged(rng: &mut Rng) -> Vec<u8> {
-    let style = rules::any_style(rng);
+pub fn damaged(rng: &mut Rng, style: Style) -> Vec<u8> {
     let mut rule = rules::rule(rng, style);
     let times = rng.between(1, 3);
     for _ in 0..times {
         damage(rng, &mut rule);
     }
     rule
+}
+
+/// A rule with blanks or comments anywhere: behind a backslash, inside braces, in a class, between a repeat and its `?`, between `(` and `?`.
+pub fn with_odd_blanks(rng: &mut Rng, style: Style) -> Vec<u8> {
+    let mut rule = rules::rule(rng, style);
+    let times = rng.between(1, 3);
+    for _ in 0..times {
+        let places: Vec<usize> = (0..=rule.len()).filter(|&at| !style.plain || !is_in_name(&rule, at)).collect();
+        // Mostly right behind a byte after which it makes a difference.
+        let telling: Vec<usize> = places.iter().copied().filter(|&at| at > 0 && b"\\({[?*+}:,x1".contains(&rule[at - 1])).collect();
+        let at = if telling.is_empty() || rng.percent(40) { *rng.pick(&places) } else { *rng.pick(&telling) };
+        let blank = *rng.pick(&[" ", " ", "\t", "\n", "\x0B", "#", "#\n", "# )\n"]);
+        rule.splice(at..at, blank.bytes());
+    }
+    rule
+}
+
+/// Is this place between `[:` and `:]`? With a byte there that is no letter, the `[` is a literal here, and other matchers refuse it.
+fn is_in_name(rule: &[u8], at: usize) -> bool {
+    let last = |mark: &[u8; 2]| rule[..at].windows(2).rposition(|pair| pair == mark);
+    rule.get(at - at.min(1)..=at).is_some_and(|pair| pair == b"[:" || pair == b":]") || last(b"[:") > last(b":]")
 }
 
 fn damage(rng: &mut Rng, rule: &mut Vec<u8>) {

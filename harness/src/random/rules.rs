@@ -1,7 +1,8 @@
 //! Random rules within the held syntax. Weights favour what goes wrong in matchers: nested repeats, empty rounds and branches, references
-//! to groups before and behind, classes with `-` and `]` at odd places.
+//! to groups before and behind, classes with `-` and `]` at odd places; letters in both cases, and under `x` blanks and comments.
 
 use super::Rng;
+use crate::independent::FLAG_X;
 
 /// How a rule is made.
 #[derive(Clone, Copy)]
@@ -13,23 +14,33 @@ pub struct Style {
     /// Only forms that Perl and PCRE2 read as document 01 does: no zeros before a number, no references that may count as octal, no
     /// bracket in a class that may begin a POSIX form.
     pub plain: bool,
+    /// Blanks and comments stand where `x` lets them be skipped.
+    pub blanks: bool,
 }
 
-pub const ALPHABETS: [&[u8]; 5] = [b"ab", b"ab", b"ab1\n", b"a1, -_", b"\x00a\n\x7F\x80\x85\xA0\xFF]"];
+/// Among them letters in both cases with the bytes beside A, Z, a and z, what `x` skips, and bytes above 7F that are letters elsewhere.
+pub const ALPHABETS: [&[u8]; 9] =
+    [b"ab", b"ab", b"aAbB", b"ab1\n", b"a1, -_", b"aAzZ@[`{", b"a# \t\n\x0B", b"\x00a\n\x7F\x80\x85\xA0\xFF]", b"sSkE\xC9\xE9\xDF"];
+
+/// What `x` skips. A comment may hold anything but an 0A.
+const BLANKS: [&str; 16] =
+    [" ", " ", "  ", "\t", "\n", "\x0B", "\x0C", "\r", " \r\n", "#\n", "# a \n", "#(\n", "#)*\n", "#\\\n", "#[\r|\n", "\t##\n "];
 
 /// The letters of the escapes for sets.
 pub const SETS: &[u8] = b"dDwWsShHvV";
-const NAMES: [&str; 14] =
+/// The names of sets.
+pub const NAMES: [&str; 14] =
     ["alpha", "upper", "lower", "alnum", "xdigit", "blank", "cntrl", "ascii", "print", "graph", "punct", "digit", "word", "space"];
 
-/// A style for any reader of document 01.
-pub fn any_style(rng: &mut Rng) -> Style {
-    Style { alphabet: ALPHABETS[rng.below(ALPHABETS.len())], depth: rng.between(1, 4), plain: false }
+/// A style for any reader of document 01, for a rule under these flags.
+pub fn any_style(rng: &mut Rng, flags: u32) -> Style {
+    let blanks = flags & FLAG_X != 0 && rng.percent(85);
+    Style { alphabet: ALPHABETS[rng.below(ALPHABETS.len())], depth: rng.between(1, 4), plain: false, blanks }
 }
 
 /// A style for rules that other matchers are to read too.
-pub fn plain_style(rng: &mut Rng) -> Style {
-    Style { plain: true, ..any_style(rng) }
+pub fn plain_style(rng: &mut Rng, flags: u32) -> Style {
+    Style { plain: true, ..any_style(rng, flags) }
 }
 
 /// A rule of this style. It is nearly always sound; a reference may have no group, and a class range may be bad.
@@ -38,6 +49,11 @@ pub fn rule(rng: &mut Rng, style: Style) -> Vec<u8> {
     maker.alternation(style.depth);
     if maker.rule.is_empty() && maker.rng.percent(90) {
         maker.item(style.depth);
+    }
+    // What a comment at the rule's end holds is not looked at, and it needs no 0A.
+    if style.blanks && maker.rng.percent(15) {
+        let comment = *maker.rng.pick(&["#", "# a", "#(", "#\\", "#[a", "#\r*"]);
+        maker.write(comment);
     }
     maker.rule
 }
@@ -69,8 +85,18 @@ impl Maker<'_> {
             }
             let items = self.rng.weighted(&[12, 40, 28, 14, 6]);
             for _ in 0..items {
+                self.blank();
                 self.item(depth);
             }
+            self.blank();
+        }
+    }
+
+    /// Nothing, or under `x` what is skipped here.
+    fn blank(&mut self) {
+        if self.style.blanks && self.rng.percent(30) {
+            let blank = *self.rng.pick(&BLANKS);
+            self.write(blank);
         }
     }
 
@@ -98,6 +124,7 @@ impl Maker<'_> {
             _ => self.group("(?:", depth),
         }
         if self.rng.percent(45) {
+            self.blank();
             self.repeat();
         }
     }
@@ -110,7 +137,9 @@ impl Maker<'_> {
 
     fn literal(&mut self) {
         let byte = *self.rng.pick(self.style.alphabet);
-        if b"\\^$.|()[*+?{".contains(&byte) || (!byte.is_ascii_alphanumeric() && byte != b'_' && self.rng.percent(10)) {
+        // A blank that is meant as a literal needs its backslash under `x`.
+        let escaped = if self.style.blanks && b"\t\n\x0B #".contains(&byte) { 90 } else { 10 };
+        if b"\\^$.|()[*+?{".contains(&byte) || (!byte.is_ascii_alphanumeric() && byte != b'_' && self.rng.percent(escaped)) {
             self.rule.push(b'\\');
         }
         self.rule.push(byte);
@@ -231,7 +260,7 @@ impl Maker<'_> {
 
     /// A range between two bytes, nearly always in their order.
     fn range(&mut self) {
-        let (one, other) = (*self.rng.pick(b"abc19,Zz"), *self.rng.pick(b"abc19,Zz"));
+        let (one, other) = (*self.rng.pick(b"abcMYZz19,[`"), *self.rng.pick(b"abcMYZz19,[`"));
         let (low, high) = if self.rng.percent(97) { (one.min(other), one.max(other)) } else { (one, other) };
         self.rule.extend([low, b'-', high]);
         if self.rng.percent(10) {

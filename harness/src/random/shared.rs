@@ -1,7 +1,7 @@
-//! Sound rules that other matchers read as document 01 does, each with a subject: random ones, and the escapes for sets.
+//! Sound rules that other matchers read as documents 01 and 02 do, each with a subject: random ones, classes, and the sets.
 
-use super::{rules, subjects, Rng};
-use crate::independent::{self, tree::Rule};
+use super::{damage, rules, subjects, Rng};
+use crate::independent::{self, tree::Rule, FLAG_I};
 
 pub struct Shared {
     pub rule: Vec<u8>,
@@ -13,29 +13,33 @@ pub struct Shared {
 /// The case of this seed and number, or none where the rule made is refused.
 pub fn case(seed: u64, number: u64) -> Option<Shared> {
     let rng = &mut Rng::new(seed, number);
-    let style = rules::plain_style(rng);
-    let rule = rules::rule(rng, style);
-    let flags = rng.below(4) as u32;
+    let flags = rng.below(16) as u32;
+    let style = rules::plain_style(rng, flags);
+    // Blanks at odd places are mostly refused; where they are not, they tell what is part of an item.
+    let rule = if style.blanks && rng.percent(10) { damage::with_odd_blanks(rng, style) } else { rules::rule(rng, style) };
     let tree = independent::read(&rule, flags).ok()?;
     let subject = subjects::subject(rng, Some(&tree), style.alphabet);
     Some(Shared { rule, flags, tree, subject })
 }
 
-/// A random class on each of the 256 subjects of one byte; nothing where the class made is refused.
+/// A random class on each of the 256 subjects of one byte, with and without `i`; nothing where the class made is refused.
 pub fn class_cases(seed: u64, number: u64) -> Vec<Shared> {
     let rng = &mut Rng::new(!seed, number);
-    let style = rules::plain_style(rng);
+    let style = rules::plain_style(rng, 0);
     on_every_byte(&rules::class(rng, style))
 }
 
-/// Each escape for a set on each of the 256 subjects of one byte: alone, in a class and in a complemented one.
+/// Each escape for a set and each named set on each of the 256 subjects of one byte, with and without `i`: alone, in a class and in a complemented
+/// one.
 pub fn set_cases() -> Vec<Shared> {
-    let escapes = rules::SETS.iter().map(|&letter| char::from(letter));
-    let rules = escapes.flat_map(|letter| [format!("\\{letter}"), format!("[\\{letter}]"), format!("[^\\{letter}]")]);
+    let escapes = rules::SETS.iter().map(|&letter| format!("\\{}", char::from(letter)));
+    let named = rules::NAMES.iter().flat_map(|name| [format!("[:{name}:]"), format!("[:^{name}:]")]);
+    let alone = escapes.clone();
+    let rules = alone.chain(escapes.chain(named).flat_map(|set| [format!("[{set}]"), format!("[^{set}]")]));
     rules.flat_map(|rule| on_every_byte(rule.as_bytes())).collect()
 }
 
 fn on_every_byte(rule: &[u8]) -> Vec<Shared> {
-    let case = |byte| Some(Shared { rule: rule.to_vec(), flags: 0, tree: independent::read(rule, 0).ok()?, subject: vec![byte] });
-    (0..=255).filter_map(case).collect()
+    let case = |flags, byte| Some(Shared { rule: rule.to_vec(), flags, tree: independent::read(rule, flags).ok()?, subject: vec![byte] });
+    [0, FLAG_I].into_iter().flat_map(|flags| (0..=255).filter_map(move |byte| case(flags, byte))).collect()
 }

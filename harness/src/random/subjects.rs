@@ -22,10 +22,20 @@ pub fn subject(rng: &mut Rng, rule: Option<&Rule>, alphabet: &[u8]) -> Vec<u8> {
             _ => subject.push(byte),
         }
     }
+    if rng.percent(if rule.is_some_and(|rule| rule.folds) { 40 } else { 5 }) {
+        mix_case(rng, &mut subject);
+    }
     if rng.percent(8) {
         subject.push(b'\n');
     }
     subject
+}
+
+/// Gives about half of the letters the other case.
+pub fn mix_case(rng: &mut Rng, subject: &mut [u8]) {
+    for byte in subject.iter_mut().filter(|byte| byte.is_ascii_alphabetic()) {
+        *byte ^= if rng.percent(50) { 0x20 } else { 0 };
+    }
 }
 
 /// Mostly short; seldom a line of some length.
