@@ -22,7 +22,7 @@ def row_line(row):
 
 def refusal(rule, flags, subject, budget, areas):
     """Refusals 1 to 7, in their order; 0 for none."""
-    tests = [len(rule) > 1000, len(subject) > 65535, flags > 3, budget > 100000, areas[0] < RULE_AREA, areas[1] < 16 * budget, areas[2] < ROW]
+    tests = [len(rule) > 1000, len(subject) > 65535, flags > 15, budget > 100000, areas[0] < RULE_AREA, areas[1] < 16 * budget, areas[2] < ROW]
     return tests.index(True) + 1 if True in tests else 0
 
 

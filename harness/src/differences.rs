@@ -78,7 +78,7 @@ impl Compared<'_> {
 
     /// The class of a difference from Perl, if it has the marks of one. Rows are none where nothing matched.
     pub fn perl_class(&self, ours: Option<&Row>, perls: Option<&Row>) -> Option<Class> {
-        if self.case.rule.windows(2).any(|pair| pair == b"$\0") {
+        if self.has_dollar_before_zero() {
             return Some(Class::DollarBeforeZero);
         }
         let shape = shape(&self.case.tree);
@@ -102,6 +102,20 @@ impl Compared<'_> {
             return Some(Class::EnteredAgain);
         }
         (moved || differing.iter().all(|(group, _)| shape.repeated_groups.contains(group))).then_some(Class::GivenUp)
+    }
+
+    /// Has the rule a `$` with a byte 00 right behind it, or under `x` behind what is skipped there?
+    fn has_dollar_before_zero(&self) -> bool {
+        let is_blank = |byte: &u8| matches!(byte, 0x09..=0x0D | 0x20);
+        let behind = |at: usize| {
+            let mut rest = &self.case.rule[at + 1..];
+            while self.case.flags & FLAG_X != 0 && rest.first().is_some_and(|byte| is_blank(byte) || *byte == b'#') {
+                let length = if rest[0] == b'#' { rest.iter().position(|&byte| byte == b'\n').unwrap_or(rest.len() - 1) + 1 } else { 1 };
+                rest = &rest[length..];
+            }
+            rest.first()
+        };
+        (0..self.case.rule.len()).any(|at| self.case.rule[at] == b'$' && behind(at) == Some(&0))
     }
 
     /// The class of a rule that Perl refuses or fails on.

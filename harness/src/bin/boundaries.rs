@@ -1,8 +1,8 @@
 //! Calls at the limits of document 01: each of refusals 1 to 7 at its last good and first bad value, all of them together in their order,
-//! subjects of 65,535 bytes, and the greatest budget, also within a reference.
+//! subjects of 65,535 bytes, the greatest budget, also within a reference, every flag setting, and rules of 1,000 bytes that `x` mostly skips.
 
 use harness::case::{shown, Case};
-use harness::independent::Ending;
+use harness::independent::{Ending, FLAG_X};
 use harness::lender::Lender;
 use harness::raw::Call;
 use harness::report::Group;
@@ -19,6 +19,8 @@ fn main() -> std::process::ExitCode {
         greatest_budget(&mut group, &mut lender, call);
         long_reference(&mut group, &mut lender, call);
         rooms(&mut group, &mut lender, call);
+        flags(&mut group, &mut lender, call);
+        long_rules_with_blanks(&mut group, &mut lender, call);
     }
     group.end("")
 }
@@ -38,7 +40,7 @@ fn refusals_in_order(group: &mut Group, lender: &mut Lender, call: Call) {
         let case = Case {
             call,
             rule: vec![b'b'; 1_000 + breaks(1) as usize],
-            flags: if breaks(3) == 1 { 4 } else { 3 },
+            flags: if breaks(3) == 1 { 16 } else { 15 },
             subject: vec![b'a'; 65_535 + breaks(2) as usize],
             budget,
             rule_area: 16_384 - breaks(5) as usize,
@@ -124,5 +126,34 @@ fn rooms(group: &mut Group, lender: &mut Lender, call: Call) {
         for rule in ["", "a|a|(a)", "(a?)*"] {
             judge(group, lender, &Case { result_area: numbers, ..Case::new(call, rule.as_bytes(), 0, b"a", 100, 1) });
         }
+    }
+}
+
+/// All sixteen flag settings on rules that tell each flag, and settings from 16 on, which are refused whatever bits lie below.
+fn flags(group: &mut Group, lender: &mut Lender, call: Call) {
+    for flags in (0..16).chain([16, 17, 20, 24, 31, 32, 63, 64, 255, 256, 65_536, 1 << 31, (1 << 31) + 15, u32::MAX]) {
+        for (rule, subject) in [(&b"a.b"[..], &b"A\nB"[..]), (b"^b $", b"a\nb"), (b"[^a] #\n*", b"A a"), (b"(a) \\1", b"aA"), (b"( ?:a", b"a")] {
+            judge(group, lender, &Case::new(call, rule, flags, subject, 100, 2));
+        }
+    }
+}
+
+/// "1: rule over 1,000 bytes" counts the rule as it is written, and so does a place: what `x` skips is part of both.
+fn long_rules_with_blanks(group: &mut Group, lender: &mut Lender, call: Call) {
+    for length in [999, 1_000, 1_001] {
+        for (before, filling, behind) in [
+            ("", " ", "a"),
+            ("a", "\t", ""),
+            ("", "\n", ")"),
+            ("a*", "\x0B", "*"),
+            ("a#", "(", ""),
+            ("#", "#", "\na"),
+            ("#", "\\", "\n)"),
+            ("(", "\r", ""),
+        ] {
+            let rule = format!("{before}{}{behind}", filling.repeat(length - before.len() - behind.len()));
+            judge(group, lender, &Case::new(call, rule.as_bytes(), FLAG_X, b"a", 1_000, 3));
+        }
+        judge(group, lender, &Case::new(call, &b"a ".repeat(501)[..length], FLAG_X, b"a", 1_000, 3));
     }
 }

@@ -1,12 +1,16 @@
-//! All short rules against the independent matcher: every escape with every byte, every named set with every byte, and every rule of up to
-//! four bytes over those that mean something. Where faults hide in the order of refusals, a short rule shows them.
+//! All short rules against the independent matcher: every escape with every byte, every named set with every byte, with and without `i`, and every
+//! rule of up to four bytes over those that mean something, also over those that mean something under `x`. Where faults hide in the order of
+//! refusals, a short rule shows them.
 
 use harness::case::Case;
+use harness::independent::{FLAG_I, FLAG_X};
 use harness::lender::Lender;
 use harness::raw::Call;
 use harness::report::Group;
 
 const MEANT: &[u8] = b"\\()[]{}|*?^$-:,01ab.gcxd";
+/// What `x` skips is among them, and all beside which it must not stand.
+const MEANT_UNDER_X: &[u8] = b" #\n\\()[]{}|*?:1ac^";
 
 const NAMES: [&str; 16] =
     ["alpha", "upper", "lower", "alnum", "xdigit", "blank", "cntrl", "ascii", "print", "graph", "punct", "digit", "word", "space", "h", ""];
@@ -15,7 +19,8 @@ fn main() -> std::process::ExitCode {
     let mut tester = Tester { group: Group::new("all short rules"), lender: Lender::default() };
     tester.escapes();
     tester.named_sets();
-    tester.rules(&mut Vec::new(), 4);
+    tester.rules(MEANT, |length| length % 8, &mut Vec::new(), 4);
+    tester.rules(MEANT_UNDER_X, |length| FLAG_X | (length % 2 * FLAG_I), &mut Vec::new(), 4);
     tester.group.end("")
 }
 
@@ -54,24 +59,26 @@ impl Tester {
         }
     }
 
-    /// The rule on each of the 256 subjects of one byte, under all flags; once if it is refused.
+    /// The rule on each of the 256 subjects of one byte, with and without `i` and under any of the other flags; once if it is refused.
     fn on_every_byte(&mut self, rule: &[u8]) {
         for byte in 0..=255 {
-            let case = Case::new(Call::Match, rule, u32::from(byte) % 4, &[byte], 20, 1);
-            self.judge(&case);
+            let others = [0, 1, 2, 3, 8, 9, 10, 11][usize::from(byte) % 8];
+            for flags in [others, others | FLAG_I] {
+                self.judge(&Case::new(Call::Match, rule, flags, &[byte], 20, 1));
+            }
             if harness::independent::read(rule, 0).is_err() {
                 return;
             }
         }
     }
 
-    /// Every rule that begins so and goes on with up to so many of the meant bytes.
-    fn rules(&mut self, rule: &mut Vec<u8>, more: usize) {
-        self.judge(&Case::new(Call::List, rule, (rule.len() % 4) as u32, b"a1", 60, 2));
+    /// Every rule that begins so and goes on with up to so many of these bytes, its flags by its length.
+    fn rules(&mut self, meant: &[u8], flags: fn(u32) -> u32, rule: &mut Vec<u8>, more: usize) {
+        self.judge(&Case::new(Call::List, rule, flags(rule.len() as u32), b"a1A", 60, 2));
         if more > 0 {
-            for &byte in MEANT {
+            for &byte in meant {
                 rule.push(byte);
-                self.rules(rule, more - 1);
+                self.rules(meant, flags, rule, more - 1);
                 rule.pop();
             }
         }

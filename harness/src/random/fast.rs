@@ -1,15 +1,17 @@
 //! Random calls aimed at what a matcher may do otherwise than step by step, and then has to count as if it had not: a repeat over one byte item
 //! taken as one run, starts skipped because of their byte, branches passed over because of theirs, a listing's rows found again by an index, a
-//! reference's bytes compared in one go. Most budgets are at an edge: the steps that the independent matcher counts for one start, or up to or
+//! reference's bytes compared in one go. Half of the calls are under `i`, `x` or both: what can begin, and what a run or a reference takes, then
+//! has letters of both cases. Most budgets are at an edge: the steps that the independent matcher counts for one start, or up to or
 //! within one reference, or a few more or less.
 
 mod rules;
 mod subjects;
 
+use super::subjects::mix_case;
 use super::Rng;
 use crate::case::Case;
 use crate::independent::tree::Rule;
-use crate::independent::{self, ROW_LENGTH, RULE_AREA, WORK_PER_STEP};
+use crate::independent::{self, FLAG_I, FLAG_X, ROW_LENGTH, RULE_AREA, WORK_PER_STEP};
 use crate::raw::Call;
 
 /// About so many steps a call may take: a longer line is cut, so that a long one with long walks does not take the time of many cases.
@@ -29,7 +31,7 @@ enum Aim {
 /// The case of this seed and number.
 pub fn case(seed: u64, number: u64) -> Case {
     let rng = &mut Rng::new(seed ^ 0xFA57, number);
-    let flags = *rng.pick(&[0, 0, 0, 1, 2, 2, 3]);
+    let flags = *rng.pick(&[0, 0, 0, 1, 2, 2, 3]) | *rng.pick(&[0, 0, 0, 0, FLAG_I, FLAG_I, FLAG_X, FLAG_I | FLAG_X]);
     let aim = [Aim::Beginnings, Aim::ManyRows, Aim::References][rng.weighted(&[74, 12, 14])];
     let call = if aim == Aim::ManyRows || rng.percent(40) { Call::List } else { Call::Match };
     let (rule, tree) = sound_rule(rng, flags, aim);
@@ -38,6 +40,9 @@ pub fn case(seed: u64, number: u64) -> Case {
         Aim::ManyRows => subjects::alike(rng),
         Aim::References => subjects::again(rng, &tree),
     };
+    if tree.folds && rng.percent(60) {
+        mix_case(rng, &mut subject);
+    }
     let walk = Starts { call, rule: &tree, subject: &subject }.steps_at_any(rng);
     subject.drain(..subject.len().saturating_sub((MOST_STEPS / walk.max(1)) as usize));
     let budget = budget(rng, &Starts { call, rule: &tree, subject: &subject });
@@ -54,9 +59,9 @@ pub fn case(seed: u64, number: u64) -> Case {
 fn sound_rule(rng: &mut Rng, flags: u32, aim: Aim) -> (Vec<u8>, Rule) {
     loop {
         let rule = match aim {
-            Aim::Beginnings => rules::rule(rng),
-            Aim::ManyRows => rules::many_readings(rng),
-            Aim::References => rules::with_references(rng),
+            Aim::Beginnings => rules::rule(rng, flags),
+            Aim::ManyRows => rules::many_readings(rng, flags),
+            Aim::References => rules::with_references(rng, flags),
         };
         match independent::read(&rule, flags) {
             Ok(tree) if aim != Aim::Beginnings || !subjects::can_be_empty(&tree) || rng.percent(40) => return (rule, tree),

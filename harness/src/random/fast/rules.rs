@@ -1,9 +1,11 @@
-//! Rules by how they begin: with sets, groups, branches, repeats of every kind and places, alone and within each other.
+//! Rules by how they begin: with sets, groups, branches, repeats of every kind and places, alone and within each other. Under `x` blanks and
+//! comments stand before what begins and before its repeat.
 
+use crate::independent::FLAG_X;
 use crate::random::Rng;
 
 /// Items that take one byte; those that are here twice fit the subjects' bytes best.
-const ITEMS: [&str; 28] = [
+const ITEMS: [&str; 34] = [
     "a",
     "a",
     "a",
@@ -32,6 +34,12 @@ const ITEMS: [&str; 28] = [
     "\\x00",
     "[\\d\\D]",
     "[^\\d\\D]",
+    "A",
+    "[B-b]",
+    "[^A]",
+    "[[:upper:]1]",
+    "[[:^lower:]]",
+    "[^[:^upper:]b]",
 ];
 
 /// Rules of many readings, many of them met more than once, and others of one span that differ in a group.
@@ -93,22 +101,22 @@ const REFERENCES: [&str; 28] = [
 /// Places that say something of the byte before or behind, so that a start's own byte does not settle whether it can begin.
 const PLACES: [&str; 6] = ["$", "\\b", "\\B", "\\z", "\\Z", "^"];
 
-/// A rule of any of the beginnings.
-pub fn rule(rng: &mut Rng) -> Vec<u8> {
-    let mut maker = Maker::new(rng);
+/// A rule of any of the beginnings, for these flags.
+pub fn rule(rng: &mut Rng, flags: u32) -> Vec<u8> {
+    let mut maker = Maker::new(rng, flags);
     let depth = maker.rng.weighted(&[35, 35, 22, 8]);
     maker.alternation(depth, true);
     maker.rule.into_bytes()
 }
 
 /// A rule that has many readings on a line of the same bytes.
-pub fn many_readings(rng: &mut Rng) -> Vec<u8> {
-    one_of(rng, &MANY_READINGS)
+pub fn many_readings(rng: &mut Rng, flags: u32) -> Vec<u8> {
+    one_of(rng, &MANY_READINGS, flags)
 }
 
 /// A rule whose references are often tried, with one more behind them at times.
-pub fn with_references(rng: &mut Rng) -> Vec<u8> {
-    let mut rule = one_of(rng, &REFERENCES);
+pub fn with_references(rng: &mut Rng, flags: u32) -> Vec<u8> {
+    let mut rule = one_of(rng, &REFERENCES, flags);
     if rng.percent(20) {
         rule.extend(b"\\g{1}");
     }
@@ -116,8 +124,8 @@ pub fn with_references(rng: &mut Rng) -> Vec<u8> {
 }
 
 /// One of these rules, often with an item behind it.
-fn one_of(rng: &mut Rng, rules: &[&str]) -> Vec<u8> {
-    let mut maker = Maker::new(rng);
+fn one_of(rng: &mut Rng, rules: &[&str], flags: u32) -> Vec<u8> {
+    let mut maker = Maker::new(rng, flags);
     let text = *maker.rng.pick(rules);
     maker.write(text);
     if maker.rng.percent(40) {
@@ -130,19 +138,29 @@ struct Maker<'r> {
     rng: &'r mut Rng,
     /// Items that this rule has more often than others: what stands behind a run then often takes the same bytes.
     favoured: [&'static str; 2],
+    /// The rule is for `x`.
+    blanks: bool,
     /// Groups opened so far.
     groups: usize,
     rule: String,
 }
 
 impl<'r> Maker<'r> {
-    fn new(rng: &'r mut Rng) -> Maker<'r> {
+    fn new(rng: &'r mut Rng, flags: u32) -> Maker<'r> {
         let favoured = [(); 2].map(|()| *rng.pick(&ITEMS));
-        Maker { rng, favoured, groups: 0, rule: String::new() }
+        Maker { rng, favoured, blanks: flags & FLAG_X != 0, groups: 0, rule: String::new() }
     }
 
     fn write(&mut self, text: &str) {
         self.rule.push_str(text);
+    }
+
+    /// Nothing, or under `x` what is skipped here.
+    fn blank(&mut self) {
+        if self.blanks && self.rng.percent(20) {
+            let blank = *self.rng.pick(&[" ", "\n", "\t ", "#a*\n"]);
+            self.write(blank);
+        }
     }
 
     /// Branches; `begins` says that nothing stands before them.
@@ -169,6 +187,7 @@ impl<'r> Maker<'r> {
 
     fn item(&mut self, depth: usize, begins: bool) {
         let group = if depth > 0 { 15 } else { 0 };
+        self.blank();
         match self.rng.weighted(&[36, 32, group, group, 3, 8]) {
             0 => self.byte(),
             1 => self.run(),
@@ -187,6 +206,9 @@ impl<'r> Maker<'r> {
 
     fn byte(&mut self) {
         let item = if self.rng.percent(70) { *self.rng.pick(&self.favoured) } else { *self.rng.pick(&ITEMS) };
+        if self.blanks && ["#", "\n"].contains(&item) {
+            self.write("\\");
+        }
         self.write(item);
     }
 
@@ -218,6 +240,7 @@ impl<'r> Maker<'r> {
     }
 
     fn repeat(&mut self) {
+        self.blank();
         let low = self.rng.between(0, 4);
         let high = low + self.rng.weighted(&[30, 35, 20, 15]);
         let text = match self.rng.weighted(&[28, 24, 14, 8, 8, 11, 3, 2, 2]) {
