@@ -1,7 +1,7 @@
 //! Examples written down by hand in `data/`: what is asked and what is expected. The head of `source-examples.txt` says how they look.
 
 use crate::case::{shown_row, Case};
-use crate::independent::{Answer, Ending, FLAG_M, FLAG_S};
+use crate::independent::{Answer, Ending, FLAG_I, FLAG_M, FLAG_S, FLAG_X};
 use crate::raw::Call;
 use crate::text;
 
@@ -52,9 +52,10 @@ impl Example {
         match field {
             "from" => self.from = value.to_string(),
             "rule" => self.case.rule = value.as_bytes().to_vec(),
+            "escaped" => self.case.rule = text::unescaped(value)?,
             "same" => self.same = Some(value.as_bytes().to_vec()),
             "subject" => self.case.subject = text::unescaped(value)?,
-            "flags" => self.case.flags = value.chars().map(|flag| if flag == 's' { FLAG_S } else { FLAG_M }).sum(),
+            "flags" => self.case.flags = flags(value)?,
             "call" if value == "list" => self.case.call = Call::List,
             "budget" => self.case.budget = value.parse().ok()?,
             "rows" => self.case.result_area = 66 * value.parse::<usize>().ok()?,
@@ -113,4 +114,16 @@ impl Example {
         }
         faults
     }
+}
+
+/// Flags as letters, each once, or as a number.
+fn flags(value: &str) -> Option<u32> {
+    let flag = |letter| match letter {
+        's' => Some(FLAG_S),
+        'm' => Some(FLAG_M),
+        'i' => Some(FLAG_I),
+        'x' => Some(FLAG_X),
+        _ => None,
+    };
+    value.parse().ok().or_else(|| value.chars().map(flag).sum())
 }

@@ -44,7 +44,7 @@ fn run(name: &'static str, file: &str) -> bool {
 
 fn judge(lender: &mut Lender, example: &Example) -> Vec<String> {
     if let Some(other) = &example.same {
-        return (0..=255).flat_map(|byte| one_byte(lender, &example.case.rule, other, byte)).collect();
+        return (0..=255).flat_map(|byte| one_byte(lender, &example.case, other, byte)).collect();
     }
     let run = lender.run(&example.case);
     let mut faults = run.faults;
@@ -54,9 +54,12 @@ fn judge(lender: &mut Lender, example: &Example) -> Vec<String> {
 }
 
 /// Both rules have to answer alike on a subject of this byte alone, and as the independent matcher does.
-fn one_byte(lender: &mut Lender, rule: &[u8], other: &[u8], byte: u8) -> Vec<String> {
-    let [one, two] = [rule, other].map(|rule| Case::new(Call::Match, rule, 0, &[byte], 1_000, 1));
+fn one_byte(lender: &mut Lender, case: &Case, other: &[u8], byte: u8) -> Vec<String> {
+    let [one, two] = [&case.rule[..], other].map(|rule| Case::new(Call::Match, rule, case.flags, &[byte], 1_000, 1));
     let mut faults = lender.compare(&one, &one.expected());
+    if one.expected().ending != two.expected().ending {
+        faults.push(format!("on byte {byte:02x} the independent matcher tells them apart"));
+    }
     let endings = [&one, &two].map(|case| lender.run(case).answer.ending);
     if endings[0] != endings[1] {
         faults.push(format!("on byte {byte:02x} {:?}, but {:?} for `{}`", endings[0], endings[1], text::escaped(other)));
