@@ -8,11 +8,14 @@ import sys
 from pathlib import Path
 
 import reference
+from reference import I, X
 from walk_vectors import READINGS, within_references
 
 TARGET = Path(__file__).resolve().parent.parent / "crates" / "call_vectors"
 RULE_AREA, ROW = 16384, 66
 MOST = 100000  # the largest budget
+# Classes of every kind of member, complemented and not.
+CLASSES = [b"[k]", b"[^k]", b"[W-c]", b"[^A-Y]", b"[[:upper:]]", b"[^[:^upper:]b]", b"[[:^lower:]0-9]", b"[\\x00\\x1F-!\\x7e-\\x81\\xFE\\xff]", b"[^\\W_[:digit:]]", b"[^\\d\\D]"]
 
 
 def row_line(row):
@@ -44,17 +47,25 @@ def told(kind, rule, flags, subject, budget, areas):
     return ["%s %d steps" % (head, got[-2])] + [row_line(row) for row in got[-1]]
 
 
+def sound(rule, flags):
+    try:
+        return bool(reference.read(rule, flags))
+    except reference.Refuse:
+        return False
+
+
 def cases():
     """kind, rule, flags, subject, budget, lengths of the areas."""
     for rule, flags, subject in READINGS:
         for kind in (0, 1):
             yield kind, rule, flags, subject, 1000, (RULE_AREA, 16000, 6600)
         yield 1, rule, flags, subject, 1000, (RULE_AREA, 16000, ROW)
-        for budget in (0, 1, 6, 7, 8):
+        for budget in (0, 1, 6, 7, 8) if sound(rule, flags) else (0,):
             yield 0, rule, flags, subject, budget, (RULE_AREA, 16 * budget, ROW)
             yield 1, rule, flags, subject, budget, (RULE_AREA, 16 * budget, 2 * ROW)
     for rule, flags, subject, _, budget in within_references():
         yield budget % 2, rule, flags, subject, budget, (RULE_AREA, 16 * budget, ROW)
+    yield from classes()
     for kind in (0, 1):
         for budget, work in ((MOST, 16 * MOST), (MOST, 16 * MOST - 1), (MOST + 1, 16 * MOST), (20000, 320000), (1000, 15999), (1000, 16000), (1000, 16001)):
             yield kind, b"a*", 0, b"aa", budget, (RULE_AREA, work, ROW)
@@ -62,24 +73,34 @@ def cases():
             yield kind, b"a", 0, b"a", 10, (area, 160, ROW)
         for results in (0, 65, 66, 67, 131, 132, 133):
             yield kind, b"", 0, b"a", 10, (RULE_AREA, 160, results)
-        for flags in (0, 1, 2, 3, 4, 5, 1000):
+        for flags in (*range(18), 31, 32, 1000):
             yield kind, b"^.$", flags, b"\n", 10, (RULE_AREA, 160, 660)
+            yield kind, b"a ^ B", flags, b"A\nb", 10, (RULE_AREA, 160, 660)
         for size in (1000, 1001):
             yield kind, b"a" * size, 0, b"a", 10, (RULE_AREA, 160, ROW)
+            yield kind, b"a" + b" " * (size - 2) + b"*", X, b"a", 10, (RULE_AREA, 160, ROW)
         for size in (0, 1, 65535, 65536):
             yield kind, b"b", 0, b"a" * size, 10, (RULE_AREA, 160, ROW)
             yield kind, b"a*", 0, b"a" * size, 20000, (RULE_AREA, 320000, ROW)
             yield kind, b"\\z", 0, b"a" * size, 10, (RULE_AREA, 160, ROW)
         yield from at_the_largest_budget(kind)
         # two faults: the lower number
-        yield kind, b"a" * 1001, 4, b"a" * 65536, 100001, (0, 0, 0)
-        yield kind, b"(", 4, b"a" * 65536, 100001, (0, 0, 0)
-        yield kind, b"(", 4, b"a", 100001, (0, 0, 0)
+        yield kind, b"a" * 1001, 16, b"a" * 65536, 100001, (0, 0, 0)
+        yield kind, b"(", 16, b"a" * 65536, 100001, (0, 0, 0)
+        yield kind, b"(", 16, b"a", 100001, (0, 0, 0)
         yield kind, b"(", 0, b"a", 100001, (0, 0, 0)
         yield kind, b"(", 0, b"a", 10, (0, 0, 0)
         yield kind, b"(", 0, b"a", 10, (RULE_AREA, 0, 0)
         yield kind, b"(", 0, b"a", 10, (RULE_AREA, 160, 0)
         yield kind, b"(", 0, b"a", 10, (RULE_AREA, 160, ROW)
+
+
+def classes():
+    """Classes with and without `i` on all 256 bytes: a listing has a row for each byte that is in the class."""
+    for rule in CLASSES:
+        for flags in (0, I):
+            for first in range(0, 256, 64):
+                yield 1, rule, flags, bytes(range(first, first + 64)), 10, (RULE_AREA, 160, 64 * ROW)
 
 
 def at_the_largest_budget(kind):

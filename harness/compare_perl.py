@@ -18,7 +18,7 @@ while (<STDIN>) {
     chomp;
     my ($flags, $rule, $subject, $groups) = split /\t/, $_, -1;
     ($rule, $subject) = (pack("H*", $rule), pack("H*", $subject));
-    my $text = "(?^a" . (($flags & 1) ? "s" : "") . (($flags & 2) ? "m" : "") . ":$rule)";
+    my $text = "(?^a" . join("", map { $flags & 1 << $_ ? qw(s m i x)[$_] : () } 0 .. 3) . ":$rule" . ($flags & 8 ? "\n" : "") . ")";
     my $compiled = eval { qr/$text/ };
     if (!defined $compiled) { print "refused\n"; next }
     if ($subject !~ $compiled) { print "none\n"; next }
@@ -44,8 +44,9 @@ def set_cases():
 
 
 def random_case():
-    rule, flags = random_rule(3).encode(), random.randint(0, 3)
-    return rule, flags, "".join(random.choice("aab1\nc") for _ in range(random.randint(0, 6))).encode()
+    flags = random.randint(0, 15)
+    rule = random_rule(3, flags).encode()
+    return rule, flags, "".join(random.choice("aAab1\ncB") for _ in range(random.randint(0, 6))).encode()
 
 
 def with_answer(rule, flags, subject):

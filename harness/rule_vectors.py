@@ -9,6 +9,7 @@ import sys
 from pathlib import Path
 
 import reference
+from reference import I, X
 
 ROOT = Path(__file__).resolve().parent.parent
 TARGET = ROOT / "crates" / "rule_vectors"
@@ -212,6 +213,22 @@ PRECEDENCE = [
 NO_BREAK_SPACES = [b"^(\\d+)\\h(\\d{3}) L$", b"[\\h\xa0\\v\x85]", b"[^\\H\\V]", b"\\h\xa0*", b"[\\h-\xa0]", b"[\x85-\\v]", b"[\x85-\xa0]", b"[\xa0-\x85]", b"[[:horizspace:]]"]
 
 
+# Blanks where `x` skips them and where it does not.
+BLANKS = [
+    b"#\ra", b"a#(", b"#\\", b"#)[*", b"#\\\na", b"(a#)", b"(a#)\n)", b"\t\n\x0b\x0c\r a", b"( ?:a)", b"(#\n?:a)", b"( ?<n>a)", b"( ?=a)", b"(? :a)", b"(?: a)", b"( a )", b"(?:)\n*",
+    b"()\\1 0", b"()\\10", b"\\ \\\n\\#\\\t", b"\\c ", b"\\c\n", b"\\x4 1", b"\\x{4 1}", b"\\x {41}", b"\\o {101}", b"()\\g {1}", b"()\\g{ 1}", b"()\\g- 1", b"()\\g-1 1", b"a \\", b"\\0 1",
+    b"a* ?", b"a{2} ?", b"a *#\n?", b"a* *", b"a*  {2,1}", b"a*\n{2}", b"a{2 }", b"a{ 2}", b"a{1, 2}", b"a{1 ,2}", b"a {2}", b"a #c\n*", b"a *?", b"a ??", b"^ *", b"$ ?", b"( *)", b"( {2})", b"a|#c\n*",
+    b" *", b"#\n{2}", b"\\N {", b"\\b {2}", b"\\b {", b"[ ]", b"[#]", b"[a #]", b"[ ^a]", b"[#", b"[a- b]", b"[b- a]", b"[[:alpha :]]", b"[a] *", b"  a**", b"#(\n)", b" ( ", b"#\n\\1", b"a| ", b"#\n|#", b" \t#a",
+    b"()" * 32 + b" (", b" (" * 25, b" (" * 24 + b" )" * 24, b" " * 1000, b" " * 999 + b"(", b"a" + b"\n" * 998 + b"*", b"#" * 999 + b"\n", b"a " * 500, b" " * 998 + b"\\1",
+]
+
+# Rules whose parts blanks must not stand in: one is put at each of their places.
+WHOLE = [b"(?:a){1,2}?", b"()\\g{-1}*?", b"\\x{41}\\x4a+", b"\\o{7}\\cA\\012", b"[[:^digit:]a-z]??", b"()|\\1", b"^a*$"]
+
+# Folding moves no verdict: the ends of a range are compared as they are written.
+LETTERS = [b"[a-Z]", b"[Z-a]", b"[z-A]", b"[A-a]", b"[\\x41-\\x5a]", b"[a-\\w]", b"[[:UPPER:]]", b"[[:^upper:]]", b"\\Q", b"\\D", b"(A)\\1"]
+
+
 def verdict(rule, flags):
     try:
         return "sound %d" % reference.read(rule, flags)[1]
@@ -240,11 +257,29 @@ def rules():
         yield b"[\\" + bytes([b]) + b"]"
 
 
+def rules_under_x():
+    """Rules with blanks; each byte where it tells whether it is skipped; a blank at each place; faults behind blanks and comments."""
+    yield from BLANKS
+    for b in range(256):
+        yield b"^" + bytes([b]) + b"*"
+    for rule in WHOLE:
+        for at in range(len(rule) + 1):
+            for blank in (b" ", b"#\n"):
+                yield rule[:at] + blank + rule[at:]
+    for first in FAULTS.values():
+        yield b" \t" + first
+        yield from (first + b"#)\n " + second for second in FAULTS.values())
+
+
 def main():
     cases = [(rule, 0) for rule in dict.fromkeys(rules())]
     cases += [(rule, flags) for flags in (1, 2, 3) for rule in (b".", b"^", b"$", b"^a.b$", b"(?:^|$)*", b"^*", b".*")]
+    cases += [(rule, X) for rule in dict.fromkeys(rules_under_x())]
+    cases += [(rule, I) for rule in LETTERS]
+    cases += [(rule, flags) for flags in range(16) for rule in (b"^ *", b". *", b"[A-z]  {2 }", b"(a) \\1#\\2")]
     TARGET.mkdir(parents=True, exist_ok=True)
-    (TARGET / "stdin").write_text("".join("%d%s\n" % (flags, rule.hex()) for rule, flags in cases))
+    # One hex digit for the flags, and the rule's bytes behind it.
+    (TARGET / "stdin").write_text("".join("%x%s\n" % (flags, rule.hex()) for rule, flags in cases))
     (TARGET / "stdout").write_text("".join(verdict(rule, flags) + "\n" for rule, flags in cases))
     print("%d rules, %d bytes" % (len(cases), (TARGET / "stdin").stat().st_size), file=sys.stderr)
 

@@ -9,6 +9,7 @@ import sys
 from pathlib import Path
 
 import reference
+from reference import I, M, S, X
 
 TARGET = Path(__file__).resolve().parent.parent / "crates" / "walk_vectors"
 
@@ -26,23 +27,38 @@ READINGS = [
     (b"^(\\d+)\\h(\\d{3}) L$", 0, b"1\xa0500 L"), (b"[^\\H]|\\s", 0, b"\xa0"), (b"(\\v|[\\H])*", 0, b"\x85\xa0"), (b"[[:blank:]\\s\\w]", 0, b"\xa0\x85"), (b"a$", 2, b"a\x85"),
     (b"(aa)\\1", 0, b"aaaa"), (b"()\\1", 0, b""), (b"(abc)\\1", 0, b"abcxx"), (b"(ab)\\1", 0, b"aba"), (b"(a)\\1", 0, b"ab"), (b"(?:(a+)\\1)+", 0, b"aaaa"),
     (b"(a*)\\1\\1", 0, b"aaaaaaa"), (b"(a|ab)+?\\1$", 0, b"aabab"),
+    (b"(a)\\1", I, b"aA"), (b"(ab)\\1", I, b"abAcAB"), (b"[[:^upper:]]", I, b"a"), (b"[^a]", I, b"A"), (b"[^[:^upper:]]", I, b"a"), (b"\\x41", I, b"a"), (b"\\o{101}", I, b"a"),
+    (b"[\\101]", I, b"a"), (b"[Z-a]", I, b"zb"), (b"[a-Z]", I, b""), (b"[\\x41-\\x5a]", I, b"q"), (b"\xe9", I, b"\xc9"), (b"\\bA\\b|\\W", I, b"a b"), (b"tank (\\d+) L", I, b"TANK 7 l"),
+    (b"(?:a|B)*", I, b"Ab"), (b"[^A-Y]+?\\z", I, b"zZ1"),
+    (b"#\ra", X, b"a"), (b"a#(", X, b"a"), (b"#\\", X, b""), (b"\t\n\x0b\x0c\r a", X, b"a"), (b"a\x85b\xa0", X, b"a\x85b\xa0"), (b"( ?:a)", X, b"a"), (b"(? :a)", X, b"a"), (b"(?: a)", X, b"a"),
+    (b"(a)\\1 0", X, b"aa0"), (b"(a)\\10", X, b"aa0"), (b"\\ \\#", X, b" #"), (b"\\c ", X, b""), (b"\\x4 1", X, b""), (b"()\\g {1}", X, b""), (b"a* ?", X, b""), (b"a{2} ?", X, b""), (b"a{2 }", X, b""),
+    (b"a {2}", X, b"aa"), (b"a #c\n*", X, b"aa"), (b"a *?", X, b"aa"), (b"^ *", X, b""), (b"( *)", X, b""), (b"\\N {", X, b""), (b"[ ][#][a #]", X, b" ##"), (b"a| ", X, b""), (b"  a**", X, b""),
+    (b"^ (?: ( \\d{1,3} , \\d{3} ) | ( \\d+ , \\d+ ) ) \\ L $ # litres", X, b"1,500 L"), (b"( A ) \\1 # twice", I | X, b"aA"), (b"^ A . B $ #\n", S | M | I | X, b"a\nb\n"),
+    (b" a B | [^ a ] ", I | X, b"Ab"),
 ]
 ATOMS = ["a", "b", "c", ".", "^", "$", "\\b", "\\B", "\\A", "\\z", "\\Z", "\\d", "\\w", "[ab]", "[^a]", "[a-c]", "\\1", "\\2", "\\g-1", "\\n", "1", "\\N"]
+FOLDED = ["A", "B", "[A-B]", "[^B]", "[[:upper:]]", "[[:^lower:]]", "[Z-a]", "\\x41", "(A)", "\\1"]  # what `i` makes a difference to
+BLANKS = [" ", "\t", "\n", "\x0b", "#\n", "# (\n"]  # what `x` skips
 REPEATS = ["*", "+", "?", "*?", "+?", "??", "{2}", "{0,2}", "{1,}", "{1,2}?", "{0}"]
 
 
-def random_rule(depth):
+def blank(flags):
+    return random.choice(BLANKS) if flags & X and random.random() < 0.3 else ""
+
+
+def random_rule(depth, flags=0):
+    """A rule; under `i` half of its atoms are such as `i` tells apart, under `x` blanks and comments stand between its parts."""
     branches = []
     for _ in range(random.choice([1, 1, 1, 2, 3])):
-        text = ""
+        text = blank(flags)
         for _ in range(random.randint(0, 3)):
             if depth > 0 and random.random() < 0.4:
-                part = "(" + random.choice(["", "?:"]) + random_rule(depth - 1) + ")"
+                part = "(" + random.choice(["", "?:"]) + random_rule(depth - 1, flags) + ")"
             else:
-                part = random.choice(ATOMS)
+                part = random.choice(FOLDED if flags & I and random.random() < 0.5 else ATOMS)
             if part not in ("^", "$", "\\b", "\\B", "\\A", "\\z", "\\Z") and random.random() < 0.4:
-                part += random.choice(REPEATS)
-            text += part
+                part += blank(flags) + random.choice(REPEATS)
+            text += part + blank(flags)
         branches.append(text)
     return "|".join(branches)
 
@@ -76,22 +92,30 @@ def cases():
             yield rule, flags, subject, 0, budget
     yield from within_references()
     random.seed(1)
+    yield from random_walks(250, 0, "aab1\nc")
+    yield from random_walks(150, I, "aAbB1\nZ")
+    yield from random_walks(100, X, "aab1\nc")
+    yield from random_walks(100, I | X, "aAbB1\nZ")
+
+
+def random_walks(wanted, flags, letters):
+    """So many walks of few ends under these flags, with `s` and `m` or without."""
     made = 0
-    while made < 250:
-        rule, subject = random_rule(3).encode(), "".join(random.choice("aab1\nc") for _ in range(random.randint(0, 6))).encode()
-        flags, start, budget = random.randint(0, 3), random.randint(0, len(subject)), random.choice([50, 500, 2000])
-        lines = told(rule, flags, subject, start, budget)[0]
-        if len(lines) < 25:
+    while made < wanted:
+        rule, subject = random_rule(3, flags).encode(), "".join(random.choice(letters) for _ in range(random.randint(0, 6))).encode()
+        both, start, budget = flags | random.randint(0, 3), random.randint(0, len(subject)), random.choice([50, 500, 2000])
+        if len(told(rule, both, subject, start, budget)[0]) < 25:
             made += 1
-            yield rule, flags, subject, start, budget
+            yield rule, both, subject, start, budget
 
 
 def within_references():
     """Budgets that end before a reference, at each of its bytes and behind it."""
-    for rule, subject, budgets in ((b"(aa)\\1", b"aaaa", range(4, 8)), (b"(a)\\1", b"ab", range(3, 6)), (b"(abc)\\1", b"abcax", range(5, 9)),
-                                   (b"(ab)\\1", b"aba", range(4, 7)), (b"(a*),\\1$", b"aaaaaaaa,aaaaaaaa", range(21, 33))):
+    for rule, flags, subject, budgets in ((b"(aa)\\1", 0, b"aaaa", range(4, 8)), (b"(a)\\1", 0, b"ab", range(3, 6)), (b"(abc)\\1", 0, b"abcax", range(5, 9)),
+                                          (b"(ab)\\1", 0, b"aba", range(4, 7)), (b"(a*),\\1$", 0, b"aaaaaaaa,aaaaaaaa", range(21, 33)),
+                                          (b"(ab)\\1", I, b"aBAb", range(4, 8)), (b"(ab)\\1", I, b"aBAc", range(5, 8))):
         for budget in budgets:
-            yield rule, 0, subject, 0, budget
+            yield rule, flags, subject, 0, budget
 
 
 def main():
