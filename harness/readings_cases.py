@@ -134,8 +134,9 @@ each of them, - standing under what the reading took and ^ under what a group of
 
 RULE-FILE   the rule is what stands before its first line end
 LINES-FILE  lines of up to 65535 bytes, ended by 0A (a 0D before it is a byte of the line)
-FLAGS       0 to 3, or letters: s (a dot in the rule takes every byte), m (^ and $ at each 0A);
-            - for none, as without it
+FLAGS       0 to 15, or letters: s (a dot in the rule takes every byte), m (^ and $ at each 0A),
+            i (A to Z and a to z match each other), x (blanks in the rule, and # up to the line's
+            end, are skipped); - for none, as without it
 BUDGET      the steps that each start in a line may take, 0 to 100000; without it 100000
 
 Readings are counted from every start in the line: (\\d+) has three on 12. For readings of whole
@@ -159,11 +160,17 @@ def arguments(t):
     Path("lines").write_bytes(b"1,500 L\n")
     both = ["rule", "lines"]
     two = TWO + summary(1, ambiguous="1")
-    for words in ([], ["rule"], both + ["0", "5", "x"], both + ["4"], both + ["00004"], both + [""], both + ["i"], both + ["sx"], both + ["--"], both + ["-1"],
+    for words in ([], ["rule"], both + ["0", "5", "x"], both + ["16"], both + ["00016"], both + ["31"], both + [""], both + ["a"], both + ["I"], both + ["sax"], both + ["i x"],
+                  both + ["x8"], both + ["--"], both + ["-1"], both + ["-i"],
                   both + ["0", "100001"], both + ["0", "4294967296"], both + ["0", "99999999999999999999"], both + ["0", ""], both + ["0", "1k"], both + ["0", "-"]):
         t.run("arguments %r" % words, words, "", USAGE)
-    for words in ([], ["-"], ["0"], ["3"], ["s"], ["m"], ["sm"], ["ms"], ["03"], ["-", "100000"], ["-", "1000"], ["-", "0100"]):
+    for words in ([], ["-"], ["0"], ["3"], ["s"], ["m"], ["sm"], ["ms"], ["03"], ["-", "100000"], ["-", "1000"], ["-", "0100"], ["i"], ["4"], ["7"], ["007"], ["mis"],
+                  ["i", "1000"]):
         t.run("arguments %r" % words, both + words, two, "")
+    # Under `x` the rule's blank is none, and a line with one does not fit.
+    without = "line 1: not matched\n              1,500 L\n" + summary(1, unmatched=1)
+    for words in (["x"], ["8"], ["15"], ["0012"], ["ix"], ["smix"], ["xims"], ["x", "100000"]):
+        t.run("arguments %r" % words, both + words, without, "")
     t.run("no rule file", ["none", "lines"], "", "readings: none: No such file or directory\n")
     t.run("no lines file", ["rule", "none"], "", "readings: none: No such file or directory\n")
     t.run("an empty name", ["rule", ""], "", "readings: : No such file or directory\n")
@@ -174,14 +181,16 @@ def arguments(t):
 
 
 def refusals(t):
-    def refused(name, rule, err):
-        t.on("refused rule " + name, rule, b"a\n", out="", err="readings: the rule is refused, " + err)
+    def refused(name, rule, err, flags=0):
+        t.on("refused rule " + name, rule, b"a\n", out="", err="readings: the rule is refused, " + err, flags=flags)
 
     refused("a**", b"a**", "19 at 2: a repeat of a repeat\n  a**\n    ^\n")
     refused("(", b"(", "20 at 0: this bracket is not closed by )\n  (\n  ^\n")
     refused("[z-a]", b"[z-a]", "15 at 1: a range that runs backwards, or with a set of bytes at one of its ends\n  [z-a]\n   ^   \n")
     refused("no group", b"(a)\\2", "13 at 3: a reference to a group that the rule has not\n  (a)\\2\n     ^ \n")
     refused("odd bytes", b"\t\xff)", "21 at 2: a ) that closes nothing\n  ..)\n    ^\n")
+    refused("a blank before the `?`", b" \ta* ?", "19 at 5: a repeat of a repeat\n   .a* ?\n       ^\n", flags=8)
+    refused("a blank in an opening", b"( ?:a)", "17 at 2: a repeat with nothing before it that it could repeat\n  ( ?:a)\n    ^   \n", flags=8)
     refused("1001 bytes", b"a" * 1001, "1 at 0: the rule has more than 1000 bytes\n")
     refused("5000 bytes", b"a" * 5000, "1 at 0: the rule has more than 1000 bytes\n")
     refused("in the second window", b"a" * 70 + b"\\", "10 at 70: a backslash with nothing behind it\n  %s\n  aaaaaa\\\n        ^\n" % ("a" * 64))
@@ -298,6 +307,13 @@ line 1: exhausted at start 0, 2 readings until then
     t.on("budget 0", rb"", b"\n", budget=0, out="line 1: exhausted at start 0, 0 readings until then\n              \n" + summary(1, exhausted="1"))
     t.on("flags", rb"^a$.^b$", b"a\n", flags=3)
     t.on("the letter s", rb"^.$", b"\x0d", flags=1, words=["s"])
+    t.on("the letter i", rb"^(tank|Hall) (\d+) \1$", b"TANK 7 tank\nhall 3 HALL\nHALL 3 tank", words=["i"],
+         out="line 1: 1 reading\nline 2: 1 reading\nline 3: not matched\n              HALL 3 tank\n" + summary(3, once=2, unmatched=1))
+    t.on("the letter x", rb"^ (?: ( \d{1,3},\d{3} ) | ( \d+,\d+ ) ) \  L $  # 1,5 L and 1,500 L (both", b"1,500 L\n", words=["x"],
+         out=TWO + summary(1, ambiguous="1"))
+    t.on("both letters", rb"( A ) \1 | [ B ] + # twice", b"aAbB\n A b \n", flags=12, words=["xi"])
+    for flags in range(16):
+        t.on("flags %d" % flags, rb"^ A .* [^b]$|[[:^upper:]] #", b"aXb\n A  B\n#", flags=flags)
     for length in (63, 64, 65, 127, 128, 129, 192):
         t.on("windows of a line of %d bytes" % length, rb"^(a*)(b*)(a*)(.*)$", b"a" * (length - 1) + b"b", budget=100000)
         t.on("an empty group at %d" % length, rb"^(?:(.*)|.*)()$", b"a" * length)
@@ -325,11 +341,11 @@ def unwritten(t):
 
 def random_rules(t, seed):
     chance = random.Random(seed)
-    atoms = [b"a", b"b", b".", b"\\d", b"(a)", b"(a|b)", b"(?:a|ab)", b"(b?)", b"^", b"$", b"([ab]+)", b"(\\w)"]
+    atoms = [b"a", b"b", b"A", b".", b" ", b"\\d", b"(a)", b"(a|B)", b"(?:a|ab)", b"(b ?)", b"^", b"$", b"([aB]+)", b"(\\w)", b"[^A]", b"[[:upper:]]"]
     for n in range(150):
         rule = b"".join(chance.choice(atoms) + chance.choice([b"", b"", b"", b"*", b"?", b"+?", b"{1,2}"]) for _ in range(chance.randint(1, 4)))
-        lines = [bytes(chance.choice(b"aab1 \t\xe9") for _ in range(chance.choice([0, 1, 2, 3, 5, 8, 70]))) for _ in range(chance.randint(1, 6))]
-        flags, budget = chance.randrange(4), chance.choice([0, 5, 30, 300, 1000, 1001, 5000])
+        lines = [bytes(chance.choice(b"aAabB1 \t\xe9\xc9") for _ in range(chance.choice([0, 1, 2, 3, 5, 8, 70]))) for _ in range(chance.randint(1, 6))]
+        flags, budget = chance.randrange(16), chance.choice([0, 5, 30, 300, 1000, 1001, 5000])
         try:
             reference.read(rule, flags)
         except reference.Refuse:

@@ -12,6 +12,7 @@
 #include "terravisco.h"
 
 enum { BUDGET = 1000, ROWS = 8 };
+enum { FLAG_S = 1, FLAG_M = 2, FLAG_I = 4, FLAG_X = 8 };
 
 /* The library has no heap: it works in these, and needs nothing of what they held before. */
 static uint32_t rule_area[TERRAVISCO_RULE_AREA];
@@ -31,12 +32,12 @@ static void print_row(const uint32_t *row, const char *line)
     printf("\n");
 }
 
-static void list(const char *rule, const char *line)
+static void list(const char *rule, uint32_t flags, const char *line)
 {
     static const char *const endings[] = {"complete", "full", "exhausted", "refused"};
     uint32_t answer[6];
 
-    terravisco_list((const uint8_t *)rule, strlen(rule), 0, (const uint8_t *)line, strlen(line), BUDGET,
+    terravisco_list((const uint8_t *)rule, strlen(rule), flags, (const uint8_t *)line, strlen(line), BUDGET,
                     rule_area, sizeof rule_area / sizeof *rule_area, work_area, sizeof work_area / sizeof *work_area,
                     rows, sizeof rows / sizeof *rows, answer);
 
@@ -53,8 +54,10 @@ static void list(const char *rule, const char *line)
 
 int main(void)
 {
-    list("^(?:(\\d{1,3},\\d{3})|(\\d+,\\d+)) L$", "1,500 L");
-    list("(a?)*", "b");
-    list("a**", "1,500 L");
+    list("^(?:(\\d{1,3},\\d{3})|(\\d+,\\d+)) L$", 0, "1,500 L");
+    list("(a?)*", 0, "b");
+    list("a**", 0, "1,500 L");
+    /* the first rule once more, with spaces between its parts and for either case of the L */
+    list("^ (?: (\\d{1,3},\\d{3}) | (\\d+,\\d+) ) \\  L $", FLAG_I | FLAG_X, "1,500 l");
     return 0;
 }

@@ -39,7 +39,7 @@ pub enum Reason {
 const SENTENCES: [(Reason, &str); 22] = [
     (Reason::RuleTooLong, "the rule is over 1,000 bytes"),
     (Reason::SubjectTooLong, "the subject is over 65,535 bytes"),
-    (Reason::UnknownFlag, "a flag bit above 1 is set"),
+    (Reason::UnknownFlag, "a flag bit above 3 is set"),
     (Reason::BudgetTooGreat, "the budget is over 100,000"),
     (Reason::RuleAreaShort, "the rule area is short"),
     (Reason::WorkAreaShort, "the work area is short"),

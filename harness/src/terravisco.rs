@@ -22,6 +22,10 @@ pub use crate::refusal::{Reason, Refusal};
 pub const FLAG_S: u32 = 1;
 /// `^` and `$` hold at each line's start and end.
 pub const FLAG_M: u32 = 2;
+/// A to Z and a to z match each other.
+pub const FLAG_I: u32 = 4;
+/// Blanks in the rule, and `#` up to the line's end, are skipped.
+pub const FLAG_X: u32 = 8;
 
 const RULE_AREA: usize = 16_384;
 const WORK_PER_STEP: usize = 16;
@@ -103,7 +107,7 @@ impl Matcher {
         }
     }
 
-    /// The first reading of the line. The flags are `FLAG_S` and `FLAG_M`, added up, or 0.
+    /// The first reading of the line. The flags are `FLAG_S`, `FLAG_M`, `FLAG_I` and `FLAG_X`, as many as are wanted added up, or 0.
     pub fn match_line(&mut self, rule: &[u8], flags: u32, line: &[u8]) -> Outcome<'_> {
         let answer = self.call(Call::Match, rule, flags, line);
         let steps = answer.steps;

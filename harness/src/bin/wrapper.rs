@@ -5,7 +5,7 @@ use harness::case::{shown, Case};
 use harness::random::calls;
 use harness::raw::Call;
 use harness::report::Group;
-use harness::terravisco::{Listing, Matcher, Outcome, Reading, Reason, Refusal, FLAG_M, FLAG_S};
+use harness::terravisco::{Listing, Matcher, Outcome, Reading, Reason, Refusal, FLAG_I, FLAG_M, FLAG_S, FLAG_X};
 
 const BUDGET: u32 = 1_000;
 const ROWS: usize = 5;
@@ -14,6 +14,7 @@ fn main() -> std::process::ExitCode {
     let mut group = Group::new("the Rust interface");
     let mut matcher = Matcher::new(BUDGET, ROWS);
     litres(&mut group, &mut matcher);
+    flags(&mut group, &mut matcher);
     let greedy =
         matches!(Matcher::new(u32::MAX, 1).match_line(b"a", 0, b"a"), Outcome::Refused(Refusal { reason: Reason::BudgetTooGreat, place: 0 }));
     group.judge("a budget over its limit", &if greedy { Vec::new() } else { vec!["it is not refused".to_string()] });
@@ -33,7 +34,7 @@ fn random_calls(seed: u64) -> Vec<(String, Vec<String>)> {
     let mut judged = Vec::new();
     for number in 0..2_000 {
         let random = calls::case(seed, number);
-        let flags = random.flags & (FLAG_S | FLAG_M);
+        let flags = random.flags & (FLAG_S | FLAG_M | FLAG_I | FLAG_X);
         let case = Case::new(random.call, &random.rule, flags, &random.subject, BUDGET, ROWS);
         let (ours, expected) = (told(&mut matcher, &case), shown(&case.expected()));
         judged.push((case.shown(), if ours == expected { Vec::new() } else { vec![format!("matcher: {ours}\nexpected: {expected}")] }));
@@ -60,6 +61,19 @@ fn litres(group: &mut Group, matcher: &mut Matcher) {
         _ => false,
     };
     group.judge("`a**` is refused", &if refused { Vec::new() } else { vec!["it is not".to_string()] });
+}
+
+/// Each flag by its name, on a line that matches under it alone; and a flag that there is not.
+fn flags(group: &mut Group, matcher: &mut Matcher) {
+    for (flag, rule, line) in
+        [(FLAG_S, &b"^a.b"[..], &b"a\nb"[..]), (FLAG_M, b"^b", b"a\nb"), (FLAG_I, b"tank", b"TANK"), (FLAG_X, b"t a n k # 7", b"tank")]
+    {
+        let matches = [0, FLAG_S, FLAG_M, FLAG_I, FLAG_X].map(|flags| matches!(matcher.match_line(rule, flags, line), Outcome::Matched { .. }));
+        let expected = [0, FLAG_S, FLAG_M, FLAG_I, FLAG_X].map(|flags| flags == flag);
+        group.judge(&format!("flag {flag}"), &if matches == expected { Vec::new() } else { vec![format!("{matches:?}")] });
+    }
+    let refused = matches!(matcher.match_line(b"a", 16, b"a"), Outcome::Refused(Refusal { reason: Reason::UnknownFlag, place: 0 }));
+    group.judge("an unknown flag", &if refused { Vec::new() } else { vec!["it is not refused".to_string()] });
 }
 
 /// What the matcher says, in the words of `shown`.
