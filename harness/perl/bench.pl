@@ -1,4 +1,4 @@
-# Reads one case a line: rule and subject in hex, with a tab between them. Prints Perl's version, and then for each case the seconds that a
+# Reads one case a line: flags, and rule and subject in hex, with tabs between them. Prints Perl's version, and then for each case the seconds that a
 # match takes by the processor's time: a turn is a loop of a fixed count, the shortest of many turns counts. The rule is compiled before.
 use strict;
 use warnings;
@@ -19,8 +19,12 @@ sub seconds {
 print "$^V\n";
 while (my $line = <STDIN>) {
     chomp $line;
-    my ($rule, $subject) = map { pack("H*", $_) } split /\t/, $line, -1;
-    my $compiled = qr/(?^a:$rule)/;
+    my ($flags, @texts) = split /\t/, $line, -1;
+    my ($rule, $subject) = map { pack("H*", $_) } @texts;
+    my $modifiers = join "", "a", map { $flags & 1 << $_ ? qw(s m i x)[$_] : () } 0 .. 3;
+    # Under `x` the rule may end in a comment.
+    my $text = "(?^$modifiers:$rule" . ($modifiers =~ /x/ ? "\n" : "") . ")";
+    my $compiled = qr/$text/;
     my $count = 1;
     $count *= 2 while seconds($compiled, $subject, $count) < $turn;
     my $best;

@@ -2,6 +2,8 @@
 
 use super::table::grouped;
 use super::Case;
+use crate::independent::{FLAG_I, FLAG_X};
+use crate::random::Rng;
 use crate::raw::Call;
 
 /// The gateway's budget.
@@ -12,9 +14,27 @@ const TEXT: &[u8] = b"the tank is filled with milk and the pump runs until the l
 const WORDS: &str = "alpha|bravo|charlie|delta|echo|foxtrot|golf|hotel|india|juliett|kilo|lima|mike|november|oscar|papa|quebec|romeo|sierra|tango";
 
 pub fn all() -> Vec<Case> {
-    let kinds =
-        [gateway(), short(), long_scans(), skipped_scans(), alternations(), classes(), references(), plain_walks(), catastrophes(), listings()];
+    let kinds = [
+        gateway(),
+        short(),
+        long_scans(),
+        skipped_scans(),
+        alternations(),
+        classes(),
+        class_heavy(),
+        references(),
+        plain_walks(),
+        ignoring_case(),
+        with_spaces(),
+        catastrophes(),
+        listings(),
+    ];
     kinds.into_iter().flatten().collect()
+}
+
+/// The cases whose name has this in it; all for the empty text.
+pub fn named(words: &str) -> Vec<Case> {
+    all().into_iter().filter(|case| case.name.contains(words)).collect()
 }
 
 /// A case; its name tells the budget if that is not the gateway's.
@@ -23,7 +43,12 @@ fn case(call: Call, name: &str, rule: &str, subject: &[u8], budget: u32, room: u
     if budget != GATEWAY {
         name += &format!(", budget {}", grouped(u64::from(budget)));
     }
-    Case { name, call, rule: rule.into(), subject: subject.to_vec(), budget, room, match_limit: None }
+    Case { name, call, rule: rule.into(), flags: 0, subject: subject.to_vec(), budget, room, match_limit: None }
+}
+
+/// The case under a flag, which its name tells.
+fn under(flag: u32, letter: char, case: Case) -> Case {
+    Case { name: format!("{}, under `{letter}`", case.name), flags: flag, ..case }
 }
 
 /// A match, named by its rule.
@@ -107,6 +132,65 @@ fn classes() -> Vec<Case> {
         matching("classes", r"^[A-Za-z_][A-Za-z0-9_]*(?:\.[A-Za-z_][A-Za-z0-9_]*)*\s*[=:]\s*[^;#]+;", setting, GATEWAY),
         matching("classes", "[[:alpha:]]+[[:digit:]]+[[:punct:]]", &text_and(4_000, "tank07;"), GATEWAY),
         matching("classes", "[a-f]*[d-k]*x", &[&b"abcdef".repeat(30)[..], b".x"].concat(), 10_000),
+    ]
+}
+
+/// Bytes of all kinds that classes are made for, in an order without any; behind them an `x`, which none of them is.
+fn mixed(length: usize) -> Vec<u8> {
+    let kinds: [&[u8]; 7] = [b"aeiou", b"bcdfgklmnprstvz", b"AEIOU", b"BCDFGKLMNPRSTVZ", b"0123456789", b".,;:-_+()", b" \t\n\xA0\xC9\xE9"];
+    let rng = &mut Rng::new(4, 0);
+    let mut byte = || {
+        let kind = rng.weighted(&[20, 30, 8, 12, 12, 8, 10]);
+        *rng.pick(kinds[kind])
+    };
+    (1..length).map(|_| byte()).chain([b'x']).collect()
+}
+
+/// Walks that ask of nearly every step whether a byte is in a class: small and large ones, complemented, of sets, of ranges and of single bytes.
+fn class_heavy() -> Vec<Case> {
+    let heavy = |rule| matching("class-heavy", rule, &mixed(16_000), GATEWAY);
+    let sets = r"[[:alpha:]\d_][[:^space:]][^[:^lower:]z][\h.,;-]+x";
+    vec![
+        heavy(r"(?:[aeiou][^aeiou]|[[:upper:]][[:^digit:]]|[\w.-]\W)*x"),
+        heavy(r"[^\d\s][^a-m][^[:punct:]][^A-Z]x"),
+        heavy(sets),
+        heavy(r"(?:[b-df-hj-np-tv-z][aeiou]){2,}[^\w]x"),
+        heavy(r"[\w.-]+[^\x00-\x1F\x80-\xFF]x"),
+        under(FLAG_I, 'i', heavy(r"(?:[aeiou][^aeiou]|[b-dF-Hj-m][[:^lower:]]|[\d.-]\W)*x")),
+        under(FLAG_I, 'i', heavy(sets)),
+        under(FLAG_I, 'i', heavy(r"(?:[^aeiou\d]|[A-C][^X-Z])+?[0-4]x")),
+    ]
+}
+
+/// The same kinds of rules as above, on lines whose letters are of either case.
+fn ignoring_case() -> Vec<Case> {
+    let one = |rule, line: &[u8]| under(FLAG_I, 'i', matching("ignoring case", rule, line, GATEWAY));
+    let words = case(
+        Call::Match,
+        "ignoring case: alternation of twenty words at the end of 4,000 bytes",
+        &twenty_words(),
+        &text_and(4_000, "TanGo"),
+        GATEWAY,
+        1,
+    );
+    vec![
+        one(
+            r"(?:error|alarm|fault) [a-z]\d{3}",
+            b"hall 3 tank 07 pump on valve open since 06:15 by hand ALARM none temp=4.2 level=87% ERR 0 FAULTS 0",
+        ),
+        one("needle", &text_and(LONGEST_SUBJECT, "NeEdLE")),
+        under(FLAG_I, 'i', words),
+        one(r"\b(\w+) \1\b", &text_and(1_000, "pump PUMP")),
+        one("^(a*)b\\1$", &[vec![b'a'; 200], vec![b'B'], vec![b'A'; 200]].concat()),
+    ]
+}
+
+/// Rules of the gateway with spaces and comments in them: what these cost is reading them.
+fn with_spaces() -> Vec<Case> {
+    let one = |rule, line: &str| under(FLAG_X, 'x', matching("with spaces", rule, line.as_bytes(), GATEWAY));
+    vec![
+        one(r"^ (?: ( \d{1,3} , \d{3} ) | ( \d+ , \d+ ) ) \  L $", "1234567,5 L"),
+        one(r"^ (\d{4}) - (\d\d) - (\d\d) \  (\w+) = (\d+) $  # the date, what was measured, and the value", "2024-05-17 tank07=1500"),
     ]
 }
 

@@ -22,19 +22,30 @@ pub fn print_plain(case: &Case, measured: &Measured) {
 }
 
 /// The table of what the programs with two libraries printed, and whether the steps of all cases are equal in both; or what is wrong with the lines.
+/// A case that the library before refuses, because it does not hold its flags, has nothing to be compared with.
 pub fn print_table(before: &str, after: &str) -> Result<bool, String> {
     let (before, after) = (entries(before)?, entries(after)?);
-    if before.len() != after.len() {
-        return Err("the two do not have the same cases".to_string());
+    if before.iter().any(|known| !after.iter().any(|entry| entry.name == known.name)) {
+        return Err("the library after does not have all cases of the one before".to_string());
     }
     println!("| Case | steps | walk / PCRE2 before | after | whole call before | after | after / before |");
     println!("|---|---|---|---|---|---|---|");
     let mut all_equal = true;
-    for (before, after) in before.iter().zip(&after) {
-        print_row(before, after);
-        all_equal &= before.steps == after.steps;
+    for after in &after {
+        match before.iter().find(|before| before.name == after.name) {
+            Some(before) => {
+                print_row(before, after);
+                all_equal &= before.steps == after.steps;
+            }
+            None => print_new(after),
+        }
     }
     Ok(all_equal)
+}
+
+fn print_new(after: &Entry) {
+    let walk = walk_ratio(walk_seconds(after.seconds, after.bare_seconds), after.rival);
+    println!("| {} | {} | – | {walk} | refused | {} | – |", after.name, grouped(after.steps), time(after.seconds));
 }
 
 /// PCRE2 is the same beside both, so its shortest time beside either counts for both.

@@ -80,7 +80,7 @@ impl Series {
 }
 
 fn match_of(rule: &str, subject: Vec<u8>, budget: u32) -> Case {
-    Case { name: String::new(), call: Call::Match, rule: rule.into(), subject, budget, room: 1, match_limit: None }
+    Case { name: String::new(), call: Call::Match, rule: rule.into(), flags: 0, subject, budget, room: 1, match_limit: None }
 }
 
 fn list_of(rule: &str, subject: Vec<u8>, budget: u32, room: usize) -> Case {

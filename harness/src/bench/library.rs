@@ -6,6 +6,10 @@ use super::{Case, Reply};
 use crate::independent::{ROW_LENGTH, RULE_AREA, WORK_PER_STEP};
 use crate::raw::{self, Areas, Call, Question};
 
+/// An answer's kind when the call is refused, and the reason that is asked for here.
+const REFUSED: u32 = 3;
+const UNKNOWN_FLAG: u32 = 3;
+
 pub struct Library<'c> {
     case: &'c Case,
     rule_area: Vec<u32>,
@@ -28,11 +32,17 @@ impl<'c> Library<'c> {
     /// The case's call, on this subject. It is the same areas for all subjects: what clearing them takes hangs on where they lie, and the time on
     /// the empty line is taken off that of the walk.
     pub fn call(&mut self, subject: &[u8]) {
-        let question = Question { rule: &self.case.rule, flags: 0, subject, budget: self.case.budget };
+        let question = Question { rule: &self.case.rule, flags: self.case.flags, subject, budget: self.case.budget };
         let areas = Areas { rule: &mut self.rule_area, work: &mut self.work_area, result: &mut self.result };
         raw::call(self.case.call, black_box(question), areas, &mut self.answer);
         black_box(&self.answer);
         black_box(&self.result);
+    }
+
+    /// Does the library hold the case's flags? One from before a flag came refuses it.
+    pub fn holds_flags(&mut self) -> bool {
+        self.call(b"");
+        self.answer[..2] != [REFUSED, UNKNOWN_FLAG]
     }
 
     /// What a call answers, and after how many steps.
@@ -41,7 +51,7 @@ impl<'c> Library<'c> {
         let [kind, detail, place, low, high, rows] = self.answer;
         let steps = u64::from(high) << 32 | u64::from(low);
         let rows = match (self.case.call, kind) {
-            (_, 3) => panic!("a case of the benchmark is refused: {detail} at {place}"),
+            (_, REFUSED) => panic!("a case of the benchmark is refused: {detail} at {place}"),
             (Call::List, 1) => panic!("a case of the benchmark has too few rows"),
             (_, 2) => return (Reply::GaveUp, steps),
             (Call::Match, 0) => 1,

@@ -19,6 +19,7 @@ pub struct Case {
     pub name: String,
     pub call: Call,
     pub rule: Vec<u8>,
+    pub flags: u32,
     pub subject: Vec<u8>,
     pub budget: u32,
     /// Rows in the result area.

@@ -6,8 +6,8 @@ use std::ptr::null_mut;
 
 use crate::bench::collector::{collect, Collector};
 use crate::bench::{Case, Reply};
-use crate::pcre2::row;
 use crate::pcre2::sys::*;
+use crate::pcre2::{closing, options_of, row};
 use crate::raw::Call;
 
 const MATCH_LIMIT_REACHED: c_int = -47;
@@ -39,8 +39,9 @@ impl<'c> Rival<'c> {
     pub fn new(case: &'c Case, way: Way) -> Rival<'c> {
         let listing = case.call == Call::List;
         let shortcuts = !listing && way != Way::NoShortcuts;
-        let options = if shortcuts { 0 } else { NO_AUTO_POSSESS | NO_DOTSTAR_ANCHOR | NO_START_OPTIMIZE };
-        let text = if listing { [b"(?:", &case.rule[..], b")(?C1)"].concat() } else { case.rule.clone() };
+        let all_choices = if shortcuts { 0 } else { NO_AUTO_POSSESS | NO_DOTSTAR_ANCHOR | NO_START_OPTIMIZE };
+        let options = all_choices | options_of(case.flags);
+        let text = if listing { [b"(?:", &case.rule[..], closing(case.flags), b"(?C1)"].concat() } else { case.rule.clone() };
         let kept = (way == Way::Once).then(|| Compiled::new(&text, options));
         // Safety: the context is freed by `drop`.
         let context = unsafe { pcre2_match_context_create_8(null_mut()) };

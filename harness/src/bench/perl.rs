@@ -16,7 +16,7 @@ pub struct Perl {
 /// Asks Perl all cases that are matches, or tells what went wrong.
 pub fn run(cases: &[Case]) -> Result<Perl, String> {
     let matches: Vec<&Case> = cases.iter().filter(|case| case.call == Call::Match).collect();
-    let asked = matches.iter().map(|case| format!("{}\t{}\n", text::hex(&case.rule), text::hex(&case.subject))).collect();
+    let asked = matches.iter().map(|case| format!("{}\t{}\t{}\n", case.flags, text::hex(&case.rule), text::hex(&case.subject))).collect();
     let output = perl::run_script(SCRIPT, asked).map_err(|error| format!("perl does not run: {error}"))?;
     let mut lines = output.lines();
     let version = format!("Perl {}", lines.next().unwrap_or("of no version"));
@@ -28,12 +28,15 @@ pub fn run(cases: &[Case]) -> Result<Perl, String> {
 }
 
 fn replies(cases: &[&Case]) -> Result<Vec<Reply>, String> {
-    let questions: Vec<Question> =
-        cases.iter().map(|case| Question { rule: &case.rule, flags: 0, charset: Charset::Ascii, subject: &case.subject, groups: 32 }).collect();
+    let questions: Vec<Question> = cases.iter().map(|case| question(case)).collect();
     let reply = |answer| match answer {
         Answer::Matched(row) => Reply::Rows(row.to_vec()),
         Answer::NotMatched => Reply::Rows(Vec::new()),
         Answer::Failed | Answer::Slow => Reply::GaveUp,
     };
     Ok(perl::answers(&questions)?.into_iter().map(reply).collect())
+}
+
+fn question(case: &Case) -> Question<'_> {
+    Question { rule: &case.rule, flags: case.flags, charset: Charset::Ascii, subject: &case.subject, groups: 32 }
 }

@@ -1,11 +1,13 @@
-//! Times the library beside PCRE2's interpreter and Perl, and prints a table for docs/BENCHMARKS.md. `--growth` prints how the library's times grow
-//! with the size. For two libraries there are as many programs: `--count` prints how many cases there are, `--plain NUMBER` plain numbers of one of
-//! them, and `--compare BEFORE AFTER` a table of two files of such lines.
+//! Times the library beside PCRE2's interpreter and Perl, and prints a table for docs/BENCHMARKS.md; `--only WORDS` of the cases that have the words in
+//! their name. `--growth` prints how the library's times grow with the size. For two libraries there are as many programs: `--numbers WORDS`
+//! prints the numbers of the cases of that name, `--plain NUMBER` plain numbers of one of them (nothing where the library does not hold its flags),
+//! and `--compare BEFORE AFTER` a table of two files of such lines.
 
 use std::fs::read_to_string;
 use std::process::ExitCode;
 
 use harness::bench::contest::{measure, Measured, Rate};
+use harness::bench::library::Library;
 use harness::bench::perl::{self, Perl};
 use harness::bench::{cases, compare, growth, pcre2, table, Case, Reply};
 
@@ -15,24 +17,33 @@ const PASSES: usize = 4;
 fn main() -> ExitCode {
     let given: Vec<String> = std::env::args().skip(1).collect();
     match given.iter().map(String::as_str).collect::<Vec<_>>()[..] {
-        [] => print_table(),
-        ["--count"] => println!("{}", cases::all().len()),
+        [] => print_table(""),
+        ["--only", words] => print_table(words),
+        ["--numbers", words] => print_numbers(words),
         ["--plain", number] => {
             let case = &cases::all()[number.parse::<usize>().expect("a case has a number")];
-            compare::print_plain(case, &measure(case));
+            if Library::new(case).holds_flags() {
+                compare::print_plain(case, &measure(case));
+            }
         }
         ["--growth"] => growth::print(),
         ["--compare", before, after] => return print_comparison(before, after),
         _ => {
-            eprintln!("usage: [--growth | --count | --plain NUMBER | --compare BEFORE AFTER]");
+            eprintln!("usage: [--only WORDS | --growth | --numbers WORDS | --plain NUMBER | --compare BEFORE AFTER]");
             return ExitCode::from(2);
         }
     }
     ExitCode::SUCCESS
 }
 
-fn print_table() {
-    let cases = cases::all();
+fn print_numbers(words: &str) {
+    for (number, _) in cases::all().iter().enumerate().filter(|(_, case)| case.name.contains(words)) {
+        println!("{number}");
+    }
+}
+
+fn print_table(words: &str) {
+    let cases = cases::named(words);
     let (mut all, perl) = pass(&cases);
     for _ in 1..PASSES {
         for (measured, other) in all.iter_mut().zip(pass(&cases).0) {
