@@ -43,8 +43,8 @@ pub struct Compared<'a> {
 }
 
 impl Compared<'_> {
-    /// The class of what Perl does here beyond document 02, if it has the marks of one. It is left out by `/d` in place of `/a`, and by
-    /// `plain_rule`: a difference that stays when Perl is asked so is another one.
+    /// The class of what Perl may do here beyond document 02, if it has the marks of one. It is left out by `/d` in place of `/a`, and by
+    /// `plain_rule`.
     pub fn perl_excess(&self) -> Option<Class> {
         if self.case.tree.folds && has_folded_above(&self.case.subject) {
             Some(Class::FoldedAbove)

@@ -15,6 +15,8 @@ use harness::text;
 /// Rules that need more steps than this at a start, or have more readings than rows, are left out.
 const BUDGET: u32 = 5_000;
 const ROWS: usize = 500;
+/// Random classes that are tried on every byte.
+const CLASSES: u64 = 100;
 
 fn main() -> std::process::ExitCode {
     let (arguments, is_independent) = arguments_and_switch("--independent", 20_000, 1..2);
@@ -28,6 +30,7 @@ fn main() -> std::process::ExitCode {
     shared::set_cases().iter().for_each(|case| tester.judge(case));
     for seed in arguments.seeds.clone() {
         (0..arguments.cases).filter_map(|number| shared::case(seed, number)).for_each(|case| tester.judge(&case));
+        (0..CLASSES).flat_map(|number| shared::class_cases(seed, number)).for_each(|case| tester.judge(&case));
     }
     let remark = format!("{} readings; {}; {} left out as too long", tester.rows, tester.aside.told(), tester.left_out);
     tester.group.end(&remark)
@@ -46,23 +49,24 @@ impl Tester {
         let (Some(matched), Some(listed)) = (self.ours(Call::Match, case, 1), self.ours(Call::List, case, ROWS)) else { return };
         let ours = Results { matched, listed };
         let compared = Compared { case };
-        let mut results = theirs(case, &case.rule);
-        if let (Some(class), true) = (compared.pcre2_excess(), differ(&results, &ours)) {
-            // Asked again without what PCRE2 does beyond document 02: a difference that stays is another one.
-            results = theirs(case, &compared.plain_rule());
-            if !differ(&results, &ours) {
-                return self.aside.count(class);
-            }
-        }
-        match (results, compared.pcre2_class()) {
+        // The library is held to what PCRE2 answers without what it does beyond document 02.
+        match (theirs(case, &compared.plain_rule()), compared.pcre2_class()) {
             (Err(error), _) => self.refused(case, &compared, error),
             (Ok(None), _) => self.left_out += 1,
-            (Ok(Some(results)), _) if results == ours => {
+            (Ok(Some(results)), _) if results == ours => self.agreed(case, &compared, &ours),
+            (_, Some(class)) => self.aside.count(class),
+            (Ok(Some(results)), None) => self.group.fail(&told(case, &ours.listed, &results.listed)),
+        }
+    }
+
+    /// Where PCRE2 does more, it is asked for that too, and what differs is set aside.
+    fn agreed(&mut self, case: &Shared, compared: &Compared, ours: &Results) {
+        match compared.pcre2_excess() {
+            Some(class) if theirs(case, &case.rule).ok().flatten().as_ref() != Some(ours) => self.aside.count(class),
+            _ => {
                 self.rows += ours.listed.len();
                 self.group.pass();
             }
-            (_, Some(class)) => self.aside.count(class),
-            (Ok(Some(results)), None) => self.group.fail(&told(case, &ours.listed, &results.listed)),
         }
     }
 
@@ -107,11 +111,6 @@ fn theirs(case: &Shared, rule: &[u8]) -> Result<Option<Results>, i32> {
         Found::Rows(matched) => Some(Results { matched, listed }),
         Found::Limit => None,
     })
-}
-
-/// Are these other results than ours, or a refusal? Where PCRE2 gave up it cannot be told.
-fn differ(theirs: &Result<Option<Results>, i32>, ours: &Results) -> bool {
-    theirs.as_ref().map_or(true, |theirs| theirs.as_ref().is_some_and(|theirs| theirs != ours))
 }
 
 fn told(case: &Shared, ours: &[Row], theirs: &[Row]) -> String {

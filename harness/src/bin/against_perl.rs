@@ -54,26 +54,32 @@ struct Tester {
 impl Tester {
     fn batch(&mut self, cases: Vec<Shared>) {
         let ours: Vec<(Shared, Option<Row>)> = cases.into_iter().filter_map(|case| self.ours(case)).collect();
-        let questions: Vec<Question> = ours.iter().map(|(case, _)| question(case, &case.rule, Charset::Ascii)).collect();
-        let mut again = Vec::new();
-        for ((case, row), answer) in ours.iter().zip(self.answers(&questions)) {
+        let (mut usual, mut exceeded) = (Vec::new(), Vec::new());
+        for (case, row) in &ours {
             match (Compared { case }).perl_excess() {
-                Some(class) if !is_same(row.as_ref(), &answer) => again.push((case, row.as_ref(), class)),
-                _ => self.judge(case, row.as_ref(), &answer),
+                None => usual.push((case, row.as_ref())),
+                Some(class) => exceeded.push((case, row.as_ref(), class)),
             }
         }
-        self.without_excess(&again);
+        let questions: Vec<Question> = usual.iter().map(|&(case, _)| question(case, &case.rule, Charset::Ascii)).collect();
+        for (&(case, row), answer) in usual.iter().zip(self.answers(&questions)) {
+            self.judge(case, row, &answer);
+        }
+        self.without_excess(&exceeded);
     }
 
-    /// Asks again what differed where Perl does more than document 02 says, this time without that.
-    fn without_excess(&mut self, differing: &[(&Shared, Option<&Row>, Class)]) {
-        let rules: Vec<Vec<u8>> = differing.iter().map(|&(case, ..)| Compared { case }.plain_rule()).collect();
-        let questions: Vec<Question> = differing.iter().zip(&rules).map(|(&(case, ..), rule)| question(case, rule, Charset::Native)).collect();
-        for (&(case, row, class), answer) in differing.iter().zip(self.answers(&questions)) {
-            if is_same(row, &answer) {
-                self.set_aside(case, row, &answer, class);
+    /// Where Perl does more than document 02 says, the library is held to what it answers without that. What it answers with it is asked for too,
+    /// and set aside where it differs.
+    fn without_excess(&mut self, cases: &[(&Shared, Option<&Row>, Class)]) {
+        let rules: Vec<Vec<u8>> = cases.iter().map(|&(case, ..)| Compared { case }.plain_rule()).collect();
+        let without: Vec<Question> = cases.iter().zip(&rules).map(|(&(case, ..), rule)| question(case, rule, Charset::Native)).collect();
+        let with: Vec<Question> = cases.iter().map(|&(case, ..)| question(case, &case.rule, Charset::Ascii)).collect();
+        let answers = self.answers(&without).into_iter().zip(self.answers(&with));
+        for (&(case, row, class), (without, with)) in cases.iter().zip(answers) {
+            if is_same(row, &without) && !is_same(row, &with) {
+                self.set_aside(case, row, &with, class);
             } else {
-                self.judge(case, row, &answer);
+                self.judge(case, row, &without);
             }
         }
     }

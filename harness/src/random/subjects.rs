@@ -51,7 +51,7 @@ fn any(rng: &mut Rng, alphabet: &[u8]) -> Vec<u8> {
 
 /// A line grown along the rule: the bytes of some branches and rounds. Places are not looked at, so it need not fit.
 pub fn fitting(rng: &mut Rng, rule: &Rule) -> Vec<u8> {
-    let mut line = Line { text: Vec::new(), groups: vec![Vec::new(); rule.groups + 1] };
+    let mut line = Line { text: Vec::new(), groups: vec![Vec::new(); rule.groups + 1], folds: rule.folds };
     line.alternation(rng, &rule.whole);
     line.text.truncate(LONGEST);
     line.text
@@ -60,6 +60,8 @@ pub fn fitting(rng: &mut Rng, rule: &Rule) -> Vec<u8> {
 struct Line {
     text: Vec<u8>,
     groups: Vec<Vec<u8>>,
+    /// What a reference takes may have letters of the other case.
+    folds: bool,
 }
 
 impl Line {
@@ -81,7 +83,13 @@ impl Line {
                 }
             }
             Part::Place(_) => {}
-            Part::Reference(group) => self.text.extend_from_slice(&self.groups[*group]),
+            Part::Reference(group) => {
+                let mut same = self.groups[*group].clone();
+                if self.folds {
+                    mix_case(rng, &mut same);
+                }
+                self.text.extend(same);
+            }
             Part::Group(group) => {
                 let from = self.text.len();
                 self.alternation(rng, &group.inside);
