@@ -50,6 +50,12 @@ pub fn rule(rng: &mut Rng, style: Style) -> Vec<u8> {
     if maker.rule.is_empty() && maker.rng.percent(90) {
         maker.item(style.depth);
     }
+    // Behind all groups a reference mostly finds its group set.
+    if maker.groups > 0 && maker.rng.percent(25) {
+        let group = maker.rng.between(1, maker.groups);
+        maker.blank();
+        maker.write(&format!("\\g{{{group}}}"));
+    }
     // What a comment at the rule's end holds is not looked at, and it needs no 0A.
     if style.blanks && maker.rng.percent(15) {
         let comment = *maker.rng.pick(&["#", "# a", "#(", "#\\", "#[a", "#\r*"]);
