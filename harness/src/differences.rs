@@ -16,7 +16,7 @@ pub enum Class {
     GivenUp = 2,
     /// 4: Perl panics on a class with no byte under a repeat, or leaves it out.
     EmptyClass = 4,
-    /// 5: `$` directly before a byte 00.
+    /// 5: `$` before a byte 00, directly or with what `x` skips between them.
     DollarBeforeZero = 5,
     /// 8: PCRE2 unrolls a bounded repeat and does not stop after an empty round.
     Unrolled = 8,
