@@ -12,9 +12,8 @@ use harness::raw::Call;
 use harness::report::Group;
 use harness::text;
 
-/// Rules that need more steps than this at a start, or have more readings than rows, are left out.
-const BUDGET: u32 = 5_000;
-const ROWS: usize = 500;
+/// Cases with more readings than one in so many steps are left out.
+const STEPS_PER_ROW: u32 = 10;
 /// Random classes that are tried on every byte.
 const CLASSES: u64 = 100;
 
@@ -46,7 +45,8 @@ struct Tester {
 
 impl Tester {
     fn judge(&mut self, case: &Shared) {
-        let (Some(matched), Some(listed)) = (self.ours(Call::Match, case, 1), self.ours(Call::List, case, ROWS)) else { return };
+        let rows = (case.budget() / STEPS_PER_ROW) as usize;
+        let (Some(matched), Some(listed)) = (self.ours(Call::Match, case, 1), self.ours(Call::List, case, rows)) else { return };
         let ours = Results { matched, listed };
         let compared = Compared { case };
         // The library is held to what PCRE2 answers without what it does beyond document 02.
@@ -79,7 +79,7 @@ impl Tester {
 
     /// The library's rows, or none where the case is too long.
     fn ours(&mut self, call: Call, case: &Shared, rows: usize) -> Option<Vec<Row>> {
-        let call = Case::new(call, &case.rule, case.flags, &case.subject, BUDGET, rows);
+        let call = Case::new(call, &case.rule, case.flags, &case.subject, case.budget(), rows);
         let answer = self.contender.answer(&call);
         match answer.ending {
             Ending::Matched | Ending::NotMatched | Ending::Complete => return Some(answer.rows),

@@ -14,8 +14,6 @@ use harness::raw::Call;
 use harness::report::Group;
 use harness::text;
 
-/// Rules that need more steps than this at a start are left out: Perl could take very long on them.
-const BUDGET: u32 = 5_000;
 /// Random classes that are tried on every byte.
 const CLASSES: u64 = 100;
 /// Questions for one `perl` process.
@@ -94,7 +92,7 @@ impl Tester {
 
     /// The library's row, or no row where it does not match. Cases that are too long are left out.
     fn ours(&mut self, case: Shared) -> Option<(Shared, Option<Row>)> {
-        let call = Case::new(Call::Match, &case.rule, case.flags, &case.subject, BUDGET, 1);
+        let call = Case::new(Call::Match, &case.rule, case.flags, &case.subject, case.budget(), 1);
         let answer = self.contender.answer(&call);
         match answer.ending {
             Ending::Matched | Ending::NotMatched => return Some((case, answer.rows.first().copied())),

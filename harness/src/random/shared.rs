@@ -10,6 +10,18 @@ pub struct Shared {
     pub subject: Vec<u8>,
 }
 
+impl Shared {
+    /// The steps that a start may take; a case that needs more is left out, since another matcher could take very long on it. On a single byte hardly
+    /// any are needed, and small areas are quickly lent.
+    pub fn budget(&self) -> u32 {
+        if self.subject.len() == 1 {
+            200
+        } else {
+            5_000
+        }
+    }
+}
+
 /// The case of this seed and number, or none where the rule made is refused.
 pub fn case(seed: u64, number: u64) -> Option<Shared> {
     let rng = &mut Rng::new(seed, number);
