@@ -15,7 +15,7 @@ use index::write_row;
 use machine::Stop;
 use machine::start;
 use openings::find_opening;
-use openings::pass_starts;
+use openings::next_start;
 use syntax::Refusal;
 use walker::run_to_end;
 ghost use mathlib.Core.Path.{_≡_};
@@ -63,7 +63,7 @@ fn search(
                 return Outcome::Matched(steps + used as u64);
             }
             Stop::Nothing(used) => {
-                let on = pass_starts(&set, any, cost, subject, begin + 1, steps + used as u64);
+                let on = next_start(&set, any, cost, subject, begin + 1, steps + used as u64);
                 begin = on.start;
                 steps = on.steps;
             }

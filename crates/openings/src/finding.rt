@@ -111,14 +111,14 @@ fn turn(code: &[u32], search: Search) -> Search
     }
 }
 
-// No set: every start is to be walked.
+// No set: every start is to be walked. All bytes are in it, so that a look at a start's byte settles that too.
 fn nothing_known() -> Opening
     ensures { λ o. ⌜ o .cost ≡ 0 ⌝ }
 {
     Opening {
         cost: 0,
         any: true,
-        set: [0; 8],
+        set: [4294967295; 8],
     }
 }
 

@@ -14,6 +14,7 @@ mod nodes;
 mod skipping;
 
 pub use finding::find_opening;
+pub use skipping::next_start;
 pub use skipping::pass_starts;
 
 // The bytes that a start from 1 on can begin with, and the steps of one that cannot. No steps: nothing is known. Not any: no byte can begin,

@@ -104,3 +104,29 @@ pub fn pass_starts(
         steps: steps + passed * (cost as u64),
     }
 }
+
+// The next start: `begin` itself if its byte is in the set, else what `pass_starts` finds. Where nearly every byte can begin, a start costs one look at
+// its byte and no call: this function is small enough that a caller's loop takes it in.
+pub fn next_start(
+    set: &[u32; 8],
+    any: bool,
+    cost: u32,
+    subject: &[u8],
+    begin: u32,
+    steps: u64,
+) -> Onward
+    requires { ⌜ (begin ≤ length (now subject) + 1) × (length (now subject) ≤ subjectLimit) × (steps < 2 ^ 63) ⌝ }
+    ensures { λ o. ⌜ Passed (now (set .entry)) any (now (subject .entry)) cost begin (o .start) ⌝ }
+    ensures { λ o. ⌜ o .steps ≡ steps + (o .start - begin) * cost ⌝ }
+{
+    let at = begin as usize;
+    if at < subject.len() {
+        if charset::contains(set, 0, subject[at]) {
+            return Onward {
+                start: begin,
+                steps: steps,
+            };
+        }
+    }
+    pass_starts(set, any, cost, subject, begin, steps)
+}

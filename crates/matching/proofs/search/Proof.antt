@@ -89,29 +89,29 @@ returns c =
 enum-known-used-2 : tie.Need-enum-known-used-2 Inv-loop μ-loop
 enum-known-used-2 c = search needs
 
-add-pass-starts : tie.Need-add-pass-starts Inv-loop μ-loop
+add-next-start : tie.Need-add-next-start Inv-loop μ-loop
 unfolding subjectLimit
-add-pass-starts c = omega (arith, c .before .before .before .before .before .before .before .before .before .before .before .before .loop-test .taken, c .before .before .before .before .before .before .before .before .before .before .before .before .before .before .before .before .before .before .before .before .before .pre .0 .0 .subject-fits)
+add-next-start c = omega (arith, c .before .before .before .before .before .before .before .before .before .before .before .before .loop-test .taken, c .before .before .before .before .before .before .before .before .before .before .before .before .before .before .before .before .before .before .before .before .before .pre .0 .0 .subject-fits)
 
-cast-pass-starts : tie.Need-cast-pass-starts Inv-loop μ-loop
-cast-pass-starts c = search needs
+cast-next-start : tie.Need-cast-next-start Inv-loop μ-loop
+cast-next-start c = search needs
 
-add-pass-starts-2 : tie.Need-add-pass-starts-2 Inv-loop μ-loop
+add-next-start-2 : tie.Need-add-next-start-2 Inv-loop μ-loop
 unfolding subjectLimit
-add-pass-starts-2 c =
+add-next-start-2 c =
     let l = c .before .before .before .before .before .before .before .before .before .before .before .before .before .loop in
     let s = c .before .before .before .before .before .before .before .before .before .before .before .before .before .before .before .before .before .before .before .before .before in
     omega (arith, l .inv .small, c .before .before .before .before .before .before .before .before .before .before .before .before .loop-test .taken, s .pre .0 .0 .subject-fits)
 
-pass-starts-requires : tie.Need-pass-starts-requires Inv-loop μ-loop
+next-start-requires : tie.Need-next-start-requires Inv-loop μ-loop
 unfolding subjectLimit
-pass-starts-requires c κs =
+next-start-requires c κs =
     let l = c .before .before .before .before .before .before .before .before .before .before .before .before .before .loop in
     let s = c .before .before .before .before .before .before .before .before .before .before .before .before .before .before .before .before .before .before .before .before .before in
     (omega (arith, c .before .before .before .before .before .before .before .before .before .before .before .before .loop-test .taken), s .pre .0 .0 .subject-fits, omega (arith, l .inv .small, c .before .before .before .before .before .before .before .before .before .before .before .before .loop-test .taken, s .pre .0 .0 .subject-fits))
 
 loop-less : tie.Need-loop-less Inv-loop μ-loop
-loop-less c = omega (arith, c .pass-starts .ensures .0 .on, c .before .before .before .before .before .before .before .before .before .before .before .before .before .loop-test .taken)
+loop-less c = omega (arith, c .next-start .ensures .0 .on, c .before .before .before .before .before .before .before .before .before .before .before .before .before .loop-test .taken)
 
 loop-again : tie.Need-loop-again Inv-loop μ-loop
 unfolding workAreaNeed
@@ -123,7 +123,7 @@ loop-again c =
     let u = c .before .before .before .before .before .before .before .before .before .run-to-end in
     let t = c .before .before .before .before .before .before .before .before .before .before .before .before .start in
     let g = seeking-on (l .inv) (λ i. omega (arith, b .given i)) (s .pre .1) room (c .before .before .before .before .before .before .before .before .before .before .before .before .before .loop-test .taken) (t .result) (t .ensures) (u .ensures) _ (c .before .before .before .used2 .given .1) (omega arith) (u .kept .1 .1 .1 .0) (s .pre .0 .0 .tree) (s .pre .0 .0 .stands) in
-    rw (c .pass-starts .ensures .1) (seeking-from (λ i. omega (arith, b .given i)) (s .pre .1) room (omega arith) (c .before .before .before .before .before .before .before .before .before .before .before .before .before .before .before .before .find-opening .result) (c .before .before .before .before .before .before .before .before .before .before .before .before .before .before .before .before .find-opening .ensures) _ _ _ (omega arith) (c .pass-starts .ensures .0) g)
+    rw (c .next-start .ensures .1) (seeking-from (λ i. omega (arith, b .given i)) (s .pre .1) room (omega arith) (c .before .before .before .before .before .before .before .before .before .before .before .before .before .before .before .before .find-opening .result) (c .before .before .before .before .before .before .before .before .before .before .before .before .before .before .before .before .find-opening .ensures) _ _ _ (omega arith) (c .next-start .ensures .0) g)
 
 enum-told : tie.Need-enum-told Inv-loop μ-loop
 enum-told c = search needs
@@ -187,10 +187,10 @@ search-spec =
     same-length-3
     returns
     enum-known-used-2
-    add-pass-starts
-    cast-pass-starts
-    add-pass-starts-2
-    pass-starts-requires
+    add-next-start
+    cast-next-start
+    add-next-start-2
+    next-start-requires
     loop-less
     loop-again
     enum-told
