@@ -77,6 +77,10 @@ frame-undo (suc zero) a b c x y z = absurd (y refl)
 frame-undo (suc (suc zero)) a b c x y z = absurd (z refl)
 frame-undo (suc (suc (suc n))) a b c x y z = refl
 
+-- the only kind that is left
+pub only-stretch : (kind : ℕ) → kind < 3 → (kind ≡ 0 → ⊥) → (kind ≡ 1 → ⊥) → kind ≡ 2
+only-stretch kind h x y = omega arith
+
 module _ (p : Program) (w : List ℕ) (h : ℕ) (some : 0 < h) where
   abbrev top : ℕ → ℕ
   top i = getD w (4 * (h - 1) + i) 0

@@ -76,6 +76,13 @@ abbrev pub StackFits : Program → Stack → Type 0
 StackFits p [] = Unit {0}
 StackFits p (f ∷ fs) = FrameFits p f × StackFits p fs
 
+-- undoing changes of registers on the way down to a lower height: falling back leads where it did, and the frame on top there is no undo
+pub record Undone (work : List ℕ) (height : ℕ) (regs : List ℕ) (low : ℕ) (undone : List ℕ) : Type 0 where
+  pub lower : low ≤ height
+  pub fits : (p : Program) → StackFits p (stackOf work height) → StackFits p (stackOf work low)
+  pub falls : (p : Program) → fall p undone (stackOf work low) ≡ fall p regs (stackOf work height)
+  pub top : 0 < low → getD work (4 * (low - 1)) 0 < 3
+
 abbrev pub frames : Now → Stack
 frames (idle regs) = []
 frames (busy c) = c .stack

@@ -8,7 +8,7 @@ ghost use Rattle.syntax.specs.Limits.{registers};
 ghost use Rattle.machine.specs.Code.{repeatAt};
 ghost use Rattle.machine.specs.Moves.{set2, saved, go, begin, below, fall};
 ghost use Rattle.machine.specs.Words.{frameOf, stackOf, nowOf};
-ghost use Rattle.machine.specs.Ready.{StackFits};
+ghost use Rattle.machine.specs.Ready.{StackFits, Undone};
 
 // The kinds of frames.
 pub const EXPLORE: u32 = 0;
@@ -107,42 +107,60 @@ pub fn go_down(work: &mut [u32], pc: u32, high: u32, low: u32, height: usize) ->
     }
 }
 
+// Undoes changes of registers until the frame on top is of another kind, or none is left: the height then. It is a loop of its own, with one test for
+// each frame, since most frames that are taken off are such.
+fn undo(regs: &mut [u32], work: &[u32], height: usize) -> usize
+    requires { ⌜ (length (now regs) ≡ registers) × (4 * height ≤ length (now work)) ⌝ }
+    requires { ⌜ ((p : List ℕ) × StackFits p (stackOf (now work) height)) ⌝ }
+    ensures { λ r. ⌜ Undone (now (work .entry)) height (now (regs .entry)) r (now (regs .exit)) ⌝ }
+{
+    let mut h = height;
+    while 0 < h {
+        let w = 4 * h - 4;
+        if work[w] < UNDO {
+            return h;
+        }
+        let a = work[w + 1];
+        let i = work[w + 2] as usize;
+        let c = work[w + 3];
+        write_pair(regs, i, a, c);
+        h -= 1;
+    }
+    h
+}
+
 // Falls back: undoes changes of registers until a frame is found to go on with.
 pub fn fall_back(code: &[u32], regs: &mut [u32], work: &mut [u32], height: usize) -> Machine
     requires { ⌜ (length (now regs) ≡ registers) × (4 * height ≤ length (now work)) ⌝ }
     requires { ⌜ StackFits (now code) (stackOf (now work) height) ⌝ }
     ensures { λ m. ⌜ nowOf (now (regs .exit)) (now (work .exit)) m ≡ fall (now (code .entry)) (now (regs .entry)) (stackOf (now (work .entry)) height) ⌝ }
 {
-    let mut h = height;
-    while 0 < h {
-        h -= 1;
-        let w = 4 * h;
-        let kind = work[w];
-        let a = work[w + 1];
-        let b = work[w + 2];
-        let c = work[w + 3];
-        if kind == EXPLORE {
-            return Machine {
-                pc: a,
-                at: b,
-                height: h,
-                live: true,
-            };
-        }
-        if kind == AGAIN {
-            let q = a as usize;
-            return begin_round(code, regs, work, q, b, c, h);
-        }
-        if kind == STRETCH {
-            return go_down(work, a, b, c, h);
-        }
-        let i = b as usize;
-        write_pair(regs, i, a, c);
+    let top = undo(regs, work, height);
+    if top == 0 {
+        return Machine {
+            pc: 0,
+            at: 0,
+            height: 0,
+            live: false,
+        };
     }
-    Machine {
-        pc: 0,
-        at: 0,
-        height: 0,
-        live: false,
+    let h = top - 1;
+    let w = 4 * h;
+    let kind = work[w];
+    let a = work[w + 1];
+    let b = work[w + 2];
+    if kind == EXPLORE {
+        return Machine {
+            pc: a,
+            at: b,
+            height: h,
+            live: true,
+        };
     }
+    let c = work[w + 3];
+    if kind == AGAIN {
+        let q = a as usize;
+        return begin_round(code, regs, work, q, b, c, h);
+    }
+    go_down(work, a, b, c, h)
 }
