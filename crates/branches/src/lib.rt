@@ -4,10 +4,9 @@
 // one look at the byte, and no frame is written for it.
 use machine::BRANCH;
 use machine::BYTE;
-use machine::EXPLORE;
 use machine::Machine;
 use machine::Walked;
-use machine::push;
+use machine::push_explore;
 ghost use mathlib.Core.Path.{_≡_};
 ghost use mathlib.Core.List.{List, _∷_};
 ghost use mathlib.Core.Bool.{true};
@@ -38,7 +37,7 @@ fn branch_off(work: &mut [u32], m: Machine, other: u32, pc: u32, at: u32, used: 
     requires { ⌜ 4 * m .height + 4 ≤ length (now work) ⌝ }
     ensures { λ r. ⌜ (r .used ≡ used) × ((regs : List ℕ) → nowOf regs (now (work .exit)) (r .head) ≡ go pc at regs (explore other (m .at) ∷ stackOf (now (work .entry)) (m .height))) ⌝ }
 {
-    let h = push(work, m.height, EXPLORE, other, m.at, 0);
+    let h = push_explore(work, m.height, other, m.at);
     Walked {
         used: used,
         head: Machine {

@@ -9,7 +9,7 @@ use lib.Seq.{getD-set-same, getD-set-other}
 use borrow.Author.Tests.{lt-ltb, le-ltb}
 use Rattle.syntax.specs.Limits.{registers}
 use Rattle.machine.specs.Code.{Program, repeatAt, RepeatFits}
-use Rattle.machine.specs.Moves.{undo, Stack, idle, set2, saved, go, goSet, begin, descend, below, fall}
+use Rattle.machine.specs.Moves.{explore, undo, Stack, idle, set2, saved, go, goSet, begin, descend, below, fall}
 use Rattle.machine.specs.Words.{frameOf, frameAt, stackOf}
 use Rattle.machine.specs.Ready.{StackFits}
 
@@ -41,6 +41,19 @@ push-cons w n kind a b c h =
     let e₃ : getD w₃ (4 * n + 3) 0 ≡ c = getD-set-same w₂ _ c 0 (simp length-set (omega arith)) in
     let e₄ : stackOf w₃ n ≡ stackOf w n = stackOf-set w₂ n _ c (omega arith) ∙ stackOf-set w₁ n _ b (omega arith) ∙ stackOf-set w₀ n _ a (omega arith) ∙ stackOf-set w n _ kind (omega arith) in
     rw (add-one n, e₀, e₁, e₂, e₃, e₄)
+
+-- a frame to go on at, by three stores
+pub push-node : (w : List ℕ) (h pc at : ℕ) → 4 * h + 4 ≤ length w → stackOf (set (set (set w (4 * h) 0) (4 * h + 1) pc) (4 * h + 2) at) (h + 1) ≡ explore pc at ∷ stackOf w h
+unfolding stackOf frameAt frameOf
+push-node w n pc at h =
+    let w₀ : List ℕ = set w (4 * n) 0 in
+    let w₁ : List ℕ = set w₀ (4 * n + 1) pc in
+    let w₂ : List ℕ = set w₁ (4 * n + 2) at in
+    let e₀ : getD w₂ (4 * n) 0 ≡ 0 = low-set w₁ _ _ at (omega arith) ∙ low-set w₀ _ _ pc (omega arith) ∙ getD-set-same w _ 0 0 (omega arith) in
+    let e₁ : getD w₂ (4 * n + 1) 0 ≡ pc = low-set w₁ _ _ at (omega arith) ∙ getD-set-same w₀ _ pc 0 (simp length-set (omega arith)) in
+    let e₂ : getD w₂ (4 * n + 2) 0 ≡ at = getD-set-same w₁ _ at 0 (simp length-set (omega arith)) in
+    let e₃ : stackOf w₂ n ≡ stackOf w n = stackOf-set w₁ n _ at (omega arith) ∙ stackOf-set w₀ n _ pc (omega arith) ∙ stackOf-set w n _ 0 (omega arith) in
+    rw (add-one n, e₀, e₁, e₂, e₃)
 
 pub go-pushed : (pc at h h′ : ℕ) (regs work : List ℕ) {st : Stack} → h′ ≡ h + 1 → stackOf work (h + 1) ≡ st → go pc at regs (stackOf work h′) ≡ go pc at regs st
 go-pushed pc at h h′ regs work e f = rw (e, f)

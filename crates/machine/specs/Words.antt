@@ -5,6 +5,7 @@ use mathlib.Core.List.{List, [], _∷_}
 use mathlib.Core.Bool.{Bool, true, false}
 use Prim.Native.Nat.{ℕ, zero, suc, _+_, _*_, _≤_, _<_}
 use lib.ListN.{getD}
+use Rattle.machine.specs.declared.Counter.{Counter}
 use Rattle.machine.specs.declared.Machine.{Machine}
 use Rattle.machine.specs.Code.{repeatAt, decodeAs}
 use Rattle.machine.specs.Moves.{Frame, explore, again, undo, stretch, Stack, Configuration, Now, idle, busy, bytesOf, carryOut, move}
@@ -34,6 +35,10 @@ pickNow false a b = b
 
 abbrev pub nowOf : List ℕ → List ℕ → Machine → Now
 nowOf regs work m = pickNow (m .live) (busy (configurationOf regs work m)) (idle regs)
+
+-- what a repeat's registers have
+abbrev pub Counted : List ℕ → Counter → Type 0
+Counted regs k = (k .rounds ≡ getD regs (k .register) 0) × (k .from ≡ getD regs (k .register + 1) 0)
 
 -- what one move leaves
 abbrev pub movedOn : (p sub regs work : List ℕ) → Machine → Now

@@ -17,11 +17,12 @@ ghost use Rattle.machine.specs.Words.{nowOf};
 mod stack;
 
 pub use stack::AGAIN;
-pub use stack::EXPLORE;
+pub use stack::begin_over;
 pub use stack::begin_round;
 pub use stack::fall_back;
 pub use stack::go_down;
 pub use stack::push;
+pub use stack::push_explore;
 pub use stack::save_and_write;
 
 // The kinds of the nodes that several crates ask for: a byte item, a branch that is not the last, the rule's end, and a run.
@@ -39,6 +40,13 @@ pub struct Machine {
     pub at: u32,
     pub height: usize,
     pub live: bool,
+}
+
+// A repeat's first register, and what its two have: the rounds made, and where the last one began.
+pub struct Counter {
+    pub register: u32,
+    pub rounds: u32,
+    pub from: u32,
 }
 
 // How a run stopped: at the rule's end, with the steps taken and the machine there; nothing is left, after so many steps; or the steps are

@@ -1,4 +1,5 @@
 // The stack in the work area, four numbers for each frame, and the registers, whose every change is undone by a frame.
+use crate::Counter;
 use crate::Machine;
 ghost use mathlib.Core.Path.{_≡_};
 ghost use mathlib.Core.List.{List, _∷_};
@@ -6,12 +7,12 @@ ghost use Prim.Native.Nat.{ℕ, _+_, _*_, _≤_};
 ghost use lib.ListN.{length, getD};
 ghost use Rattle.syntax.specs.Limits.{registers};
 ghost use Rattle.machine.specs.Code.{repeatAt};
-ghost use Rattle.machine.specs.Moves.{set2, saved, go, begin, below, fall};
-ghost use Rattle.machine.specs.Words.{frameOf, stackOf, nowOf};
+ghost use Rattle.machine.specs.Moves.{explore, set2, saved, go, goSet, begin, below, fall};
+ghost use Rattle.machine.specs.Words.{frameOf, stackOf, nowOf, Counted};
 ghost use Rattle.machine.specs.Ready.{StackFits, Undone};
 
 // The kinds of frames.
-pub const EXPLORE: u32 = 0;
+const EXPLORE: u32 = 0;
 
 pub const AGAIN: u32 = 1;
 
@@ -32,6 +33,18 @@ pub fn push(work: &mut [u32], height: usize, kind: u32, a: u32, b: u32, c: u32) 
     height + 1
 }
 
+// A node to go on at goes onto the stack. The fourth number of such a frame says nothing, and stays as it is.
+pub fn push_explore(work: &mut [u32], height: usize, pc: u32, at: u32) -> usize
+    requires { ⌜ 4 * height + 4 ≤ length (now work) ⌝ }
+    ensures { λ r. ⌜ (r ≡ height + 1) × (stackOf (now (work .exit)) (height + 1) ≡ explore pc at ∷ stackOf (now (work .entry)) height) ⌝ }
+{
+    let w = 4 * height;
+    work[w] = EXPLORE;
+    work[w + 1] = pc;
+    work[w + 2] = at;
+    height + 1
+}
+
 // Two registers are written.
 fn write_pair(regs: &mut [u32], i: usize, x: u32, y: u32)
     requires { ⌜ i + 2 ≤ length (now regs) ⌝ }
@@ -39,6 +52,26 @@ fn write_pair(regs: &mut [u32], i: usize, x: u32, y: u32)
 {
     regs[i] = x;
     regs[i + 1] = y;
+}
+
+// Two registers that have `a` and `b` are written, and the frame that undoes it is pushed.
+fn write_over(
+    regs: &mut [u32],
+    work: &mut [u32],
+    height: usize,
+    register: u32,
+    a: u32,
+    b: u32,
+    x: u32,
+    y: u32,
+) -> usize
+    requires { ⌜ (register + 2 ≤ length (now regs)) × (4 * height + 4 ≤ length (now work)) × (a ≡ getD (now regs) register 0) × (b ≡ getD (now regs) (register + 1) 0) ⌝ }
+    ensures { λ r. ⌜ (r ≡ height + 1) × (now (regs .exit) ≡ set2 (now (regs .entry)) register x y) × (stackOf (now (work .exit)) (height + 1) ≡ saved (now (regs .entry)) register ∷ stackOf (now (work .entry)) height) ⌝ }
+{
+    let i = register as usize;
+    let h = push(work, height, UNDO, a, register, b);
+    write_pair(regs, i, x, y);
+    h
 }
 
 // Two registers are written, and the frame that undoes it is pushed.
@@ -56,9 +89,30 @@ pub fn save_and_write(
     let i = register as usize;
     let a = regs[i];
     let b = regs[i + 1];
-    let h = push(work, height, UNDO, a, register, b);
-    write_pair(regs, i, x, y);
-    h
+    write_over(regs, work, height, register, a, b, x, y)
+}
+
+// Round `n` of a repeat begins at its body. What its registers have was read before: a number that is read once more behind a store to another
+// slice is loaded once more.
+pub fn begin_over(
+    regs: &mut [u32],
+    work: &mut [u32],
+    height: usize,
+    k: Counter,
+    body: u32,
+    n: u32,
+    at: u32,
+) -> Machine
+    requires { ⌜ (k .register + 2 ≤ length (now regs)) × (4 * height + 4 ≤ length (now work)) × Counted (now regs) k ⌝ }
+    ensures { λ m. ⌜ nowOf (now (regs .exit)) (now (work .exit)) m ≡ goSet (k .register) n at body at (now (regs .entry)) (stackOf (now (work .entry)) height) ⌝ }
+{
+    let h = write_over(regs, work, height, k.register, k.rounds, k.from, n, at);
+    Machine {
+        pc: body,
+        at: at,
+        height: h,
+        live: true,
+    }
 }
 
 // Round `n` begins of the repeat whose numbers stand at `q`.

@@ -1,9 +1,9 @@
 -- `decide` meets its contract: each way on is the decision that its tests single out.
-use mathlib.Core.Path.{sym, _∙_}
+use mathlib.Core.Path.{refl, sym, _∙_}
 use denote.Ref.{now}
-use borrow.Author.Needs.{needs}
 use Rattle.machine.specs.Words.{stackOf}
-use Rattle.repeats.proofs.Decisions.{decides-round, decides-full, decides-still, decides-both}
+use Rattle.repeats.proofs.Decisions.{begins-as, decides-round, decides-full, decides-still, decides-both}
+use borrow.Author.Needs.{needs}
 use Rattle.repeats.proofs.decide.Statement.{statement}
 use Rattle.repeats.proofs.decide.Tie as tie
 
@@ -13,11 +13,20 @@ mul-least c = search needs
 shared-slice-read-least : tie.Need-shared-slice-read-least
 shared-slice-read-least c = search needs
 
+add-body : tie.Need-add-body
+add-body c = search needs
+
+mul-body : tie.Need-mul-body
+mul-body c = search needs
+
+shared-slice-read-body : tie.Need-shared-slice-read-body
+shared-slice-read-body c = search needs
+
 count-round-requires : tie.Need-count-round-requires
 count-round-requires c κs = search needs
 
-begin-round-requires : tie.Need-begin-round-requires
-begin-round-requires c κs = search needs
+begin-over-requires : tie.Need-begin-over-requires
+begin-over-requires c κs = search needs
 
 same-length : tie.Need-same-length
 same-length c = search needs
@@ -27,8 +36,8 @@ same-length-2 c = search needs
 
 returns : tie.Need-returns
 returns c =
-    let s = c .before .before .before .before .before .before .before .before .before .before .before .before .before in
-    (rw (c .before .before .before .before .before .before .before .count-round .ensures) at (c .before .before .before .before .begin-round .ensures)) ∙ sym (decides-round (now (s .args .code)) (s .args .q) (s .args .n) (s .args .at) (now (s .args .regs)) (stackOf (now (s .args .work)) (s .args .height)) (s .args .still) (c .before .before .before .before .before .before .before .before .if1 .taken))
+    let s = c .before .before .before .before .before .before .before .before .before .before .before .before .before .before in
+    (rw (c .before .before .before .before .before .before .before .count-round .ensures) at (c .before .before .before .before .begin-over .ensures)) ∙ begins-as (now (s .args .code)) (s .args .q) _ (s .args .at) (s .args .k .register) _ (now (s .args .regs)) _ (s .pre .1 .1) refl ∙ sym (decides-round (now (s .args .code)) (s .args .q) (s .args .n) (s .args .at) (now (s .args .regs)) (stackOf (now (s .args .work)) (s .args .height)) (s .args .still) (c .before .before .before .before .before .before .before .before .if1 .taken))
 
 add-most : tie.Need-add-most
 add-most c = search needs
@@ -53,12 +62,12 @@ is-full-requires c κs = search needs
 
 returns-2 : tie.Need-returns-2
 returns-2 c =
-    let s = c .before .before .before .before .before .before .before .before .before in
+    let s = c .before .before .before .before .before .before .before .before .before .before in
     sym (decides-full (now (s .args .code)) (s .args .q) (s .args .n) (s .args .at) (now (s .args .regs)) (stackOf (now (s .args .work)) (s .args .height)) (s .args .still) (c .before .before .before .before .if1 .left) (sym (c .before .is-full .ensures) ∙ c .if2 .taken))
 
 returns-3 : tie.Need-returns-3
 returns-3 c =
-    let s = c .before .before .before .before .before .before .before .before .before .before in
+    let s = c .before .before .before .before .before .before .before .before .before .before .before in
     sym (decides-still (now (s .args .code)) (s .args .q) (s .args .n) (s .args .at) (now (s .args .regs)) (stackOf (now (s .args .work)) (s .args .height)) (s .args .still) (c .before .before .before .before .before .if1 .left) (sym (c .before .before .is-full .ensures) ∙ c .before .if2 .left) (c .if3 .taken))
 
 offer-both-requires : tie.Need-offer-both-requires
@@ -72,7 +81,7 @@ same-length-4 c = search needs
 
 returns-4 : tie.Need-returns-4
 returns-4 c =
-    let s = c .before .before .before .before .before .before .before .before .before .before .before .before .before .before .before .before .before in
+    let s = c .before .before .before .before .before .before .before .before .before .before .before .before .before .before .before .before .before .before in
     c .before .before .before .before .offer-both .ensures ∙ sym (decides-both (now (s .args .code)) (s .args .q) (s .args .n) (s .args .at) (now (s .args .regs)) (stackOf (now (s .args .work)) (s .args .height)) (s .args .still) (c .before .before .before .before .before .before .before .before .before .before .before .before .if1 .left) (sym (c .before .before .before .before .before .before .before .before .before .is-full .ensures) ∙ c .before .before .before .before .before .before .before .before .if2 .left) (c .before .before .before .before .before .before .before .if3 .left))
 
 pub decide-spec : {M : Type 1} → statement M
@@ -81,8 +90,11 @@ decide-spec =
     (tie.spec
     mul-least
     shared-slice-read-least
+    add-body
+    mul-body
+    shared-slice-read-body
     count-round-requires
-    begin-round-requires
+    begin-over-requires
     same-length
     same-length-2
     returns
