@@ -60,10 +60,6 @@ module _ {p sub regs₀ work₀ : List ℕ} {m₀ : Machine} {left : ℕ} {regs 
   pub stepping-ready : (first : List ℕ) × (t : Trace) × Ready p sub (length work) rest first (nowOf regs work m) t
   stepping-ready = (g .some .0, running .rest, rw (g .wide) (rw (rest-again left rest (g .few)) at (running .ready)))
 
-  -- where no step is left
-  pub stepping-out : rest ≡ 0 → Leads p sub (nowOf regs₀ work₀ m₀) left (nowOf regs work m)
-  stepping-out e = rw (used-all left rest e) at (g .leads)
-
   -- where it does not stand at such a node, at least one was walked
   some-steps : (rest ≡ left → ⊥) → 1 ≤ left - rest
   some-steps h = omega (arith, g .few)
@@ -85,6 +81,11 @@ module _ {p sub regs₀ work₀ : List ℕ} {m₀ : Machine} {left : ℕ} {regs 
     begins = λ e. absurd (omega (arith, g .few));
     leads = rw (used-more left rest n (g .few) h) (leads-join p sub (g .leads) l);
   }
+
+  -- the same, by the steps that are left
+  pub stepping-to : (regs′ work′ : List ℕ) (m′ : Machine) (r : ℕ) → r < rest → Leads p sub (nowOf regs work m) (rest - r) (nowOf regs′ work′ m′) → length regs′ ≡ length regs → length work′ ≡ length work
+      → Stepping p sub regs₀ work₀ m₀ left regs′ work′ r m′
+  stepping-to regs′ work′ m′ r h l s s′ = rw (rest-again rest r (omega arith)) at (stepping-more regs′ work′ m′ (rest - r) (omega arith) (omega arith) l s s′)
 
   module _ (live : m .live ≡ true) where
     pub stepping-fits : Fits p (m .pc)

@@ -63,6 +63,11 @@ module _ {p sub regs₀ work₀ : List ℕ} {m₀ : Machine} {budget : ℕ} {reg
     runs = λ first t x. rw (used-more budget rest n (g .few) h) (running-led p sub (length work₀) budget first t (budget - rest) n _ _ l (omega (arith, g .few)) (g .runs first t x));
   }
 
+  -- the same, by the steps that are left
+  pub walking-to : (regs′ work′ : List ℕ) (m′ : Machine) (r : ℕ) → r < rest → Leads p sub (nowOf regs work m) (rest - r) (nowOf regs′ work′ m′) → length regs′ ≡ length regs → length work′ ≡ length work
+      → Walking p sub regs₀ work₀ m₀ budget regs′ work′ r m′
+  walking-to regs′ work′ m′ r h l s s′ = rw (rest-again rest r (omega arith)) at (walking-on regs′ work′ m′ (rest - r) (omega arith) l s s′)
+
   module _ (regs′ work′ : List ℕ) (r : Ran) (x : RanBy p sub (nowOf regs work m) rest regs′ work′ r) where
     -- a run or a reference that the steps are not enough for
     pub walking-cut : r ≡ TooLong → Promised p sub regs₀ work₀ m₀ budget Spent regs′ work′

@@ -9,7 +9,6 @@ use machine::Machine;
 use machine::RUN;
 use machine::Ran;
 use machine::Stop;
-use machine::Walked;
 use nodes::begin_last_branch;
 use nodes::close_group;
 use nodes::open_group;
@@ -22,13 +21,19 @@ use runs::take_run;
 ghost use mathlib.Core.Path.{_≡_};
 ghost use mathlib.Core.List.{List};
 ghost use mathlib.Core.Bool.{true};
-ghost use Prim.Native.Nat.{ℕ, _+_, _*_, _≤_, _<_, _^_};
+ghost use Prim.Native.Nat.{ℕ, _+_, _*_, _-_, _≤_, _<_, _^_};
 ghost use lib.ListN.{length, getD};
 ghost use Rattle.syntax.specs.Limits.{registers};
 ghost use Rattle.semantics.specs.Walk.{Trace};
 ghost use Rattle.machine.specs.Code.{Fits};
 ghost use Rattle.machine.specs.Words.{stackOf, nowOf, movedOn};
 ghost use Rattle.machine.specs.Ready.{until, Several, Leads, RanBy, StackFits, Ready, Agrees};
+
+// Where the machine stands, and the steps that are left. They are handed on in place of those used, so that the loops keep one number and not two.
+struct Standing {
+    rest: u32,
+    head: Machine,
+}
 
 // One node that is no end, no run, no reference and no branch but the last; `kind` is its first number.
 fn step(
@@ -55,8 +60,7 @@ fn step(
     }
 }
 
-// One node that makes one step and is no end, or branches one after the other. What is used comes back beside the machine, and is counted in one place for
-// all kinds: so the compiler makes one jump of the kind.
+// One node that makes one step and is no end, or branches one after the other.
 fn advance(
     code: &[u32],
     sub: &[u8],
@@ -65,17 +69,24 @@ fn advance(
     kind: u32,
     m: Machine,
     left: u32,
-) -> Walked
+) -> Standing
     requires { ⌜ (kind ≡ getD (now code) (m .pc) 0) × (kind ≤ 8) × (m .live ≡ true) × (1 ≤ left) × (length (now regs) ≡ registers) × (length (now sub) < 2 ^ 32) × (length (now code) < 2 ^ 32) ⌝ }
     requires { ⌜ ((first : List ℕ) × (t : Trace) × Ready (now code) (now sub) (length (now work)) left first (nowOf (now regs) (now work) m) t) ⌝ }
-    ensures { λ r. ⌜ (1 ≤ r .used) × (r .used ≤ left) × Leads (now (code .entry)) (now (sub .entry)) (nowOf (now (regs .entry)) (now (work .entry)) m) (r .used) (nowOf (now (regs .exit)) (now (work .exit)) (r .head)) ⌝ }
+    ensures { λ r. ⌜ (r .rest < left) × Leads (now (code .entry)) (now (sub .entry)) (nowOf (now (regs .entry)) (now (work .entry)) m) (left - r .rest) (nowOf (now (regs .exit)) (now (work .exit)) (r .head)) ⌝ }
 {
     if kind == BRANCH {
-        return take_branch(code, sub, work, m, left);
+        let on = take_branch(code, sub, work, m, left);
+        let there = on.head;
+        let fewer = left - on.used;
+        return Standing {
+            rest: fewer,
+            head: there,
+        };
     }
     let next = step(code, sub, regs, work, kind, m);
-    Walked {
-        used: 1,
+    let rest = left - 1;
+    Standing {
+        rest: rest,
         head: next,
     }
 }
@@ -90,10 +101,10 @@ fn walk(
     work: &mut [u32],
     m: Machine,
     left: u32,
-) -> Walked
+) -> Standing
     requires { ⌜ (m .live ≡ true) × (getD (now code) (m .pc) 0 ≤ 8) × (1 ≤ left) × (length (now regs) ≡ registers) × (length (now sub) < 2 ^ 32) × (length (now code) < 2 ^ 32) ⌝ }
     requires { ⌜ ((first : List ℕ) × (t : Trace) × Ready (now code) (now sub) (length (now work)) left first (nowOf (now regs) (now work) m) t) ⌝ }
-    ensures { λ r. ⌜ (1 ≤ r .used) × (r .used ≤ left) × Leads (now (code .entry)) (now (sub .entry)) (nowOf (now (regs .entry)) (now (work .entry)) m) (r .used) (nowOf (now (regs .exit)) (now (work .exit)) (r .head)) ⌝ }
+    ensures { λ r. ⌜ (r .rest < left) × Leads (now (code .entry)) (now (sub .entry)) (nowOf (now (regs .entry)) (now (work .entry)) m) (left - r .rest) (nowOf (now (regs .exit)) (now (work .exit)) (r .head)) ⌝ }
 {
     let mut rest = left;
     let mut head = Machine {
@@ -104,25 +115,25 @@ fn walk(
     };
     while head.live {
         if rest == 0 {
-            return Walked {
-                used: left,
+            return Standing {
+                rest: rest,
                 head: head,
             };
         }
         let pc = head.pc as usize;
         let kind = code[pc];
         if 8 < kind {
-            return Walked {
-                used: left - rest,
+            return Standing {
+                rest: rest,
                 head: head,
             };
         }
         let on = advance(code, sub, regs, work, kind, head, rest);
-        rest -= on.used;
+        rest = on.rest;
         head = on.head;
     }
-    Walked {
-        used: left - rest,
+    Standing {
+        rest: rest,
         head: head,
     }
 }
@@ -187,7 +198,7 @@ pub fn run_to_end(
             continue;
         }
         let w = walk(code, sub, regs, work, head, rest);
-        rest -= w.used;
+        rest = w.rest;
         head = w.head;
     }
     Stop::Nothing(budget - rest)

@@ -5,7 +5,7 @@ use native.Mathlib.Omega.{arith}
 use denote.Ref.{now}
 use borrow.Author.Needs.{needs}
 use Rattle.machine.specs.Laws.Code.{several}
-use Rattle.walker.proofs.Walking.{Walking, walking-start, walking-none, walking-fits, walking-ready, walking-out, walking-end, walking-on, walking-cut, made, walking-run}
+use Rattle.walker.proofs.Walking.{Walking, walking-start, walking-none, walking-fits, walking-ready, walking-out, walking-end, walking-to, walking-cut, made, walking-run}
 use Rattle.walker.proofs.run_to_end.Statement.{statement}
 use Rattle.walker.proofs.run_to_end.Tie as tie
 
@@ -94,16 +94,13 @@ walk-requires c κs =
     let g = c .before .before .before .before .before .before .before .loop .inv in
     ((c .before .before .before .before .before .before .loop-test .taken, c .before .before .if2 .left, omega (arith, c .before .before .before .before .before .if1 .left), g .size ∙ s .pre .0 .0, s .pre .0 .1, s .pre .0 .2), walking-ready g)
 
-sub-rest-2 : tie.Need-sub-rest-2 Inv-loop μ-loop
-sub-rest-2 c = c .before .before .before .before .before .walk .ensures .1
-
 loop-less-2 : tie.Need-loop-less-2 Inv-loop μ-loop
-loop-less-2 c = omega (arith, c .before .before .before .before .before .before .walk .ensures .0, c .before .before .before .before .before .before .walk .ensures .1)
+loop-less-2 c = omega (arith, c .before .before .before .before .before .walk .ensures .0)
 
 loop-again-2 : tie.Need-loop-again-2 Inv-loop μ-loop
 loop-again-2 c =
-    let r = c .before .before .before .before .before .before .walk in
-    walking-on (c .before .before .before .before .before .before .before .before .before .before .before .before .before .before .loop .inv) (r .last .1 .1 .0) (r .last .1 .1 .1 .0) (r .result .head) (r .result .used) (r .ensures .1) (r .ensures .2) (r .kept .1 .1 .0) (r .kept .1 .1 .1 .0)
+    let r = c .before .before .before .before .before .walk in
+    walking-to (c .before .before .before .before .before .before .before .before .before .before .before .before .before .loop .inv) (r .last .1 .1 .0) (r .last .1 .1 .1 .0) (r .result .head) (r .result .rest) (r .ensures .0) (r .ensures .1) (r .kept .1 .1 .0) (r .kept .1 .1 .1 .0)
 
 sub-t30 : tie.Need-sub-t30 Inv-loop μ-loop
 sub-t30 c = c .before .loop .inv .few
@@ -145,7 +142,6 @@ run-to-end-spec =
     loop-less
     loop-again
     walk-requires
-    sub-rest-2
     loop-less-2
     loop-again-2
     sub-t30
