@@ -1,15 +1,17 @@
 -- One node as the code carries it out, and the invariant of the loop that walks over nodes of one step. Assumes nothing.
-use mathlib.Core.Path.{_≡_, refl, ap, _∙_}
+use mathlib.Core.Path.{_≡_, refl, ap, sym, _∙_}
 use mathlib.Core.List.{List}
-use mathlib.Core.Bool.{true, false}
+use mathlib.Core.Bool.{Bool, true, false}
 use Prim.Native.Nat.{ℕ, _+_, _*_, _-_, _≤_, _<_}
 use native.Mathlib.Omega.{arith}
 use lib.ListN.{length, getD}
+use Rattle.syntax.specs.declared.Greed.the-variants.{Greedy, Lazy}
+use Rattle.semantics.specs.Repeats.{Next, round, leave, either}
 use Rattle.semantics.specs.Walk.{Trace}
 use Rattle.machine.specs.declared.Machine.{Machine}
-use Rattle.machine.specs.Code.{decode, Fits}
-use Rattle.machine.specs.Moves.{move}
-use Rattle.machine.specs.Words.{stackOf, nowOf, movedOn, carried}
+use Rattle.machine.specs.Code.{Program, decode, Fits}
+use Rattle.machine.specs.Moves.{Stack, Configuration, Now, idle, busy, begin, decided, decides, carryOut, move}
+use Rattle.machine.specs.Words.{stackOf, configurationOf, pickNow, nowOf, movedOn, carried}
 use Rattle.machine.specs.Ready.{Leads, stay, onward, StackFits, Ready}
 use Rattle.machine.specs.Laws.Loop.{Running, ready-led, leads-join, ReadyForSome, running-fits, running-stack, running-low}
 
@@ -26,6 +28,38 @@ only-loop n h a b c d e f g i = high n h (low n a b c d) e f g i
 
     high : (n : ℕ) → n ≤ 8 → 4 ≤ n → (n ≡ 4 → ⊥) → (n ≡ 5 → ⊥) → (n ≡ 6 → ⊥) → (n ≡ 7 → ⊥) → n ≡ 8
     high n h l e f g i = omega arith
+
+-- one node
+pub one-node : (p sub regs work regs′ work′ : List ℕ) (m m′ : Machine) → m .live ≡ true → getD p (m .pc) 0 ≤ 8 → nowOf regs′ work′ m′ ≡ movedOn p sub regs work m → Leads p sub (nowOf regs work m) 1 (nowOf regs′ work′ m′)
+one-node p sub regs work regs′ work′ m m′ live k e = rw (e, live) (onward stay k)
+
+-- Nodes that the machine is at work behind: the end of a group, and the end of a round.
+abbrev at-work : Now → Bool
+at-work (idle regs) = false
+at-work (busy c) = true
+
+picked : (b : Bool) (c : Configuration) (regs : List ℕ) → b ≡ at-work (pickNow b (busy c) (idle regs))
+picked true c regs = refl
+picked false c regs = refl
+
+decided-on : (p : Program) (d : Next) (q n at : ℕ) (regs : List ℕ) (st : Stack) → at-work (decided p d q n at regs st) ≡ true
+unfolding decided begin
+decided-on p round q n at regs st = refl
+decided-on p leave q n at regs st = refl
+decided-on p (either Greedy) q n at regs st = refl
+decided-on p (either Lazy) q n at regs st = refl
+
+module _ (p sub regs work regs′ work′ : List ℕ) (m m′ : Machine) where
+  live-as : {now : Now} → nowOf regs′ work′ m′ ≡ now → m′ .live ≡ at-work now
+  live-as e = picked (m′ .live) (configurationOf regs′ work′ m′) regs′ ∙ ap at-work e
+
+  pub live-closed : nowOf regs′ work′ m′ ≡ carried 4 p sub regs work m → m′ .live ≡ true
+  unfolding carryOut
+  live-closed e = live-as e
+
+  pub live-ended : nowOf regs′ work′ m′ ≡ carried 8 p sub regs work m → m′ .live ≡ true
+  unfolding carryOut decides
+  live-ended e = live-as e ∙ decided-on p _ (m .pc + 1) _ (m .at) regs (stackOf work (m .height))
 
 -- The steps used, where `rest` of `left` are left.
 pub used-none : (left : ℕ) → left - left ≡ 0
@@ -82,6 +116,11 @@ module _ {p sub regs₀ work₀ : List ℕ} {m₀ : Machine} {left : ℕ} {regs 
     leads = rw (used-more left rest n (g .few) h) (leads-join p sub (g .leads) l);
   }
 
+  -- one node, of a known kind
+  pub stepping-node : (n : ℕ) → m .live ≡ true → getD p (m .pc) 0 ≡ n → n ≤ 8 → 1 ≤ rest → (regs′ work′ : List ℕ) (m′ : Machine) → nowOf regs′ work′ m′ ≡ carried n p sub regs work m → length regs′ ≡ length regs → length work′ ≡ length work
+      → Stepping p sub regs₀ work₀ m₀ left regs′ work′ (rest - 1) m′
+  stepping-node n live is k h regs′ work′ m′ e s s′ = stepping-more regs′ work′ m′ 1 (omega arith) h (one-node p sub regs work regs′ work′ m m′ live (omega arith) (e ∙ sym (moved-as p sub regs work m n is))) s s′
+
   -- the same, by the steps that are left
   pub stepping-to : (regs′ work′ : List ℕ) (m′ : Machine) (r : ℕ) → r < rest → Leads p sub (nowOf regs work m) (rest - r) (nowOf regs′ work′ m′) → length regs′ ≡ length regs → length work′ ≡ length work
       → Stepping p sub regs₀ work₀ m₀ left regs′ work′ r m′
@@ -97,6 +136,10 @@ module _ {p sub regs₀ work₀ : List ℕ} {m₀ : Machine} {left : ℕ} {regs 
     pub stepping-low : 4 * m .height + 8 * rest ≤ length work
     stepping-low = rw (g .wide) (rw (rest-again left rest (g .few)) at (running-low regs work m live running))
 
--- one node
-pub one-node : (p sub regs work regs′ work′ : List ℕ) (m m′ : Machine) → m .live ≡ true → getD p (m .pc) 0 ≤ 8 → nowOf regs′ work′ m′ ≡ movedOn p sub regs work m → Leads p sub (nowOf regs work m) 1 (nowOf regs′ work′ m′)
-one-node p sub regs work regs′ work′ m m′ live k e = rw (e, live) (onward stay k)
+-- the second and the third node, with the steps left counted from the beginning
+module _ {p sub regs₀ work₀ : List ℕ} {m₀ : Machine} {left : ℕ} {regs work : List ℕ} {m : Machine} where
+  pub stepping-two : Stepping p sub regs₀ work₀ m₀ left regs work (left - 1 - 1) m → Stepping p sub regs₀ work₀ m₀ left regs work (left - 2) m
+  stepping-two g = let z : left - 1 - 1 ≡ left - 2 = omega arith in rw z at g
+
+  pub stepping-three : Stepping p sub regs₀ work₀ m₀ left regs work (left - 2 - 1) m → Stepping p sub regs₀ work₀ m₀ left regs work (left - 3) m
+  stepping-three g = let z : left - 2 - 1 ≡ left - 3 = omega arith in rw z at g

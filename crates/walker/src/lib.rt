@@ -29,6 +29,13 @@ ghost use Rattle.machine.specs.Code.{Fits};
 ghost use Rattle.machine.specs.Words.{stackOf, nowOf, movedOn};
 ghost use Rattle.machine.specs.Ready.{until, Several, Leads, RanBy, StackFits, Ready, Agrees};
 
+// The kinds of a group's opening, of its end and of the end of a round.
+const OPEN: u32 = 3;
+
+const CLOSE: u32 = 4;
+
+const ROUND_END: u32 = 8;
+
 // Where the machine stands, and the steps that are left. They are handed on in place of those used, so that the loops keep one number and not two.
 struct Standing {
     rest: u32,
@@ -60,7 +67,55 @@ fn step(
     }
 }
 
-// One node that makes one step and is no end, or branches one after the other.
+// A group closes. If a round of a repeat ends behind it, that is done in the same turn, and so is the opening of a group that the next round begins with:
+// where a group is repeated they follow each other, and a jump for each costs about as much as what it does.
+fn leave_group(
+    code: &[u32],
+    sub: &[u8],
+    regs: &mut [u32],
+    work: &mut [u32],
+    m: Machine,
+    left: u32,
+) -> Standing
+    requires { ⌜ (getD (now code) (m .pc) 0 ≡ 4) × (m .live ≡ true) × (1 ≤ left) × (length (now regs) ≡ registers) × (length (now code) < 2 ^ 32) ⌝ }
+    requires { ⌜ ((first : List ℕ) × (t : Trace) × Ready (now code) (now sub) (length (now work)) left first (nowOf (now regs) (now work) m) t) ⌝ }
+    ensures { λ r. ⌜ (r .rest < left) × Leads (now (code .entry)) (now (sub .entry)) (nowOf (now (regs .entry)) (now (work .entry)) m) (left - r .rest) (nowOf (now (regs .exit)) (now (work .exit)) (r .head)) ⌝ }
+{
+    let closed = close_group(code, regs, work, m);
+    let one_less = left - 1;
+    let alone = Standing {
+        rest: one_less,
+        head: closed,
+    };
+    if left == 1 {
+        return alone;
+    }
+    let behind = closed.pc as usize;
+    if code[behind] != ROUND_END {
+        return alone;
+    }
+    let ended = end_round(code, regs, work, closed);
+    let two_less = left - 2;
+    let both = Standing {
+        rest: two_less,
+        head: ended,
+    };
+    if left == 2 {
+        return both;
+    }
+    let next = ended.pc as usize;
+    if code[next] != OPEN {
+        return both;
+    }
+    let opened = open_group(code, regs, work, ended);
+    let three_less = left - 3;
+    Standing {
+        rest: three_less,
+        head: opened,
+    }
+}
+
+// One node that makes one step and is no end, or those that are taken together.
 fn advance(
     code: &[u32],
     sub: &[u8],
@@ -74,6 +129,9 @@ fn advance(
     requires { ⌜ ((first : List ℕ) × (t : Trace) × Ready (now code) (now sub) (length (now work)) left first (nowOf (now regs) (now work) m) t) ⌝ }
     ensures { λ r. ⌜ (r .rest < left) × Leads (now (code .entry)) (now (sub .entry)) (nowOf (now (regs .entry)) (now (work .entry)) m) (left - r .rest) (nowOf (now (regs .exit)) (now (work .exit)) (r .head)) ⌝ }
 {
+    if kind == CLOSE {
+        return leave_group(code, sub, regs, work, m, left);
+    }
     if kind == BRANCH {
         let on = take_branch(code, sub, work, m, left);
         let there = on.head;

@@ -1,4 +1,4 @@
--- `advance` meets its contract: branches lead as `take_branch` says, and any other node by its one move.
+-- `advance` meets its contract: branches and nodes that are taken together lead as their functions say, and any other node by its one move.
 use mathlib.Core.Path.{sym, _∙_}
 use native.Mathlib.Omega.{arith}
 use denote.Ref.{now}
@@ -6,42 +6,56 @@ use Rattle.walker.proofs.Stepping.{rest-again, stepping-start, stepping
 use Rattle.walker.proofs.advance.Statement.{statement}
 use Rattle.walker.proofs.advance.Tie as tie
 
+leave-group-requires : tie.Need-leave-group-requires
+leave-group-requires c κs =
+    let s = c .before .before .before .before .before .before .before in
+    ((sym (s .pre .0 .0) ∙ c .before .before .if1 .taken, s .pre .0 .2, s .pre .0 .3, s .pre .0 .4, s .pre .0 .6), s .pre .1)
+
+same-length : tie.Need-same-length
+same-length c = c .before .before .before .before .leave-group .kept .1 .1 .0
+
+same-length-2 : tie.Need-same-length-2
+same-length-2 c = c .before .before .before .before .leave-group .kept .1 .1 .1 .0
+
+returns : tie.Need-returns
+returns c = c .before .before .before .before .leave-group .ensures
+
 take-branch-requires : tie.Need-take-branch-requires
 take-branch-requires c κs =
-    let s = c .before .before .before .before .before .before in
-    ((sym (s .pre .0 .0) ∙ c .before .if1 .taken, s .pre .0 .2, s .pre .0 .3, s .pre .0 .5, s .pre .0 .6), (now (s .args .regs), s .pre .1 .0, s .pre .1 .1, s .pre .1 .2))
+    let s = c .before .before .before .before .before .before .before in
+    ((sym (s .pre .0 .0) ∙ c .before .if2 .taken, s .pre .0 .2, s .pre .0 .3, s .pre .0 .5, s .pre .0 .6), (now (s .args .regs), s .pre .1 .0, s .pre .1 .1, s .pre .1 .2))
 
 sub-fewer : tie.Need-sub-fewer
 sub-fewer c = c .before .before .before .before .take-branch .ensures .1
 
-same-length : tie.Need-same-length
-same-length c = c .before .before .before .before .take-branch .kept .1 .1 .0
+same-length-3 : tie.Need-same-length-3
+same-length-3 c = c .before .before .before .before .take-branch .kept .1 .1 .0
 
-returns : tie.Need-returns
-returns c =
-    let s = c .before .before .before .before .before .before .before .before .before .before .before in
+returns-2 : tie.Need-returns-2
+returns-2 c =
+    let s = c .before .before .before .before .before .before .before .before .before .before .before .before in
     let r = c .before .before .before .before .take-branch in
     (omega (arith, r .ensures .0, r .ensures .1), rw (rest-again (s .args .left) (r .result .used) (r .ensures .1)) (r .ensures .2 (now (s .args .regs))))
 
 step-requires : tie.Need-step-requires
 step-requires c κs =
-    let s = c .before .before .before .before .before .before .before in
+    let s = c .before .before .before .before .before .before .before .before in
     let g = stepping-start (now (s .args .code)) (now (s .args .sub)) (now (s .args .regs)) (now (s .args .work)) (s .args .m) (s .args .left) (s .pre .1) in
     let t = s .pre .0 .2 in
-    ((s .pre .0 .0, s .pre .0 .1, c .before .before .if1 .left, s .pre .0 .4, omega (arith, stepping-low g t, s .pre .0 .3), s .pre .0 .5, s .pre .0 .6), (stepping-fits g t, stepping-stack g t))
+    ((s .pre .0 .0, s .pre .0 .1, c .before .before .if2 .left, s .pre .0 .4, omega (arith, stepping-low g t, s .pre .0 .3), s .pre .0 .5, s .pre .0 .6), (stepping-fits g t, stepping-stack g t))
 
 sub-rest : tie.Need-sub-rest
-sub-rest c = omega (arith, c .before .before .before .before .before .before .before .before .before .before .before .before .pre .0 .3)
+sub-rest c = omega (arith, c .before .before .before .before .before .before .before .before .before .before .before .before .before .pre .0 .3)
 
-same-length-2 : tie.Need-same-length-2
-same-length-2 c = c .before .before .before .before .step .kept .1 .1 .0
+same-length-4 : tie.Need-same-length-4
+same-length-4 c = c .before .before .before .before .step .kept .1 .1 .0
 
-same-length-3 : tie.Need-same-length-3
-same-length-3 c = c .before .before .before .before .step .kept .1 .1 .1 .0
+same-length-5 : tie.Need-same-length-5
+same-length-5 c = c .before .before .before .before .step .kept .1 .1 .1 .0
 
-returns-2 : tie.Need-returns-2
-returns-2 c =
-    let s = c .before .before .before .before .before .before .before .before .before .before .before .before in
+returns-3 : tie.Need-returns-3
+returns-3 c =
+    let s = c .before .before .before .before .before .before .before .before .before .before .before .before .before in
     let r = c .before .before .before .before .step in
     (omega (arith, s .pre .0 .3), rw (rest-again (s .args .left) 1 (s .pre .0 .3)) (one-node (now (s .args .code)) (now (s .args .sub)) (now (s .args .regs)) (now (s .args .work)) (r .last .1 .1 .0) (r .last .1 .1 .1 .0) (s .args .m) (r .result) (s .pre .0 .2) (omega (arith, s .pre .0 .0, s .pre .0 .1)) (r .ensures)))
 
@@ -49,12 +63,16 @@ pub advance-spec : {M : Type 1} → statement M
 advance-spec =
     tie.close
     (tie.spec
+    leave-group-requires
+    same-length
+    same-length-2
+    returns
     take-branch-requires
     sub-fewer
-    same-length
-    returns
+    same-length-3
+    returns-2
     step-requires
     sub-rest
-    same-length-2
-    same-length-3
-    returns-2)
+    same-length-4
+    same-length-5
+    returns-3)
