@@ -6,7 +6,8 @@ use mathlib.Core.Bool.{Bool, true, false}
 use Prim.Native.Nat.{ℕ, zero, suc, _+_, _*_, _-_, _/_, _≤_, _<_, _^_, min}
 use native.Mathlib.Omega.{arith}
 use native.Mathlib.Numerals.{add-one}
-use lib.ListN.{length, getD, drop}
+use lib.ListN.{length, getD, take, drop, length-drop}
+use lib.Seq.{take-all}
 use lib.Dec.{ltb, leb, eqb}
 use borrow.Author.Tests.{ltb-true, ltb-false, leb-true, leb-false, eqb-true}
 use Rattle.charset.specs.Class.{has}
@@ -19,6 +20,10 @@ use Rattle.machine.specs.Moves.{takes, oneMore, extent, allowance, strides, sto
 use Rattle.machine.specs.Words.{Measured}
 use Rattle.machine.specs.Ready.{Missed}
 use Rattle.machine.specs.Laws.Extent.{takes-inside, takes-past, extent-none, extent-on, extent-cut}
+
+-- what is lent from a position on, up to the end, is all that stands from there on
+pub rest-whole : (p : Program) (n : ℕ) → take (length p - n) (drop n p) ≡ drop n p
+rest-whole p n = take-all (length p - n) (drop n p) (simp length-drop (omega arith))
 
 -- How many bytes ----------------------------------------------------------------
 

@@ -32,14 +32,15 @@ fn nearer(a: usize, b: usize) -> usize
     b
 }
 
-// Where the bytes of the set at `base` end, from `at` on and before `stop`.
-fn bytes_end(code: &[u32], sub: &[u8], base: usize, at: usize, stop: usize) -> usize
-    requires { ⌜ (base + 8 ≤ length (now code)) × (stop ≤ length (now sub)) ⌝ }
-    ensures { λ r. ⌜ r ≡ at + extent (now (sub .entry)) (has (drop base (now (code .entry)))) (stop - at) at ⌝ }
+// Where the bytes of a class end, from `at` on and before `stop`. The class is lent from its first word on, so that its place in the rule is added
+// once for all bytes.
+fn bytes_end(class: &[u32], sub: &[u8], at: usize, stop: usize) -> usize
+    requires { ⌜ (8 ≤ length (now class)) × (stop ≤ length (now sub)) ⌝ }
+    ensures { λ r. ⌜ r ≡ at + extent (now (sub .entry)) (has (now (class .entry))) (stop - at) at ⌝ }
 {
     let mut i = at;
     while i < stop {
-        if !charset::contains(code, base, sub[i]) {
+        if !charset::contains(class, 0, sub[i]) {
             return i;
         }
         i += 1;
@@ -57,7 +58,8 @@ fn run_length(code: &[u32], sub: &[u8], pc: usize, at: u32, left: u32) -> u32
     let from = at as usize;
     let few = nearer(most, left as usize / 2 + 1);
     let stop = nearer(from + few, sub.len());
-    let end = bytes_end(code, sub, body + 3, from, stop);
+    let class = body + 3;
+    let end = bytes_end(&code[class..], sub, from, stop);
     (end - from) as u32
 }
 
@@ -104,16 +106,16 @@ fn gate_of(code: &[u32], pc: usize) -> Gate
     Gate { cost: 0, base: 0 }
 }
 
-// At how many positions from `high` down, of at most so many, no byte of the set at `base` stands.
-fn missed_ends(code: &[u32], sub: &[u8], base: usize, high: usize, most: usize) -> usize
-    requires { ⌜ (base + 8 ≤ length (now code)) × (most ≤ high + 1) ⌝ }
-    ensures { λ r. ⌜ (r ≤ most) × Missed (now (sub .entry)) (has (drop base (now (code .entry)))) high r ⌝ }
+// At how many positions from `high` down, of at most so many, no byte of a class stands; the class is lent as above.
+fn missed_ends(class: &[u32], sub: &[u8], high: usize, most: usize) -> usize
+    requires { ⌜ (8 ≤ length (now class)) × (most ≤ high + 1) ⌝ }
+    ensures { λ r. ⌜ (r ≤ most) × Missed (now (sub .entry)) (has (now (class .entry))) high r ⌝ }
 {
     let mut n: usize = 0;
     while n < most {
         let i = high - n;
         if i < sub.len() {
-            if charset::contains(code, base, sub[i]) {
+            if charset::contains(class, 0, sub[i]) {
                 return n;
             }
         }
@@ -151,7 +153,7 @@ fn leave_run(
     let ends = (high - low) as usize + 1;
     let most = nearer(ends, (left - steps) as usize + 1);
     let base = gate.base;
-    let n = missed_ends(code, sub, base, high as usize, most);
+    let n = missed_ends(&code[base..], sub, high as usize, most);
     let all = steps as u64 + (n as u64) * (cost as u64);
     if (left as u64) < all {
         return Ran::TooLong;

@@ -3,7 +3,6 @@
 use mathlib.Core.Path.{_≡_, refl, sym, _∙_}
 use Prim.Native.Nat.{_+_, _-_}
 use native.Mathlib.Omega.{arith}
-use lib.ListN.{drop}
 use denote.Ref.{now}
 use borrow.Author.Needs.{needs}
 use borrow.Author.Tests.{not-true, not-false}
@@ -15,10 +14,10 @@ use Rattle.runs.proofs.bytes_end.Statement.{statement}
 use Rattle.runs.proofs.bytes_end.Tie as tie
 
 abbrev Inv-loop : tie.InvT-loop
-Inv-loop code sub base at stop i₀ i = i + extent sub (has (drop base code)) (stop - i) i ≡ at + extent sub (has (drop base code)) (stop - at) at
+Inv-loop class sub at stop i₀ i = i + extent sub (has class) (stop - i) i ≡ at + extent sub (has class) (stop - at) at
 
 abbrev μ-loop : tie.MeasureT-loop
-μ-loop code sub base at stop i₀ i = stop - i
+μ-loop class sub at stop i₀ i = stop - i
 
 loop-holds : tie.Need-loop-holds Inv-loop μ-loop
 loop-holds c = refl
@@ -32,7 +31,7 @@ contains-requires c κs = search needs
 returns : tie.Need-returns Inv-loop μ-loop
 returns c =
     let s = c .before .before .before .before .before .before .before in
-    let f = has (drop (s .args .base) (now (s .args .code))) in
+    let f = has (now (s .args .class)) in
     sym (turn-off (now (s .args .sub)) f (c .before .before .before .before .loop .i) (s .args .stop) (takes-here (now (s .args .sub)) f (c .before .before .before .before .loop .i) (omega arith) ∙ sym (c .before .contains .ensures) ∙ not-true _ (c .if1 .taken))) ∙ c .before .before .before .before .loop .inv
 
 add-i : tie.Need-add-i Inv-loop μ-loop
@@ -44,7 +43,7 @@ loop-less c = omega arith
 loop-again : tie.Need-loop-again Inv-loop μ-loop
 loop-again c =
     let s = c .before .before .before .before .before .before .before in
-    let f = has (drop (s .args .base) (now (s .args .code))) in
+    let f = has (now (s .args .class)) in
     sym (turn-on (now (s .args .sub)) f (c .before .before .before .before .loop .i) (s .args .stop) (c .before .before .before .loop-test .taken) (takes-here (now (s .args .sub)) f (c .before .before .before .before .loop .i) (omega arith) ∙ sym (c .before .contains .ensures) ∙ not-false _ (c .if1 .left))) ∙ c .before .before .before .before .loop .inv
 
 returns-2 : tie.Need-returns-2 Inv-loop μ-loop

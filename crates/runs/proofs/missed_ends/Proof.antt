@@ -4,7 +4,6 @@ use mathlib.Core.Path.{sym, _∙_}
 use mathlib.Core.Logic.{⊎-elim}
 use Prim.Native.Nat.{_-_, _≤_}
 use native.Mathlib.Omega.{arith}
-use lib.ListN.{drop}
 use denote.Ref.{now}
 use borrow.Author.Needs.{needs}
 use Rattle.charset.specs.Class.{has}
@@ -15,10 +14,10 @@ use Rattle.runs.proofs.missed_ends.Statement.{statement}
 use Rattle.runs.proofs.missed_ends.Tie as tie
 
 abbrev Inv-loop : tie.InvT-loop
-Inv-loop code sub base high most n₀ n = (n ≤ most) × Missed sub (has (drop base code)) high n
+Inv-loop class sub high most n₀ n = (n ≤ most) × Missed sub (has class) high n
 
 abbrev μ-loop : tie.MeasureT-loop
-μ-loop code sub base high most n₀ n = most - n
+μ-loop class sub high most n₀ n = most - n
 
 loop-holds : tie.Need-loop-holds Inv-loop μ-loop
 loop-holds c = (omega arith, λ j h. absurd (omega arith))
@@ -45,7 +44,7 @@ loop-again : tie.Need-loop-again Inv-loop μ-loop
 loop-again c =
     let s = c .before .before .before .before .before in
     let sub = now (s .args .sub) in
-    let f = has (drop (s .args .base) (now (s .args .code))) in
+    let f = has (now (s .args .class)) in
     let i = s .args .high - c .before .before .loop .n in
     let none = ⊎-elim (λ w. takes-here sub f i (w .0 .taken) ∙ sym (w .2 .ensures) ∙ w .3 .left) (λ w. takes-past sub f i (w .left)) (c .if1 .came) in
     (omega arith, missed-more sub f (s .args .high) (c .before .before .loop .n) (c .before .before .loop .inv .1) none)

@@ -2,10 +2,10 @@
 -- whichever is nearest.
 use Prim.Native.Nat.{_+_, _-_}
 use native.Mathlib.Omega.{arith}
-use lib.ListN.{getD, drop}
+use lib.ListN.{getD, drop, length-drop}
 use denote.Ref.{now}
 use Rattle.charset.specs.Class.{has}
-use Rattle.runs.proofs.Bytes.{extent-low, run-ends}
+use Rattle.runs.proofs.Bytes.{rest-whole, extent-low, run-ends}
 use borrow.Author.Needs.{needs}
 use Rattle.runs.proofs.run_length.Statement.{statement}
 use Rattle.runs.proofs.run_length.Tie as tie
@@ -46,24 +46,40 @@ add-nearer-2 c = search needs
 nearer-requires-2 : tie.Need-nearer-requires-2
 nearer-requires-2 c κs = search needs
 
-add-bytes-end : tie.Need-add-bytes-end
-add-bytes-end c = search needs
+add-class : tie.Need-add-class
+add-class c = search needs
+
+mul-bytes-end : tie.Need-mul-bytes-end
+mul-bytes-end c = search needs
+
+sub-bytes-end : tie.Need-sub-bytes-end
+sub-bytes-end c = search needs
+
+part-bytes-end-start : tie.Need-part-bytes-end-start
+part-bytes-end-start c = search needs
+
+part-bytes-end-end : tie.Need-part-bytes-end-end
+part-bytes-end-end c = search needs
 
 bytes-end-requires : tie.Need-bytes-end-requires
-bytes-end-requires c κs = search needs
+bytes-end-requires c κs =
+    let s = c .before .before .before .before .before .before .before in
+    (rw (rest-whole (now (s .args .code)) (getD (now (s .args .code)) (s .args .pc + 6) 0 + 3)) (simp length-drop (omega arith)), omega (arith, c .before .nearer2 .ensures))
 
 sub-result : tie.Need-sub-result
 sub-result c = search needs
 
 cast-result : tie.Need-cast-result
 cast-result c =
-    let s = c .before .before .before .before .before .before .before in
-    omega (arith, c .bytes-end .ensures, extent-low (now (s .args .sub)) (has (drop (getD (now (s .args .code)) (s .args .pc + 6) 0 + 3) (now (s .args .code)))) (c .before .nearer2 .result - s .args .at) (s .args .at))
+    let s = c .before .before .before .before .before .before .before .before in
+    let class = getD (now (s .args .code)) (s .args .pc + 6) 0 + 3 in
+    omega (arith, rw (rest-whole (now (s .args .code)) class) at (c .bytes-end .ensures), extent-low (now (s .args .sub)) (has (drop class (now (s .args .code)))) (c .before .before .nearer2 .result - s .args .at) (s .args .at))
 
 returns : tie.Need-returns
 returns c =
-    let s = c .before .before .before .before .before .before .before in
-    run-ends (now (s .args .code)) (now (s .args .sub)) (s .args .pc) (s .args .at) (s .args .left) (c .before .before .nearer .result) (c .before .nearer2 .result) (c .bytes-end .result) (omega arith) (omega arith) (c .before .before .nearer .ensures) (c .before .nearer2 .ensures) (c .bytes-end .ensures)
+    let s = c .before .before .before .before .before .before .before .before in
+    let class = getD (now (s .args .code)) (s .args .pc + 6) 0 + 3 in
+    run-ends (now (s .args .code)) (now (s .args .sub)) (s .args .pc) (s .args .at) (s .args .left) (c .before .before .before .nearer .result) (c .before .before .nearer2 .result) (c .bytes-end .result) (omega arith) (omega arith) (c .before .before .before .nearer .ensures) (c .before .before .nearer2 .ensures) (rw (rest-whole (now (s .args .code)) class) at (c .bytes-end .ensures))
 
 pub run-length-spec : {M : Type 1} → statement M
 run-length-spec =
@@ -81,7 +97,11 @@ run-length-spec =
     nearer-requires
     add-nearer-2
     nearer-requires-2
-    add-bytes-end
+    add-class
+    mul-bytes-end
+    sub-bytes-end
+    part-bytes-end-start
+    part-bytes-end-end
     bytes-end-requires
     sub-result
     cast-result
