@@ -1,7 +1,8 @@
--- What is proved of the reading of a rule.
+-- What is proved of the reading of a rule, and of its compiled classes.
 pub mod Blanks
 pub mod Forward
 pub mod Within
 pub mod Fuel
 pub mod Formation
 pub mod Places
+pub mod ClassTest
