@@ -4,6 +4,7 @@
 // each step the machine is ready for all that are left. It costs what its nodes cost: nothing is looked up, copied or cleared between them.
 use branches::take_branch;
 use machine::BRANCH;
+use machine::BYTE;
 use machine::END;
 use machine::Machine;
 use machine::RUN;
@@ -115,6 +116,47 @@ fn leave_group(
     }
 }
 
+// Byte items one after the other: those whose bytes are there, and those that are fallen back to. They need no jump of the kind.
+fn take_bytes(
+    code: &[u32],
+    sub: &[u8],
+    regs: &mut [u32],
+    work: &mut [u32],
+    m: Machine,
+    left: u32,
+) -> Standing
+    requires { ⌜ (getD (now code) (m .pc) 0 ≡ 0) × (m .live ≡ true) × (1 ≤ left) × (length (now regs) ≡ registers) × (length (now sub) < 2 ^ 32) × (length (now code) < 2 ^ 32) ⌝ }
+    requires { ⌜ ((first : List ℕ) × (t : Trace) × Ready (now code) (now sub) (length (now work)) left first (nowOf (now regs) (now work) m) t) ⌝ }
+    ensures { λ r. ⌜ (r .rest < left) × Leads (now (code .entry)) (now (sub .entry)) (nowOf (now (regs .entry)) (now (work .entry)) m) (left - r .rest) (nowOf (now (regs .exit)) (now (work .exit)) (r .head)) ⌝ }
+{
+    let mut rest = left;
+    let mut head = Machine {
+        pc: m.pc,
+        at: m.at,
+        height: m.height,
+        live: m.live,
+    };
+    loop {
+        let next = take_byte(code, sub, regs, work, head);
+        rest -= 1;
+        let there = Standing {
+            rest: rest,
+            head: next,
+        };
+        if !next.live {
+            return there;
+        }
+        if rest == 0 {
+            return there;
+        }
+        let pc = next.pc as usize;
+        if code[pc] != BYTE {
+            return there;
+        }
+        head = next;
+    }
+}
+
 // One node that makes one step and is no end, or those that are taken together.
 fn advance(
     code: &[u32],
@@ -129,6 +171,9 @@ fn advance(
     requires { ⌜ ((first : List ℕ) × (t : Trace) × Ready (now code) (now sub) (length (now work)) left first (nowOf (now regs) (now work) m) t) ⌝ }
     ensures { λ r. ⌜ (r .rest < left) × Leads (now (code .entry)) (now (sub .entry)) (nowOf (now (regs .entry)) (now (work .entry)) m) (left - r .rest) (nowOf (now (regs .exit)) (now (work .exit)) (r .head)) ⌝ }
 {
+    if kind == BYTE {
+        return take_bytes(code, sub, regs, work, m, left);
+    }
     if kind == CLOSE {
         return leave_group(code, sub, regs, work, m, left);
     }
