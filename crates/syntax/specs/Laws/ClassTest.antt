@@ -5,7 +5,7 @@
 -- words from its fourth number on, folded and complemented when it was read. So `class-asked` is the promise, for the byte items of every rule; the
 -- two laws behind it say what the flag and the `^` do to a class.
 use mathlib.Core.Path.{_≡_, refl, ap}
-use mathlib.Core.Bool.{Bool, true, false, not, _||_, or-comm}
+use mathlib.Core.Bool.{Bool, true, false, not, or-comm}
 use mathlib.Core.List.{List, [], _∷_}
 use Prim.Native.Nat.{ℕ, _+_, _<_}
 use lib.ListN.{drop}
@@ -14,7 +14,6 @@ use Rattle.charset.specs.Named.{_to_, inRange, inNamed}
 use Rattle.charset.specs.Cases.{otherCase, folding}
 use Rattle.charset.specs.Class.{has}
 use Rattle.charset.specs.Laws.Cases.{other-twice}
-use Rattle.syntax.specs.Read.{if_then_else_}
 use Rattle.syntax.specs.Sets.{Member, single, range, named, notNamed, Class, isMember, isAny, inClass}
 use Rattle.syntax.specs.Tree.{byteIn}
 use Rattle.syntax.specs.Compiled.{CompiledItem}
