@@ -102,7 +102,7 @@ traps =
     ∷ matching "[Z-a]" 4 "z" 99 (Matched 2) (rowOf 0 1 [] ∷ [])
     ∷ matching "[\\x41-\\x5a]" 4 "q" 99 (Matched 2) (rowOf 0 1 [] ∷ [])
     -- 02 C4, C5: no other byte is folded; upper and lower are
-    ∷ matching "\u{e9}" 4 "\u{c9}" 99 (NotMatched 2) []
+    ∷ matching "é" 4 "É" 99 (NotMatched 2) []
     ∷ matching "[[:lower:]][[:upper:]]" 4 "Ab" 99 (Matched 3) (rowOf 0 2 [] ∷ [])
     -- 02 C10: a comment ends at 0A or with the rule, and what it holds is not looked at
     ∷ matching "#\ra" 8 "" 99 (Matched 1) (rowOf 0 0 [] ∷ [])
@@ -110,7 +110,7 @@ traps =
     ∷ matching "#\\" 8 "" 99 (Matched 1) (rowOf 0 0 [] ∷ [])
     -- 02 C11: 0B is skipped; 85, A0 and 00 are literals
     ∷ matching "\u{b}a" 8 "a" 99 (Matched 2) (rowOf 0 1 [] ∷ [])
-    ∷ matching "\u{85}\u{a0}\u{0}" 8 "\u{85}\u{a0}\u{0}" 99 (Matched 4) (rowOf 0 3 [] ∷ [])
+    ∷ matching "\u{85}\u{a0}\0" 8 "\u{85}\u{a0}\0" 99 (Matched 4) (rowOf 0 3 [] ∷ [])
     -- 02 C13: a blank ends the number of a reference, and is a literal behind a backslash
     ∷ matching "(a)\\1 0" 8 "aa0" 99 (Matched 7) (rowOf 0 3 (0 ∷ 1 ∷ []) ∷ [])
     ∷ matching "\\ \\#" 8 " #" 99 (Matched 3) (rowOf 0 2 [] ∷ [])
