@@ -97,6 +97,7 @@ fn long_scans() -> Vec<Case> {
         matching("long scan, missing", "needle", &text_and(LONGEST_SUBJECT, "."), GATEWAY),
         matching("long scan, at the end", r"\d+,\d+", &text_and(LONGEST_SUBJECT, "12,5"), GATEWAY),
         matching("long scan, at the end", "[#-&]", &text_and(LONGEST_SUBJECT, "#"), GATEWAY),
+        matching("scan that nearly every byte can begin", r".\d", &text_and(4_000, "4"), GATEWAY),
     ]
 }
 
