@@ -21,8 +21,10 @@ RULES = {
     "bounded repeats, `a{1,9}`": (b"a{1,9}" * 167)[:996],
     "alternation, `a|`": b"a|" * 500,
     "groups, `(?:a)`": b"(?:a)" * 200,
-    "names, `[[:alpha:]]`": b"[[:alpha:]]" * 90,
+    "named sets, `[[:alpha:]]`": b"[[:alpha:]]" * 90,
     "references, `\\1`": b"(a)" + b"\\1" * 498,
+    "references by name, `\\k<n>`": b"(?<n>a)" + b"\\k<n>" * 198,
+    "32 names, alike up to the end": b"".join(b"(?<abcdefghijklmn%02d>)" % k for k in range(32)) + b"\\k<abcdefghijklmn31>" * 13,
 }
 
 

@@ -11,6 +11,7 @@
 enum { BUDGET = 100000, WORK_AREA = BUDGET * TERRAVISCO_WORK_PER_STEP };
 
 static uint32_t rule_area[TERRAVISCO_RULE_AREA], work_area[WORK_AREA], result[TERRAVISCO_ROW], answer[6];
+static uint8_t names[TERRAVISCO_NAME_INDEX];
 
 /* Called through a pointer that can change, so that the compiler keeps each call. */
 static void *(*volatile fill)(void *, int, size_t) = memset;
@@ -26,7 +27,7 @@ static double nanoseconds(void)
 static void match(uint32_t budget)
 {
     terravisco_match((const uint8_t *)"", 0, 0, (const uint8_t *)"", 0, budget, rule_area, TERRAVISCO_RULE_AREA, work_area, WORK_AREA,
-                     result, TERRAVISCO_ROW, answer);
+                     result, TERRAVISCO_ROW, names, TERRAVISCO_NAME_INDEX, answer);
 }
 
 static void with_budget(void) { match(BUDGET); }

@@ -27,6 +27,16 @@ fn link_terravisco() {
     std::fs::copy(&archive, folder.join("libterravisco.a")).expect("the archive can be copied");
     println!("cargo:rustc-link-search=native={}", folder.display());
     println!("cargo:rustc-link-lib=static=terravisco");
+    println!("cargo:rustc-check-cfg=cfg(before_names)");
+    if !has_lookup(&archive) {
+        println!("cargo:rustc-cfg=before_names");
+    }
+}
+
+/// Whether the archive has the field lookup, and with it calls that fill a name index. One from before them can still be timed.
+fn has_lookup(archive: &Path) -> bool {
+    let name = b"terravisco_field";
+    std::fs::read(archive).expect("the archive can be read").windows(name.len()).any(|bytes| bytes == name)
 }
 
 /// A folder that cargo names in the environment.

@@ -1,5 +1,6 @@
 #!/usr/bin/env python3
-"""Writes the calls that crates/call_vectors is run on, and what it must say of them: outcomes, steps and rows, and refusals 1 to 7.
+"""Writes the calls that crates/call_vectors is run on, and what it must say of them: outcomes, steps, rows and names, and refusals 1 to
+8.
 
 What must be said comes from reference.py, an independent reading of documents 01 and 02: no line of it is shared with the library.
 Usage: harness/call_vectors.py (in the repository's root)
@@ -9,10 +10,10 @@ from pathlib import Path
 
 import reference
 from reference import I, X
-from walk_vectors import READINGS, within_references
+from walk_vectors import NAMED_READINGS, READINGS, within_references
 
 TARGET = Path(__file__).resolve().parent.parent / "crates" / "call_vectors"
-RULE_AREA, ROW = 16384, 66
+RULE_AREA, ROW, INDEX = 16384, 66, 544
 MOST = 100000  # the largest budget
 # Classes of every kind of member, complemented and not.
 CLASSES = [b"[k]", b"[^k]", b"[W-c]", b"[^A-Y]", b"[[:upper:]]", b"[^[:^upper:]b]", b"[[:^lower:]0-9]", b"[\\x00\\x1F-!\\x7e-\\x81\\xFE\\xff]", b"[^\\W_[:digit:]]", b"[^\\d\\D]"]
@@ -23,13 +24,22 @@ def row_line(row):
     return "  %d %d%s" % (row[0], row[1], spans)
 
 
+def names_line(index):
+    """The entries that are not all 00, each with its group and its 17 bytes; no line where there is none."""
+    entries = [(g, index[17 * g - 17:17 * g]) for g in range(1, 33)]
+    shown = "".join(" %d:%s" % (g, entry.hex()) for g, entry in entries if any(entry))
+    return ["  names" + shown] if shown else []
+
+
 def refusal(rule, flags, subject, budget, areas):
-    """Refusals 1 to 7, in their order; 0 for none."""
-    tests = [len(rule) > 1000, len(subject) > 65535, flags > 15, budget > 100000, areas[0] < RULE_AREA, areas[1] < 16 * budget, areas[2] < ROW]
+    """Refusals 1 to 8, in their order; 0 for none."""
+    tests = [len(rule) > 1000, len(subject) > 65535, flags > 15, budget > 100000, areas[0] < RULE_AREA, areas[1] < 16 * budget, areas[2] < ROW,
+             areas[3] < INDEX]
     return tests.index(True) + 1 if True in tests else 0
 
 
 def told(kind, rule, flags, subject, budget, areas):
+    """The lines of one call: its outcome, its rows and, if it has names, those."""
     number = refusal(rule, flags, subject, budget, areas)
     if number:
         return ["refused %d at 0" % number]
@@ -40,11 +50,12 @@ def told(kind, rule, flags, subject, budget, areas):
             got = reference.listing(rule, flags, subject, budget, areas[2] // ROW)
     except reference.Refuse as refused:
         return ["refused %d at %d" % (refused.n, refused.p)]
+    names = names_line(reference.index(rule, flags))
     if kind == 0:
         return {"M": lambda: ["matched %d steps" % got[1], row_line(got[2])], "N": lambda: ["not matched %d steps" % got[1]],
-                "X": lambda: ["exhausted at %d %d steps" % (got[1], got[2])]}[got[0]]()
+                "X": lambda: ["exhausted at %d %d steps" % (got[1], got[2])]}[got[0]]() + names
     head = {"C": "complete", "F": "full"}.get(got[0]) or "exhausted at %d" % got[1]
-    return ["%s %d steps" % (head, got[-2])] + [row_line(row) for row in got[-1]]
+    return ["%s %d steps" % (head, got[-2])] + [row_line(row) for row in got[-1]] + names
 
 
 def sound(rule, flags):
@@ -55,7 +66,7 @@ def sound(rule, flags):
 
 
 def cases():
-    """kind, rule, flags, subject, budget, lengths of the areas."""
+    """kind, rule, flags, subject, budget, lengths of the areas, and of the name index where it is not just enough."""
     for rule, flags, subject in READINGS:
         for kind in (0, 1):
             yield kind, rule, flags, subject, 1000, (RULE_AREA, 16000, 6600)
@@ -93,6 +104,25 @@ def cases():
         yield kind, b"(", 0, b"a", 10, (RULE_AREA, 0, 0)
         yield kind, b"(", 0, b"a", 10, (RULE_AREA, 160, 0)
         yield kind, b"(", 0, b"a", 10, (RULE_AREA, 160, ROW)
+        yield from names(kind)
+
+
+def names(kind):
+    """Indices around 544 bytes; refusals 7, 8 and those of the rule in their order; the index after each outcome; the most names and the longest."""
+    for index in (0, 543, 544, 545):
+        for rule in (b"", b"(?<n>a)", b"(?<n>a", b"(?<n>a)(?<n>b)", b"\\k<n>"):
+            yield kind, rule, 0, b"a", 10, (RULE_AREA, 160, ROW, index)
+        yield kind, b"(?<n>a", 0, b"a", 10, (RULE_AREA, 160, ROW - 1, index)
+        yield kind, b"(", 16, b"a" * 65536, 100001, (0, 0, 0, index)
+    for index in (546, 561, 599, 600):
+        yield kind, b"(?<n>a)", 0, b"a", 10, (RULE_AREA, 160, ROW, index)
+    for rule, flags, subject in NAMED_READINGS:
+        yield kind, rule, flags, subject, 1000, (RULE_AREA, 16000, 6600)
+    for rule, budget in ((b"(?<n>b)", 10), (b"(?<n>a)(?<m>b)?", 3), (b"()(?<litres>\\d+)()", 100), (b"(?<A>a)|(?<a>a)|(?<_>a)", 100)):
+        yield kind, rule, 0, b"a1", budget, (RULE_AREA, 16 * budget, 4 * ROW, 600)
+    many = b"(?<n%d>a?)" if kind else b"(?<abcdefghijkl_%03d>a?)"
+    yield kind, b"".join(many % k for k in range(32)), 0, b"aa", 1000, (RULE_AREA, 16000, ROW, 545)
+    yield kind, b"()" * 31 + b"(?<abcdefghijklmnop>a)", 0, b"a", 1000, (RULE_AREA, 16000, ROW, 544)
 
 
 def classes():
@@ -126,8 +156,10 @@ def at_the_largest_budget(kind):
 def main():
     asked, answers = [], []
     for kind, rule, flags, subject, budget, areas in cases():
+        areas += (INDEX,) * (4 - len(areas))
         given = "x%d" % len(subject) if subject == b"a" * len(subject) and len(subject) > 1000 else subject.hex()
-        asked.append("%d %d %d %d %d %d %s %s\n" % (kind, flags, budget, *areas, rule.hex(), given))
+        # call, flags, budget, the lengths of the areas and of the name index, rule, subject
+        asked.append("%d %d %d %d %d %d %d %s %s\n" % (kind, flags, budget, *areas, rule.hex(), given))
         answers += told(kind, rule, flags, subject, budget, areas)
     TARGET.joinpath("stdin").write_text("".join(asked))
     TARGET.joinpath("stdout").write_text("".join(line + "\n" for line in answers))

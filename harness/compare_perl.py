@@ -45,7 +45,7 @@ def set_cases():
 
 def random_case():
     flags = random.randint(0, 15)
-    rule = random_rule(3, flags).encode()
+    rule = random_rule(3, flags, random.random() < 0.4).encode()
     return rule, flags, "".join(random.choice("aAab1\ncB") for _ in range(random.randint(0, 6))).encode()
 
 

@@ -1,41 +1,62 @@
 #!/usr/bin/env python3
-"""Compares reference.py with the independent matcher in src/independent on random calls: outcomes, steps, rows, refusals with their places.
+"""Compares reference.py with the independent matcher in src/independent on random calls: outcomes, steps, rows, names, refusals with
+their places.
 
 Neither is the library, and they share no line: where they differ, one of the two reads the documents wrongly.
 Usage: harness/compare_reference.py [ARGUMENTS OF print_calls] (after `cargo build --release` in harness/)
+       harness/compare_reference.py --lookups [ARGUMENTS OF print_lookups], for the field lookup
 """
 import subprocess
 import sys
 from pathlib import Path
 
 import call_vectors
+import reference
 
-PROGRAM = Path(__file__).resolve().parent / "target" / "release" / "print_calls"
+PROGRAMS = Path(__file__).resolve().parent / "target" / "release"
 
 
 def shown(lines):
     """The lines of call_vectors in the words of the independent matcher."""
-    head, rows = lines[0], []
+    head, rows, names = lines[0], [], ""
     for line in lines[1:]:
         first, end, *spans = line.split()
-        rows.append(" ".join([first + "-" + end] + spans))
+        if first == "names":
+            names = line[1:]
+        else:
+            rows.append(" ".join([first + "-" + end] + spans))
     if head.startswith("refused"):
         return head
     ending, steps, _ = head.rsplit(" ", 2)
-    return "%s, %s steps [%s]" % (ending, steps, "; ".join(rows))
+    return "%s, %s steps [%s]%s" % (ending, steps, "; ".join(rows), names)
+
+
+def call(fields):
+    """What reference.py says of a line of print_calls."""
+    *numbers, rule, subject = fields
+    kind, flags, budget, *areas = map(int, numbers)
+    return shown(call_vectors.told(kind, bytes.fromhex(rule), flags, bytes.fromhex(subject), budget, areas))
+
+
+def lookup(fields):
+    """What reference.py says of a line of print_lookups."""
+    name, index, line, kind, row, standing = fields
+    field = reference.field(bytes.fromhex(name), bytes.fromhex(index), bytes(int(line)), int(kind), list(map(int, row.split())), bytes(int(standing)))
+    return "%d %d %d" % field
 
 
 def main():
-    calls = differ = 0
-    for line in subprocess.run([PROGRAM, *sys.argv[1:]], capture_output=True, text=True, check=True).stdout.splitlines():
-        *numbers, rule, subject, answer = line.split("\t")
-        kind, flags, budget, *areas = map(int, numbers)
-        ours = shown(call_vectors.told(kind, bytes.fromhex(rule), flags, bytes.fromhex(subject), budget, areas))
-        calls += 1
+    arguments, compared, differ = sys.argv[1:], 0, 0
+    program, told, what = ("print_lookups", lookup, "lookups") if "--lookups" in arguments else ("print_calls", call, "calls")
+    given = [word for word in arguments if word != "--lookups"]
+    for line in subprocess.run([PROGRAMS / program, *given], capture_output=True, text=True, check=True).stdout.splitlines():
+        *fields, answer = line.split("\t")
+        ours = told(fields)
+        compared += 1
         if ours != answer:
             differ += 1
             print("%s\n  reference:   %s\n  independent: %s" % (line.rsplit("\t", 1)[0], ours, answer))
-    print("%d calls compared, %d differ" % (calls, differ))
+    print("%d %s compared, %d differ" % (compared, what, differ))
     sys.exit(differ > 0)
 
 

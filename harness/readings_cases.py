@@ -188,6 +188,10 @@ def refusals(t):
     refused("(", b"(", "20 at 0: this bracket is not closed by )\n  (\n  ^\n")
     refused("[z-a]", b"[z-a]", "15 at 1: a range that runs backwards, or with a set of bytes at one of its ends\n  [z-a]\n   ^   \n")
     refused("no group", b"(a)\\2", "13 at 3: a reference to a group that the rule has not\n  (a)\\2\n     ^ \n")
+    refused("no such name", b"(?<a>a)\\k<b>", "13 at 7: a reference to a group that the rule has not\n  (?<a>a)\\k<b>\n         ^    \n")
+    refused("a name twice", b"(?<a>a)|(?<a>b)", "26 at 8: this name is used twice\n  (?<a>a)|(?<a>b)\n          ^      \n")
+    refused("a name that begins with a digit", b"a(?<7>b)", "25 at 1: a name is missing, malformed or not closed\n  a(?<7>b)\n   ^      \n")
+    refused("a name with a blank, under x", b"(?<a b>b)", "25 at 0: a name is missing, malformed or not closed\n  (?<a b>b)\n  ^        \n", flags=8)
     refused("odd bytes", b"\t\xff)", "21 at 2: a ) that closes nothing\n  ..)\n    ^\n")
     refused("a blank before the `?`", b" \ta* ?", "19 at 5: a repeat of a repeat\n   .a* ?\n       ^\n", flags=8)
     refused("a blank in an opening", b"( ?:a)", "17 at 2: a repeat with nothing before it that it could repeat\n  ( ?:a)\n    ^   \n", flags=8)
@@ -198,8 +202,9 @@ def refusals(t):
              14: (b"[a", "this class is not closed by ]"), 16: (b"[[:no:]]", "no set has this name"),
              17: (b"*", "a repeat with nothing before it that it could repeat"),
              18: (b"a{256}", "a { that begins no repeat, or a repeat over 255 or with its bounds the wrong way round"),
-             22: (b"(?a)", "(? is not followed by :"), 23: (b"()" * 33, "the 33rd group; a rule has at most 32"),
-             24: (b"(" * 25, "the 25th bracket inside another; they nest at most 24 deep")}
+             22: (b"(?a)", "(? is followed by neither : nor <"), 23: (b"()" * 33, "the 33rd group; a rule has at most 32"),
+             24: (b"(" * 25, "the 25th bracket inside another; they nest at most 24 deep"), 25: (b"\\k<", "a name is missing, malformed or not closed"),
+             26: (b"(?<n>)(?<n>)", "this name is used twice")}
     for number, (rule, meaning) in rules.items():
         Path("rule").write_bytes(rule)
         ran = subprocess.run([str(PROGRAM), "rule", "lines"], capture_output=True)
@@ -311,6 +316,10 @@ line 1: exhausted at start 0, 2 readings until then
          out="line 1: 1 reading\nline 2: 1 reading\nline 3: not matched\n              HALL 3 tank\n" + summary(3, once=2, unmatched=1))
     t.on("the letter x", rb"^ (?: ( \d{1,3},\d{3} ) | ( \d+,\d+ ) ) \  L $  # 1,5 L and 1,500 L (both", b"1,500 L\n", words=["x"],
          out=TWO + summary(1, ambiguous="1"))
+    t.on("names", rb"^(?:(?<thousands>\d{1,3},\d{3})|(?<decimal>\d+,\d+)) L$", b"1,500 L\n", out=TWO + summary(1, ambiguous="1"))
+    t.on("references by name", rb"^(?<tank>\w+) (?<litres>\d+) \g{tank}$", b"A1 7 A1\nA1 7 B2", out="line 1: 1 reading\nline 2: not matched\n              A1 7 B2\n"
+         + summary(2, once=1, unmatched=1))
+    t.on("a name before its group", rb"(?:\k'n'c|(?<n>b))+", b"bbc\n")
     t.on("both letters", rb"( A ) \1 | [ B ] + # twice", b"aAbB\n A b \n", flags=12, words=["xi"])
     for flags in range(16):
         t.on("flags %d" % flags, rb"^ A .* [^b]$|[[:^upper:]] #", b"aXb\n A  B\n#", flags=flags)
@@ -341,7 +350,8 @@ def unwritten(t):
 
 def random_rules(t, seed):
     chance = random.Random(seed)
-    atoms = [b"a", b"b", b"A", b".", b" ", b"\\d", b"(a)", b"(a|B)", b"(?:a|ab)", b"(b ?)", b"^", b"$", b"([aB]+)", b"(\\w)", b"[^A]", b"[[:upper:]]"]
+    atoms = [b"a", b"b", b"A", b".", b" ", b"\\d", b"(a)", b"(a|B)", b"(?:a|ab)", b"(b ?)", b"^", b"$", b"([aB]+)", b"(\\w)", b"[^A]", b"[[:upper:]]", b"(?<n>a+)", b"(?<m>[bB])", b"\\k<n>",
+             b"\\g{m}"]
     for n in range(150):
         rule = b"".join(chance.choice(atoms) + chance.choice([b"", b"", b"", b"*", b"?", b"+?", b"{1,2}"]) for _ in range(chance.randint(1, 4)))
         lines = [bytes(chance.choice(b"aAabB1 \t\xe9\xc9") for _ in range(chance.choice([0, 1, 2, 3, 5, 8, 70]))) for _ in range(chance.randint(1, 6))]

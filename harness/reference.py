@@ -14,9 +14,10 @@ D=rng((0x30,0x39)); UP=rng((0x41,0x5a)); LO=rng((0x61,0x7a)); AL=UP|LO
 SETS={'digit':D,'word':D|AL|{0x5f},'space':rng((9,13),(32,32)),'alpha':AL,'upper':UP,'lower':LO,'alnum':D|AL,'xdigit':rng((0x30,0x39),(0x41,0x46),(0x61,0x66)),'blank':frozenset({9,32}),'cntrl':rng((0,31),(127,127)),'ascii':rng((0,127)),'print':rng((0x20,0x7e)),'graph':rng((0x21,0x7e)),'punct':rng((0x21,0x2f),(0x3a,0x40),(0x5b,0x60),(0x7b,0x7e))}
 H=frozenset({9,32,0xa0}); V=rng((10,13),(0x85,0x85)); ALL=frozenset(range(256))
 def fold(t): return frozenset(t)|frozenset(b^32 for b in t if b in AL)
+WORD='0123456789abcdefghijklmnopqrstuvwxyzABCDEFGHIJKLMNOPQRSTUVWXYZ_'
 LET={'d':D,'w':SETS['word'],'s':SETS['space'],'h':H,'v':V}
 class Parser:
-    def __init__(s,r,flags): s.r=r; s.flags=flags; s.i=0; s.opened=0; s.refs=[]
+    def __init__(s,r,flags): s.r=r; s.flags=flags; s.i=0; s.opened=0; s.refs=[]; s.names={}
     def fold(s,t): return fold(t) if s.flags&I else frozenset(t)
     def blanks(s):
         """under x: moves past blanks and comments"""
@@ -32,9 +33,21 @@ class Parser:
     def parse(s):
         t=s.alt(0,None)
         if s.i<len(s.r): raise Refuse(21,s.i)
-        for p,n in sorted(s.refs):
-            if n<1 or n>s.opened: raise Refuse(13,p)
-        return t,s.opened
+        for p,n in s.refs: # they are met by rising places
+            if not 1<=s.number(n)<=s.opened: raise Refuse(13,p)
+        return s.resolved(t),s.opened
+    def number(s,n): return s.names.get(n,0) if isinstance(n,bytes) else n
+    def resolved(s,t):
+        """the tree with numbers in place of names, which may stand behind a reference"""
+        if isinstance(t,list): return [s.resolved(x) for x in t]
+        if not isinstance(t,tuple): return t
+        if t[0]=='ref': return t[:2]+(s.number(t[2]),)+t[3:]
+        return t[:1]+tuple(s.resolved(x) for x in t[1:])
+    def name(s,i,close,at):
+        """the name from i on, closed by this sign, and where it ends; 25 at the place"""
+        n,j=s.run(i,WORD)
+        if not 1<=len(n)<=16 or n[0] in '0123456789' or s.ch(j)!=close: raise Refuse(25,at)
+        return n.encode(),j+1
     def alt(s,depth,opening):
         bs=[s.seq(depth)]
         while s.ch(s.i)=='|':
@@ -77,15 +90,20 @@ class Parser:
             it=s.atom(); items.append(it); last='place' if it[0]=='place' else 'item'
         return ('seq',items)
     def group(s,depth):
-        at=s.i
-        if s.ch(at+1)=='?':
+        at=s.i; plain=s.ch(at+1)!='?'; named=not plain and s.ch(at+2)=='<'
+        if not plain and not named:
             if s.ch(at+2)!=':': raise Refuse(22,at)
             if depth>=24: raise Refuse(24,at)
             s.i=at+3; t=s.alt(depth+1,at); g=t
         else:
             if s.opened>=32: raise Refuse(23,at)
             if depth>=24: raise Refuse(24,at)
-            s.opened+=1; k=s.opened; s.i=at+1; t=s.alt(depth+1,at); g=('group',k,t)
+            s.opened+=1; k=s.opened; s.i=at+1
+            if named:
+                n,s.i=s.name(at+3,'>',at)
+                if n in s.names: raise Refuse(26,at)
+                s.names[n]=k
+            t=s.alt(depth+1,at); g=('group',k,t)
         if s.ch(s.i)!=')': raise Refuse(20,at)
         s.i+=1
         return g
@@ -138,9 +156,14 @@ class Parser:
         if c=='0': return ('set',at,s.fold({s.octal(at,3)}))
         if c and c in '123456789':
             d,j=s.run(at+1,'0123456789'); s.i=j; return s.ref(at,int(d))
+        if c=='k':
+            close={'{':'}','<':'>',"'":"'"}.get(s.ch(at+2))
+            if close is None: raise Refuse(25,at)
+            n,s.i=s.name(at+3,close,at); return s.ref(at,n)
         if c=='g':
             i=at+2; br=s.ch(i)=='{'
             if br: i+=1
+            if br and s.ch(i) and s.ch(i) in WORD[10:]: n,s.i=s.name(i,'}',at); return s.ref(at,n)
             neg=s.ch(i)=='-'
             if neg: i+=1
             d,j=s.run(i,'0123456789')
@@ -259,6 +282,21 @@ def row(start,i,caps):
         a,b=caps.get(g,(U,U)); out+=[a,b]
     return tuple(out)
 def read(rule,flags): return Parser(rule,flags).parse()
+def index(rule,flags):
+    """the name index of a sound rule: 32 entries of 17 bytes"""
+    p=Parser(rule,flags); p.parse(); by={k:n for n,k in p.names.items()}
+    return b''.join((bytes([len(n)])+n).ljust(17,b'\0') for n in (by.get(k,b'') for k in range(1,33)))
+def field(name,idx,line,kind,row,standing):
+    """the field lookup: 0 for the line or 1 for the standing text, from, to"""
+    entries=[idx[i:i+17] for i in range(0,min(len(idx),544)-16,17)]
+    hits=[k for k,e in enumerate(entries) if 1<=e[0]<=16 and e[1:1+e[0]]==name]
+    if not hits or kind!=0 or len(row)<66: return 1,0,0
+    start,end=row[0],row[1]
+    pairs=[(row[2*k+2],row[2*k+3]) for k in range(32)]
+    if start>end or end>len(line): return 1,0,0
+    if any(p!=(U,U) and not start<=p[0]<=p[1]<=end for p in pairs): return 1,0,0
+    a,b=pairs[hits[0]]
+    return (1,0,len(standing)) if (a,b)==(U,U) else (0,a,b)
 def match(rule,flags,sub,budget):
     t,g=read(rule,flags); total=0
     for st in range(len(sub)+1):

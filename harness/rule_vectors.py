@@ -17,7 +17,7 @@ TARGET = ROOT / "crates" / "rule_vectors"
 # A fault for each refusal number; 10 and 14 take what follows them with them.
 FAULTS = {
     10: b"\\", 11: b"\\q", 12: b"\\x", 13: b"\\9", 14: b"[a", 15: b"[z-a]", 16: b"[[:no:]]", 17: b"|*", 18: b"a{", 19: b"a**",
-    20: b"(", 21: b")", 22: b"(?a", 23: b"()" * 33, 24: b"(" * 25,
+    20: b"(", 21: b")", 22: b"(?a", 23: b"()" * 33, 24: b"(" * 25, 25: b"(?<1>", 26: b"(?<a>)(?<a>)",
 }
 
 # Examples of Perl's documents that are about syntax: those within this build, and those that it refuses by design.
@@ -222,8 +222,24 @@ BLANKS = [
     b"()" * 32 + b" (", b" (" * 25, b" (" * 24 + b" )" * 24, b" " * 1000, b" " * 999 + b"(", b"a" + b"\n" * 998 + b"*", b"#" * 999 + b"\n", b"a " * 500, b" " * 998 + b"\\1",
 ]
 
+# Names and references by name: sound ones, and each way in which they are not.
+NAMES = [
+    b"(?<litres>\\d+)", b"(?<litres>\\d+)\\g{litres}\\k{litres}\\k<litres>\\k'litres'", b"\\k<a>(?<a>b)", b"\\g{b}(?<a>)|(?<b>)", b"(?<a>\\k<a>)*", b"(a)(?<b>b)((?<c>c))\\g{c}\\3\\g-1",
+    b"(?<_>)(?<_1>)(?<Z>)(?<z9_>)", b"(?<a>)(?<A>)\\k<A>", b"(?<a>)(?<aa>)(?<aaa>)", b"(?<aa>)\\k<a>", b"(?<a>)\\k<aa>", b"(?<a>)\\k<A>", b"(?<n>)?\\k{n}*?", b"(?<n>)**", b"(?<n>*)", b"\\k<n>**(?<n>)",
+    b"(?<", b"(?<a", b"(?<a>", b"(?<>)", b"(?<1>)", b"(?<a-b>)", b"(?<a b>)", b"(?< a>)", b"(?<a >)", b"(?<a}b)", b"(?<a'b)", b"(?<=a)", b"(?<!a)", b"(?'a'b)", b"(?P<a>b)", b"(?P=a)", b"(?&a)", b"(?<a>)(?<a", b"(?<a>)(?<a>",
+    b"(?<a>(?<a>))", b"(?<a>)|(?<a>)", b"(?<a>)(?<b>)(?<a>)", b"(?<a>)(?<a1>)(?<a>)", b"()" * 32 + b"(?<1>)", b"()" * 32 + b"(?<a>)", b"(?<a>)" + b"()" * 31 + b"(?<a>)", b"(" * 24 + b"(?<1>)", b"(" * 24 + b"(?<a>)",
+    b"(?<a>" + b"(" * 23 + b"(?<a>)", b"(?<a>" * 25, b"(?<a>(?<b>(?<c>(?<d>", b"(?<a>[", b"(?<a>\\", b"\\k<b>(?<a>)(?<a>)", b"\\2\\k<z>", b"\\k<z>\\2", b"(?<a>)\\k<z>\\2", b"\\k<z>(", b"\\k<z>**", b"a\\k<z>\\k<1>",
+    b"\\k", b"\\ka", b"\\k1", b"\\k<1>", b"\\k{}", b"\\k<>", b"\\k''", b"\\k<a}", b"\\k{a>", b"\\k'a>", b"\\k<a'", b"\\k<a", b"\\k{a", b"\\k'a", b"\\k<", b"\\k{", b"\\k'", b"\\k\\", b"\\k{1}", b"(a)\\k{1}", b"\\k{-1}", b"\\k(a)", b"\\k[a]", b"\\k<a-b>",
+    b"(?<a>)\\k{ a}", b"(?<a>)\\k{a }", b"(?<a>)\\k< a>", b"\\k {a}", b"[\\k]", b"[\\k<a>]", b"[\\g{a}]", b"[(?<a>]", b"[\\k", b"(\\k", b"(?<a>)[a-\\k<a>]", b"\\g{a", b"\\g{a b}", b"\\g{a }", b"\\g{_", b"\\g{_}", b"\\g{a-}", b"\\g{a>",
+    b"\\g{1a}", b"\\g{-a}", b"\\g{ a}", b"\\ga", b"\\g_", b"\\g<a>", b"\\g'a'", b"\\g{\\", b"(?<a>)\\ga", b"(?<a>)\\g{a}{2}", b"(?<a>)\\k<a>{", b"\\g{a}",
+    *(b"(?<%s>)\\k<%s>\\g{%s}" % (n, n, n) for n in (b"a" * 15, b"a" * 16, b"_9" * 8)), *(b"(?<%s>)" % (b"a" * n) for n in (17, 18, 272)),
+    *(form % (b"a" * n) for n in (16, 17, 257) for form in (b"\\k<%s>", b"\\k{%s}", b"\\k'%s'", b"\\g{%s}")), b"\\g{" + b"c" * 996 + b"}",
+    *(b"".join(b"(?<n%d>)" % k for k in range(n)) for n in (31, 32, 33)), b"".join(b"(?<abcdefghijkl_%03d>)" % k for k in range(32)) + b"\\k'abcdefghijkl_031'" * 15,
+    b"".join(b"(?<n%d>)" % (k % 31) for k in range(32)), b"\\k<n31>\\g{n0}" + b"".join(b"(?<n%d>)" % k for k in range(32)),
+]
+
 # Rules whose parts blanks must not stand in: one is put at each of their places.
-WHOLE = [b"(?:a){1,2}?", b"()\\g{-1}*?", b"\\x{41}\\x4a+", b"\\o{7}\\cA\\012", b"[[:^digit:]a-z]??", b"()|\\1", b"^a*$"]
+WHOLE = [b"(?<a>)\\k<a>*", b"(?<b>)\\g{b}", b"(?:a){1,2}?", b"()\\g{-1}*?", b"\\x{41}\\x4a+", b"\\o{7}\\cA\\012", b"[[:^digit:]a-z]??", b"()|\\1", b"^a*$"]
 
 # Folding moves no verdict: the ends of a range are compared as they are written.
 LETTERS = [b"[a-Z]", b"[Z-a]", b"[z-A]", b"[A-a]", b"[\\x41-\\x5a]", b"[a-\\w]", b"[[:UPPER:]]", b"[[:^upper:]]", b"\\Q", b"\\D", b"(A)\\1"]
@@ -248,6 +264,14 @@ def rules():
     yield from BOUNDARIES
     yield from PRECEDENCE
     yield from NO_BREAK_SPACES
+    yield from NAMES
+    # each byte in a name and behind it, and those that could begin or end one
+    for b in range(256):
+        yield b"(?<" + bytes([b]) + b">)"
+    for b in [*range(0x20, 0x7F), 0, 10, 0x80, 0xAA, 0xB5, 0xC0, 0xFF]:
+        yield b"(?<a" + bytes([b]) + b")"
+        yield b"\\k" + bytes([b]) + b"a>"
+        yield b"\\g{" + bytes([b])
     for first in FAULTS.values():
         for second in FAULTS.values():
             yield first + second
@@ -276,6 +300,7 @@ def main():
     cases += [(rule, flags) for flags in (1, 2, 3) for rule in (b".", b"^", b"$", b"^a.b$", b"(?:^|$)*", b"^*", b".*")]
     cases += [(rule, X) for rule in dict.fromkeys(rules_under_x())]
     cases += [(rule, I) for rule in LETTERS]
+    cases += [(rule, flags) for flags in (I, X, I | X) for rule in (b"(?<a>)(?<A>)\\k<A>", b"(?<a>)\\k<A>", b"(?<a>#)\n)\\k<a> *", b"(?<#>)\n)", b"(?<a>) \\g {a}", b"(?<a>)(?<a>)")]
     cases += [(rule, flags) for flags in range(16) for rule in (b"^ *", b". *", b"[A-z]  {2 }", b"(a) \\1#\\2")]
     TARGET.mkdir(parents=True, exist_ok=True)
     # One hex digit for the flags, and the rule's bytes behind it.

@@ -36,9 +36,15 @@ READINGS = [
     (b"^ (?: ( \\d{1,3} , \\d{3} ) | ( \\d+ , \\d+ ) ) \\ L $ # litres", X, b"1,500 L"), (b"( A ) \\1 # twice", I | X, b"aA"), (b"^ A . B $ #\n", S | M | I | X, b"a\nb\n"),
     (b" a B | [^ a ] ", I | X, b"Ab"),
 ]
+# The same with names.
+NAMED_READINGS = [
+    (b"(?<litres>\\d+)=\\k<litres>", 0, b"7=7"), (b"(?<a>b|c\\g{a})+", 0, b"bcb"), (b"\\k'a'(?<a>b)", 0, b"bb"), (b"(?:\\k{a}c|(?<a>b))+", 0, b"bbc"), (b"(?<a>b)(?<A>c)\\k<A>", I, b"bcC"),
+    (b"(?<n> a* ) , \\k<n> $", X, b"aa,aa"), (b"(?<a>)|(?<a>)", 0, b""), (b"(?<a>b)\\k<c>", 0, b"bb"), (b"(?<a", 0, b""), (b"\\k{ a}(?<a>)", X, b""), (b"(a)(?<b>b)?(?:c)((?<d>d))", 0, b"acd"),
+]
 ATOMS = ["a", "b", "c", ".", "^", "$", "\\b", "\\B", "\\A", "\\z", "\\Z", "\\d", "\\w", "[ab]", "[^a]", "[a-c]", "\\1", "\\2", "\\g-1", "\\n", "1", "\\N"]
 FOLDED = ["A", "B", "[A-B]", "[^B]", "[[:upper:]]", "[[:^lower:]]", "[Z-a]", "\\x41", "(A)", "\\1"]  # what `i` makes a difference to
 BLANKS = [" ", "\t", "\n", "\x0b", "#\n", "# (\n"]  # what `x` skips
+NAMED = ["(?<%s>a)", "(?<%s>a|b)", "(?<%s>[ab]*)", "(?<%s>)", "\\k<%s>", "\\k{%s}", "\\k'%s'", "\\g{%s}"]  # with one of two names, which may be used twice or never
 REPEATS = ["*", "+", "?", "*?", "+?", "??", "{2}", "{0,2}", "{1,}", "{1,2}?", "{0}"]
 
 
@@ -46,14 +52,16 @@ def blank(flags):
     return random.choice(BLANKS) if flags & X and random.random() < 0.3 else ""
 
 
-def random_rule(depth, flags=0):
-    """A rule; under `i` half of its atoms are such as `i` tells apart, under `x` blanks and comments stand between its parts."""
+def random_rule(depth, flags=0, named=False):
+    """A rule; under `i` half of its atoms are such as `i` tells apart, under `x` blanks and comments stand between its parts; `named` has names."""
     branches = []
     for _ in range(random.choice([1, 1, 1, 2, 3])):
         text = blank(flags)
         for _ in range(random.randint(0, 3)):
             if depth > 0 and random.random() < 0.4:
-                part = "(" + random.choice(["", "?:"]) + random_rule(depth - 1, flags) + ")"
+                part = "(" + random.choice(["", "?:"]) + random_rule(depth - 1, flags, named) + ")"
+            elif named and random.random() < 0.5:
+                part = random.choice(NAMED) % random.choice(["n", "m"])
             else:
                 part = random.choice(FOLDED if flags & I and random.random() < 0.5 else ATOMS)
             if part not in ("^", "$", "\\b", "\\B", "\\A", "\\z", "\\Z") and random.random() < 0.4:
@@ -84,7 +92,7 @@ def told(rule, flags, subject, start, budget):
 
 
 def cases():
-    for rule, flags, subject in READINGS:
+    for rule, flags, subject in READINGS + NAMED_READINGS:
         for start in range(len(subject) + 1):
             yield rule, flags, subject, start, 20000
         steps = told(rule, flags, subject, 0, 20000)[1]
@@ -96,15 +104,18 @@ def cases():
     yield from random_walks(150, I, "aAbB1\nZ")
     yield from random_walks(100, X, "aab1\nc")
     yield from random_walks(100, I | X, "aAbB1\nZ")
+    yield from random_walks(150, 0, "aabab", True)
+    yield from random_walks(50, I | X, "aAbB", True)
 
 
-def random_walks(wanted, flags, letters):
-    """So many walks of few ends under these flags, with `s` and `m` or without."""
+def random_walks(wanted, flags, letters, named=False):
+    """So many walks of few ends under these flags, with `s` and `m` or without; of the rules with names a third may be refused."""
     made = 0
     while made < wanted:
-        rule, subject = random_rule(3, flags).encode(), "".join(random.choice(letters) for _ in range(random.randint(0, 6))).encode()
+        rule, subject = random_rule(3, flags, named).encode(), "".join(random.choice(letters) for _ in range(random.randint(0, 6))).encode()
         both, start, budget = flags | random.randint(0, 3), random.randint(0, len(subject)), random.choice([50, 500, 2000])
-        if len(told(rule, both, subject, start, budget)[0]) < 25:
+        lines = told(rule, both, subject, start, budget)[0]
+        if len(lines) < 25 and not (named and " at " in lines[0] and made % 3):
             made += 1
             yield rule, both, subject, start, budget
 

@@ -4,7 +4,7 @@
  *
  * Nothing is required of what is handed in: any bytes, any flags, any budget and areas of any length give an answer or a refusal.
  * What a caller owes is only what C cannot tell: each pointer leads to as many bytes or numbers as the length beside it says, and the three
- * areas and the answer overlap neither each other nor the rule and the subject. A pointer is never null, even beside a length of 0.
+ * areas, the names and the answer overlap neither each other nor the rule and the subject. A pointer is never null, even beside a length of 0.
  *
  * flags         bit 0 is `s`, bit 1 is `m`, bit 2 is `i`, bit 3 is `x`
  * budget        steps for each start in the subject, at most 100,000
@@ -13,8 +13,12 @@
  * result        rows of TERRAVISCO_ROW numbers: start, end, then a pair for each group, TERRAVISCO_UNSET twice for a group that is not set.
  *               A match writes one row if it matched. A listing writes as many as there are readings, or as fit.
  *
+ * names         the name index, at least TERRAVISCO_NAME_INDEX bytes: TERRAVISCO_NAME_ENTRY for each group, the length of its name (0 if it has none) and the
+ *               name, padded with 00. A call that is not refused fills it; the bytes behind are as they were.
+ *
  * Rule area and work area may hold anything before a call. Afterwards the parts that are named above are zero, and the rest is as it was; a
- * call that is refused for reasons 1 to 7 changes nothing. The result area has the rows; all its other numbers are as they were.
+ * call that is refused for reasons 1 to 8 changes nothing. The result area has the rows; all its other numbers are as they were. A call that is
+ * refused leaves the result area and the name index as they were.
  */
 #ifndef TERRAVISCO_H
 #define TERRAVISCO_H
@@ -29,7 +33,9 @@ extern "C" {
 enum {
     TERRAVISCO_RULE_AREA = 16384,
     TERRAVISCO_WORK_PER_STEP = 16,
-    TERRAVISCO_ROW = 66
+    TERRAVISCO_ROW = 66,
+    TERRAVISCO_NAME_ENTRY = 17,
+    TERRAVISCO_NAME_INDEX = 544
 };
 
 #define TERRAVISCO_UNSET UINT32_C(4294967295)
@@ -41,12 +47,27 @@ enum {
 void terravisco_match(const uint8_t *rule, size_t rule_len, uint32_t flags,
                       const uint8_t *subject, size_t subject_len, uint32_t budget,
                       uint32_t *rule_area, size_t rule_area_len, uint32_t *work_area, size_t work_area_len,
-                      uint32_t *result, size_t result_len, uint32_t answer[6]);
+                      uint32_t *result, size_t result_len, uint8_t *names, size_t names_len, uint32_t answer[6]);
 
 void terravisco_list(const uint8_t *rule, size_t rule_len, uint32_t flags,
                      const uint8_t *subject, size_t subject_len, uint32_t budget,
                      uint32_t *rule_area, size_t rule_area_len, uint32_t *work_area, size_t work_area_len,
-                     uint32_t *result, size_t result_len, uint32_t answer[6]);
+                     uint32_t *result, size_t result_len, uint8_t *names, size_t names_len, uint32_t answer[6]);
+
+/* Looks a field up: what the group of that name took of a line.
+   names     a name index: for each group TERRAVISCO_NAME_ENTRY bytes, the length of its name (0 if none) and the name, whatever follows it. Of the
+             first entries, as many as a rule can have groups, the first of that name counts that lies whole in the index.
+   kind      of the answer: 0 matched; every other number is not. For a row of a listing hand in 0.
+   row       the answer's row, TERRAVISCO_ROW numbers; what follows them is not looked at. Fewer, or numbers that are no row for that line (start <= end
+             <= line_len; each pair TERRAVISCO_UNSET twice or a span from start to end), count as not matched.
+   standing  the text that stands for a group that is not set
+   field     [0] 0 a part of the line or 1 of the standing text, [1] from, [2] to: the field is the bytes from [1] up to, not including, [2].
+             The part of the line that the group took, which may be empty; the whole standing text where the group is not set; 1, 0, 0
+             where no entry has the name or the line did not match.
+   Nothing is required of what is handed in, and nothing but field is written. Only field must not overlap the others. */
+void terravisco_field(const uint8_t *name, size_t name_len, const uint8_t *names, size_t names_len,
+                      const uint8_t *line, size_t line_len, uint32_t kind, const uint32_t *row, size_t row_len,
+                      const uint8_t *standing, size_t standing_len, uint64_t field[3]);
 
 #ifdef __cplusplus
 }

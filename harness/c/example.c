@@ -1,4 +1,4 @@
-/* A worked example of the C interface: every reading of one line.
+/* A worked example of the C interface: every reading of one line, and fields by their names.
  *
  * `1,500 L` is one thousand five hundred litres where the comma stands between thousands, and one and a half litres where it is a decimal
  * comma. The rule allows both, so the listing has two rows, and whoever gets two rows knows that the line has to be asked about.
@@ -18,6 +18,7 @@ enum { FLAG_S = 1, FLAG_M = 2, FLAG_I = 4, FLAG_X = 8 };
 static uint32_t rule_area[TERRAVISCO_RULE_AREA];
 static uint32_t work_area[TERRAVISCO_WORK_PER_STEP * BUDGET];
 static uint32_t rows[TERRAVISCO_ROW * ROWS];
+static uint8_t names[TERRAVISCO_NAME_INDEX];
 
 static void print_row(const uint32_t *row, const char *line)
 {
@@ -39,7 +40,7 @@ static void list(const char *rule, uint32_t flags, const char *line)
 
     terravisco_list((const uint8_t *)rule, strlen(rule), flags, (const uint8_t *)line, strlen(line), BUDGET,
                     rule_area, sizeof rule_area / sizeof *rule_area, work_area, sizeof work_area / sizeof *work_area,
-                    rows, sizeof rows / sizeof *rows, answer);
+                    rows, sizeof rows / sizeof *rows, names, sizeof names, answer);
 
     uint64_t steps = (uint64_t)answer[4] << 32 | answer[3];
     printf("%s on `%s`: ", rule, line);
@@ -52,6 +53,20 @@ static void list(const char *rule, uint32_t flags, const char *line)
         print_row(rows + TERRAVISCO_ROW * row, line);
 }
 
+/* The litres that a line tells; what stands for the farm where it tells none; nothing where it is no such line. */
+static void print_litres(const char *rule, const char *line, const char *standing)
+{
+    uint32_t answer[6];
+    uint64_t field[3];
+
+    terravisco_match((const uint8_t *)rule, strlen(rule), 0, (const uint8_t *)line, strlen(line), BUDGET,
+                     rule_area, sizeof rule_area / sizeof *rule_area, work_area, sizeof work_area / sizeof *work_area,
+                     rows, sizeof rows / sizeof *rows, names, sizeof names, answer);
+    terravisco_field((const uint8_t *)"litres", 6, names, sizeof names, (const uint8_t *)line, strlen(line), answer[0],
+                     rows, TERRAVISCO_ROW, (const uint8_t *)standing, strlen(standing), field);
+    printf("litres in `%s`: `%.*s`\n", line, (int)(field[2] - field[1]), (field[0] == 0 ? line : standing) + field[1]);
+}
+
 int main(void)
 {
     list("^(?:(\\d{1,3},\\d{3})|(\\d+,\\d+)) L$", 0, "1,500 L");
@@ -59,5 +74,8 @@ int main(void)
     list("a**", 0, "1,500 L");
     /* the first rule once more, with spaces between its parts and for either case of the L */
     list("^ (?: (\\d{1,3},\\d{3}) | (\\d+,\\d+) ) \\  L $", FLAG_I | FLAG_X, "1,500 l");
+    print_litres("^tank \\d+:(?: (?<litres>\\d+) L)?$", "tank 7: 820 L", "600");
+    print_litres("^tank \\d+:(?: (?<litres>\\d+) L)?$", "tank 7:", "600");
+    print_litres("^tank \\d+:(?: (?<litres>\\d+) L)?$", "hall 3", "600");
     return 0;
 }

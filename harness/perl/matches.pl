@@ -1,7 +1,7 @@
 # Reads one question a line: flags, the character set's modifier (`a`, or nothing for `/d`), rule and subject in hex, and the number of groups, with
 # tabs between them.
-# Answers on one line each: `failed` for a rule refused or a panic, `slow` for a match that takes more than ten seconds, `none`, or start, end
-# and each group's span, `-` for a group that is not set.
+# Answers on one line each: `failed` for a rule refused or a panic, `slow` for a match that takes more than ten seconds, `none`, or start, end,
+# the span of each group that is set, and each name that `%-` has, with what `%+` has of it in hex, or `-` for nothing.
 # The rule stands in a variable, so that nothing in it is interpolated.
 use strict;
 no warnings;
@@ -25,7 +25,8 @@ while (my $line = <STDIN>) {
     my $answer = eval {
         alarm 10;
         $subject =~ $compiled
-            ? join(" ", "$-[0]-$+[0]", map { defined $-[$_] ? "$_:$-[$_]-$+[$_]" : () } 1 .. $groups)
+            ? join(" ", "$-[0]-$+[0]", (map { defined $-[$_] ? "$_:$-[$_]-$+[$_]" : () } 1 .. $groups),
+                map { "$_=" . (exists $+{$_} ? unpack("H*", $+{$_}) : "-") } sort keys %-)
             : "none";
     };
     alarm 0;

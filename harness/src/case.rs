@@ -1,6 +1,6 @@
 //! One call with all that it is given, and how it and its answer are shown.
 
-use crate::independent::{self, Answer, Ending, Inputs, Row, ROW_LENGTH, RULE_AREA, UNSET, WORK_PER_STEP};
+use crate::independent::{self, Answer, Ending, Index, Inputs, Row, ENTRY_LENGTH, INDEX_LENGTH, ROW_LENGTH, RULE_AREA, UNSET, WORK_PER_STEP};
 use crate::raw::Call;
 use crate::text;
 
@@ -15,6 +15,8 @@ pub struct Case {
     pub rule_area: usize,
     pub work_area: usize,
     pub result_area: usize,
+    /// In bytes.
+    pub name_index: usize,
 }
 
 impl Case {
@@ -29,6 +31,7 @@ impl Case {
             rule_area: RULE_AREA,
             work_area: if budget > 100_000 { 0 } else { WORK_PER_STEP * budget as usize },
             result_area: ROW_LENGTH * rows,
+            name_index: INDEX_LENGTH,
         }
     }
 
@@ -42,6 +45,7 @@ impl Case {
             rule_area: self.rule_area,
             work_area: self.work_area,
             result_area: self.result_area,
+            name_index: self.name_index,
         };
         independent::answer(self.call, &inputs)
     }
@@ -50,7 +54,7 @@ impl Case {
     pub fn shown(&self) -> String {
         let call = if self.call == Call::Match { "match" } else { "list" };
         format!(
-            "{call} rule `{}` (hex {}) flags {} subject \"{}\" (hex {}) budget {} areas {} {} {}",
+            "{call} rule `{}` (hex {}) flags {} subject \"{}\" (hex {}) budget {} areas {} {} {} {}",
             text::escaped(&self.rule),
             text::hex(&self.rule),
             self.flags,
@@ -59,7 +63,8 @@ impl Case {
             self.budget,
             self.rule_area,
             self.work_area,
-            self.result_area
+            self.result_area,
+            self.name_index
         )
     }
 }
@@ -75,7 +80,19 @@ pub fn shown(answer: &Answer) -> String {
         Ending::Refused(refusal) => return format!("refused {} at {}", refusal.number, refusal.place),
     };
     let rows: Vec<String> = answer.rows.iter().map(shown_row).collect();
-    format!("{ending}, {} steps [{}]", answer.steps, rows.join("; "))
+    let names = answer.names.as_deref().map_or(String::new(), shown_names);
+    format!("{ending}, {} steps [{}]{names}", answer.steps, rows.join("; "))
+}
+
+/// ` names` and, for each entry of the index that is not all 00, its group and its 17 bytes in hex; nothing where there is no such entry.
+fn shown_names(index: &Index) -> String {
+    let entries = (1..).zip(index.chunks_exact(ENTRY_LENGTH)).filter(|(_, entry)| entry.iter().any(|&byte| byte != 0));
+    let entries: String = entries.map(|(group, entry)| format!(" {group}:{}", text::hex(entry))).collect();
+    if entries.is_empty() {
+        entries
+    } else {
+        format!(" names{entries}")
+    }
 }
 
 /// A row as `start-end` and `group:start-end` for each group that is set.

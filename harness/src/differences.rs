@@ -3,7 +3,7 @@
 
 use std::collections::BTreeMap;
 
-use crate::independent::{Row, FLAG_X, UNSET};
+use crate::independent::{Refusal, Row, FLAG_X, UNSET};
 use crate::random::shared::Shared;
 use crate::shapes::shape;
 
@@ -32,6 +32,49 @@ pub enum Class {
     NextLine = 15,
     /// 16: under `i` Perl takes a byte DF for the `s` that ends a branch of literals, under `/d` too.
     SharpS = 16,
+    /// 17: Perl takes a name that is used twice.
+    NameTwice = 17,
+    /// 18: Perl takes names of any length, PCRE2 such of up to 32 bytes.
+    LongName = 18,
+    /// 19: Perl takes blanks beside a name in braces.
+    BlankInBraces = 19,
+    /// 20: forms that document 02 has not: looking behind in both, and `\g<a>` in PCRE2.
+    OtherForm = 20,
+}
+
+/// Who is asked whether a rule with a name is sound.
+#[derive(Clone, Copy, PartialEq, Eq)]
+pub enum Other {
+    Perl,
+    Pcre2,
+}
+
+/// The class of a rule that is refused here for a name, and that another matcher takes.
+pub fn name_class(rule: &[u8], refusal: Refusal, other: Other) -> Option<Class> {
+    let item = &rule[refusal.place..];
+    let is_word = |byte: &&u8| byte.is_ascii_alphanumeric() || **byte == b'_';
+    // The name as far as it goes, behind `(?<`, `\k<` and the like.
+    let inside = item.get(3..).unwrap_or(&[]);
+    let name = inside.iter().take_while(is_word).count();
+    let is_braced = item.starts_with(b"\\k{") || item.starts_with(b"\\g{");
+    let longest = if other == Other::Perl { usize::MAX } else { 32 };
+    match refusal.number {
+        26 => (other == Other::Perl).then_some(Class::NameTwice),
+        25 if item.starts_with(b"(?<=") || item.starts_with(b"(?<!") => Some(Class::OtherForm),
+        25 if (17..=longest).contains(&name) => Some(Class::LongName),
+        12 | 25 if is_braced && other == Other::Perl && has_blank_beside(inside) => Some(Class::BlankInBraces),
+        12 if item.starts_with(b"\\g<") || item.starts_with(b"\\g'") => (other == Other::Pcre2).then_some(Class::OtherForm),
+        _ => None,
+    }
+}
+
+/// Do blanks stand before or behind a name, and then a `}`?
+fn has_blank_beside(inside: &[u8]) -> bool {
+    let is_blank = |byte: u8| byte == b' ' || byte == b'\t';
+    let Some(end) = inside.iter().position(|&byte| byte == b'}') else { return false };
+    let trimmed = inside[..end].iter().copied().skip_while(|&byte| is_blank(byte)).collect::<Vec<_>>();
+    let name = trimmed.iter().take_while(|&&byte| !is_blank(byte)).count();
+    trimmed.len() < end || (name < trimmed.len() && trimmed[name..].iter().all(|&byte| is_blank(byte)))
 }
 
 /// PCRE2's error "POSIX named classes are supported only within a class".

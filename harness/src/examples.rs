@@ -1,7 +1,7 @@
 //! Examples written down by hand in `data/`: what is asked and what is expected. The head of `source-examples.txt` says how they look.
 
 use crate::case::{shown_row, Case};
-use crate::independent::{Answer, Ending, FLAG_I, FLAG_M, FLAG_S, FLAG_X};
+use crate::independent::{self, Answer, Ending, FLAG_I, FLAG_M, FLAG_S, FLAG_X};
 use crate::raw::Call;
 use crate::text;
 
@@ -17,6 +17,8 @@ pub struct Example {
     rows: Vec<String>,
     ending: Option<Ending>,
     steps: Option<u64>,
+    /// The groups' names, as `shown_names` writes them.
+    names: Option<String>,
 }
 
 /// The examples of a file, or what cannot be read in it.
@@ -45,7 +47,7 @@ pub fn read(file: &str) -> Result<Vec<Example>, String> {
 impl Example {
     fn new(line: usize) -> Example {
         let case = Case::new(Call::Match, b"", 0, b"", 10_000, 10);
-        Example { from: String::new(), line, case, same: None, rows: Vec::new(), ending: None, steps: None }
+        Example { from: String::new(), line, case, same: None, rows: Vec::new(), ending: None, steps: None, names: None }
     }
 
     fn set(&mut self, field: &str, value: &str) -> Option<()> {
@@ -59,6 +61,9 @@ impl Example {
             "call" if value == "list" => self.case.call = Call::List,
             "budget" => self.case.budget = value.parse().ok()?,
             "rows" => self.case.result_area = 66 * value.parse::<usize>().ok()?,
+            "numbers" => self.case.result_area = value.parse().ok()?,
+            "index" => self.case.name_index = value.parse().ok()?,
+            "names" => self.names = Some(value.to_string()),
             "steps" => self.steps = Some(value.parse().ok()?),
             "expect" => self.expect(value)?,
             _ => return None,
@@ -73,9 +78,7 @@ impl Example {
             ["complete"] => Ending::Complete,
             ["full"] => Ending::Full,
             ["exhausted", start] => Ending::Exhausted(start.parse().ok()?),
-            ["refused", number, "at", place] => {
-                Ending::Refused(crate::independent::Refusal { number: number.parse().ok()?, place: place.parse().ok()? })
-            }
+            ["refused", number, "at", place] => Ending::Refused(independent::Refusal { number: number.parse().ok()?, place: place.parse().ok()? }),
             _ => {
                 self.rows.push(value.to_string());
                 Ending::Matched
@@ -112,8 +115,25 @@ impl Example {
         if self.steps.is_some_and(|steps| steps != answer.steps) {
             faults.push(format!("{who} takes {} steps, expected {:?}", answer.steps, self.steps));
         }
+        let names = answer.names.as_deref().map(shown_names);
+        if self.names.is_some() && self.names != names {
+            faults.push(format!("{who} fills the index with {names:?}, expected {:?}", self.names));
+        }
         faults
     }
+}
+
+/// Each group that has a name with it, as `group:name`. A byte other than 00 that is no part of a name makes an entry `group:?`.
+fn shown_names(index: &independent::Index) -> String {
+    let shown = |(group, entry): (usize, &[u8])| {
+        let (name, padding) = entry[1..].split_at(usize::from(entry[0]).min(16));
+        match padding.iter().all(|&byte| byte == 0) {
+            true if name.is_empty() => None,
+            true => Some(format!("{group}:{}", text::escaped(name))),
+            false => Some(format!("{group}:?")),
+        }
+    };
+    (1..).zip(index.chunks_exact(independent::ENTRY_LENGTH)).filter_map(shown).collect::<Vec<_>>().join(" ")
 }
 
 /// Flags as letters, each once, or as a number.

@@ -40,6 +40,14 @@ impl Fenced {
         held.copy_from_slice(bytes);
         held
     }
+
+    /// A copy of the numbers that ends at the fence.
+    pub fn hold_numbers(&mut self, numbers: &[u32]) -> &[u32] {
+        let bytes: Vec<u8> = numbers.iter().flat_map(|number| number.to_ne_bytes()).collect();
+        let held = self.hold(&bytes);
+        // Safety: the bytes are those of as many numbers, and what ends at a page's end and has their length is aligned for them.
+        unsafe { std::slice::from_raw_parts(held.as_ptr().cast(), numbers.len()) }
+    }
 }
 
 impl Drop for Fenced {

@@ -2,7 +2,7 @@
 
 use crate::case::{shown, Case};
 use crate::fence::Fenced;
-use crate::independent::{self, Answer, Ending, ROW_LENGTH, RULE_AREA, WORK_PER_STEP};
+use crate::independent::{self, Answer, Ending, INDEX_LENGTH, ROW_LENGTH, RULE_AREA, WORK_PER_STEP};
 use crate::raw::{self, Areas, Call, Question};
 
 /// Lends areas to the library and looks at every number of them, and of some around them, after the call. The rule and the subject end at a
@@ -13,12 +13,13 @@ pub struct Lender {
     rule: Vec<u32>,
     work: Vec<u32>,
     result: Vec<u32>,
+    names: Vec<u8>,
     /// Where the rule and the subject stand for the library, each up to a fence.
     rule_text: Fenced,
     subject_text: Fenced,
 }
 
-/// Numbers before and behind each area that no call may touch.
+/// Numbers before and behind each area, and bytes around the name index, that no call may touch.
 const GUARD: usize = 32;
 
 /// What the library did: its answer, and what is wrong with what it left behind.
@@ -30,7 +31,8 @@ pub struct Run {
 impl Default for Lender {
     fn default() -> Lender {
         let (rule_text, subject_text) = (Fenced::new(4_096), Fenced::new(70_000));
-        Lender { pattern: Vec::new(), rule: Vec::new(), work: Vec::new(), result: Vec::new(), rule_text, subject_text }
+        let [pattern, rule, work, result] = [(); 4].map(|()| Vec::new());
+        Lender { pattern, rule, work, result, names: Vec::new(), rule_text, subject_text }
     }
 }
 
@@ -38,7 +40,9 @@ impl Lender {
     /// Runs the case with the library and compares it with what the independent matcher expects; tells what differs.
     pub fn compare(&mut self, case: &Case, expected: &Answer) -> Vec<String> {
         let Run { answer, mut faults } = self.run(case);
-        if (answer.ending, answer.steps) != (expected.ending, expected.steps) || answer.rows != expected.rows {
+        let same =
+            (answer.ending, answer.steps) == (expected.ending, expected.steps) && answer.rows == expected.rows && answer.names == expected.names;
+        if !same {
             faults.push(format!("library:     {}\nindependent: {}", shown(&answer), shown(expected)));
         }
         faults
@@ -54,6 +58,7 @@ impl Lender {
             rule: &mut self.rule[GUARD..][..case.rule_area],
             work: &mut self.work[GUARD..][..case.work_area],
             result: &mut self.result[GUARD..][..case.result_area],
+            names: &mut self.names[GUARD..][..case.name_index],
         };
         raw::call(case.call, question, areas, &mut answer);
         let mut faults = Vec::new();
@@ -72,6 +77,8 @@ impl Lender {
             area.clear();
             area.extend_from_slice(&self.pattern[..length + 2 * GUARD]);
         }
+        self.names.clear();
+        self.names.extend((0..case.name_index + 2 * GUARD).map(byte_before));
     }
 
     /// The answer that six numbers are, with its rows from the result area.
@@ -93,11 +100,14 @@ impl Lender {
         }
         let written = &self.result[GUARD..][..ROW_LENGTH * room.min(rows as usize)];
         let rows = written.chunks_exact(ROW_LENGTH).map(|row| row.try_into().expect("a chunk is a row")).collect();
-        Answer { ending, steps: u64::from(high) << 32 | u64::from(low), rows }
+        let filled = self.names.get(GUARD..GUARD + INDEX_LENGTH).and_then(|names| names.try_into().ok());
+        let names = if refused { None } else { filled.map(Box::new) };
+        Answer { ending, steps: u64::from(high) << 32 | u64::from(low), rows, names }
     }
 
     /// "After refusals 1 to 7 both areas are unchanged; after any other return their needed first part is zero and the rest unchanged."
-    /// "All other numbers in the [result] area stay unchanged."
+    /// "All other numbers in the [result] area stay unchanged." "Each call fills a lent name index, bytes after it unchanged", "a refused call leaves
+    /// the index unchanged".
     fn look(&self, case: &Case, answer: &Answer, faults: &mut Vec<String>) {
         let (mut rule, mut work) = (0, 0);
         if answer.clears_areas() {
@@ -116,5 +126,14 @@ impl Lender {
         if !kept(&self.result, ROW_LENGTH * answer.rows.len()) {
             faults.push(format!("the result area is changed behind its {} rows", answer.rows.len()));
         }
+        let filled = if answer.names.is_some() { GUARD..GUARD + INDEX_LENGTH } else { 0..0 };
+        if (0..self.names.len()).any(|at| !filled.contains(&at) && self.names[at] != byte_before(at)) {
+            faults.push(format!("the name index is changed beside its {} bytes", filled.len()));
+        }
     }
+}
+
+/// What the name index, with what lies around it, holds before a call: no byte is 0, and neighbours differ.
+fn byte_before(at: usize) -> u8 {
+    (at % 255) as u8 + 1
 }

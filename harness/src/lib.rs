@@ -9,6 +9,8 @@ pub mod examples;
 pub mod fence;
 pub mod independent;
 pub mod lender;
+pub mod looker;
+pub mod lookup_examples;
 pub mod pcre2;
 pub mod perl;
 pub mod random;

@@ -1,4 +1,4 @@
-//! PCRE2's own answers: matches, and all readings from a start by a callout at the rule's end.
+//! PCRE2's own answers: matches, all readings from a start by a callout at the rule's end, and the names of groups.
 
 pub mod sys;
 
@@ -47,6 +47,25 @@ impl Pattern {
             pcre2_set_match_limit_8(context, MATCH_LIMIT);
             Ok(Pattern { code, data: pcre2_match_data_create_from_pattern_8(code, null_mut()), context })
         }
+    }
+
+    /// The groups that have a name, each with it, by rising numbers: PCRE2's name table.
+    pub fn names(&self) -> Vec<(usize, Vec<u8>)> {
+        let (mut count, mut size) = (0u32, 0u32);
+        let mut table: *const u8 = NOWHERE.as_ptr();
+        // Safety: each of the three is of the type that PCRE2 writes for it, and the table has as many entries of that size; it lives as long as the code.
+        let entries = unsafe {
+            pcre2_pattern_info_8(self.code, INFO_NAME_COUNT, (&raw mut count).cast());
+            pcre2_pattern_info_8(self.code, INFO_NAME_ENTRY_SIZE, (&raw mut size).cast());
+            pcre2_pattern_info_8(self.code, INFO_NAME_TABLE, (&raw mut table).cast());
+            std::slice::from_raw_parts(if count == 0 { NOWHERE.as_ptr() } else { table }, (count * size) as usize)
+        };
+        // An entry: the group's number in two bytes, high one first, the name and a 00.
+        let name = |entry: &[u8]| entry[2..].split(|&byte| byte == 0).next().unwrap_or(&[]).to_vec();
+        let mut names: Vec<_> =
+            entries.chunks(size.max(1) as usize).map(|entry| (256 * usize::from(entry[0]) + usize::from(entry[1]), name(entry))).collect();
+        names.sort();
+        names
     }
 
     /// The first match as one row, or no row.

@@ -1,5 +1,6 @@
 //! Perl's own answers: one `perl` process for a batch of questions.
 
+use std::collections::BTreeMap;
 use std::io::Write;
 use std::process::{Command, Stdio};
 
@@ -30,8 +31,11 @@ pub enum Answer {
     /// Perl took too long.
     Slow,
     NotMatched,
-    Matched(Box<Row>),
+    Matched(Box<Row>, Fields),
 }
+
+/// The names of a rule's groups, and what each group took, or none where it is not set.
+pub type Fields = BTreeMap<Vec<u8>, Option<Vec<u8>>>;
 
 const SCRIPT: &str = include_str!("../perl/matches.pl");
 
@@ -62,7 +66,8 @@ pub fn run_script(script: &str, asked: String) -> std::io::Result<String> {
     Ok(String::from_utf8_lossy(&output.stdout).into_owned())
 }
 
-/// One line of the script: `failed`, `slow`, `none`, or `start-end` and `group:start-end` for each group that is set.
+/// One line of the script: `failed`, `slow`, `none`, or `start-end`, `group:start-end` for each group that is set, and `name=hex` or `name=-` for each
+/// name.
 fn answer(line: &str) -> Option<Answer> {
     match line {
         "failed" => return Some(Answer::Failed),
@@ -70,12 +75,17 @@ fn answer(line: &str) -> Option<Answer> {
         "none" => return Some(Answer::NotMatched),
         _ => {}
     }
-    let mut row = [UNSET; ROW_LENGTH];
+    let (mut row, mut fields) = ([UNSET; ROW_LENGTH], Fields::new());
     for part in line.split(' ') {
+        if let Some((name, taken)) = part.split_once('=') {
+            let taken = if taken == "-" { None } else { Some(text::from_hex(taken)?) };
+            fields.insert(name.as_bytes().to_vec(), taken);
+            continue;
+        }
         let (group, span) = part.split_once(':').unwrap_or(("0", part));
         let group: usize = group.parse().ok()?;
         let (from, to) = span.split_once('-')?;
         (row[2 * group], row[2 * group + 1]) = (from.parse().ok()?, to.parse().ok()?);
     }
-    Some(Answer::Matched(Box::new(row)))
+    Some(Answer::Matched(Box::new(row), fields))
 }

@@ -1,4 +1,8 @@
 //! The library's C interface as it stands, and one call of it on lent areas. Tests use this; a program uses `terravisco::Matcher`.
+//!
+//! A library from before names, which `bench --before` may be given, takes no name index and has no lookup: `build.rs` sets `before_names` for it.
+
+#![allow(unexpected_cfgs)]
 
 /// Which of the two calls.
 #[derive(Clone, Copy, PartialEq, Eq, Debug)]
@@ -21,6 +25,8 @@ extern "C" {
         work_area_len: usize,
         result: *mut u32,
         result_len: usize,
+        #[cfg(not(before_names))] names: *mut u8,
+        #[cfg(not(before_names))] names_len: usize,
         answer: *mut u32,
     );
     fn terravisco_list(
@@ -36,7 +42,24 @@ extern "C" {
         work_area_len: usize,
         result: *mut u32,
         result_len: usize,
+        #[cfg(not(before_names))] names: *mut u8,
+        #[cfg(not(before_names))] names_len: usize,
         answer: *mut u32,
+    );
+    #[cfg(not(before_names))]
+    fn terravisco_field(
+        name: *const u8,
+        name_len: usize,
+        names: *const u8,
+        names_len: usize,
+        line: *const u8,
+        line_len: usize,
+        kind: u32,
+        row: *const u32,
+        row_len: usize,
+        standing: *const u8,
+        standing_len: usize,
+        field: *mut u64,
     );
 }
 
@@ -54,30 +77,94 @@ pub struct Areas<'a> {
     pub rule: &'a mut [u32],
     pub work: &'a mut [u32],
     pub result: &'a mut [u32],
+    /// The name index.
+    pub names: &'a mut [u8],
 }
 
 /// Calls the library. The six numbers of the answer are written over those handed in.
+#[cfg_attr(before_names, allow(unused_variables))]
 pub fn call(call: Call, question: Question, areas: Areas, answer: &mut [u32; 6]) {
     let function = match call {
         Call::Match => terravisco_match,
         Call::List => terravisco_list,
     };
+    let (rule, rule_len, subject, subject_len) = (question.rule.as_ptr(), question.rule.len(), question.subject.as_ptr(), question.subject.len());
+    let (rule_area, rule_area_len, work_area, work_area_len) = (areas.rule.as_mut_ptr(), areas.rule.len(), areas.work.as_mut_ptr(), areas.work.len());
+    let (result, result_len, names, names_len) = (areas.result.as_mut_ptr(), areas.result.len(), areas.names.as_mut_ptr(), areas.names.len());
     // Safety: every pointer leads to as many elements as the length beside it says, and the borrows keep the areas apart.
     unsafe {
+        #[cfg(not(before_names))]
         function(
-            question.rule.as_ptr(),
-            question.rule.len(),
+            rule,
+            rule_len,
             question.flags,
-            question.subject.as_ptr(),
-            question.subject.len(),
+            subject,
+            subject_len,
             question.budget,
-            areas.rule.as_mut_ptr(),
-            areas.rule.len(),
-            areas.work.as_mut_ptr(),
-            areas.work.len(),
-            areas.result.as_mut_ptr(),
-            areas.result.len(),
+            rule_area,
+            rule_area_len,
+            work_area,
+            work_area_len,
+            result,
+            result_len,
+            names,
+            names_len,
+            answer.as_mut_ptr(),
+        );
+        #[cfg(before_names)]
+        function(
+            rule,
+            rule_len,
+            question.flags,
+            subject,
+            subject_len,
+            question.budget,
+            rule_area,
+            rule_area_len,
+            work_area,
+            work_area_len,
+            result,
+            result_len,
             answer.as_mut_ptr(),
         );
     }
+}
+
+/// What a field is looked up by: its name, the index that a call filled, and the line with that call's answer, 0 for matched, and its row; and the
+/// text that stands where the line has no such field.
+#[derive(Clone, Copy)]
+pub struct Lookup<'a> {
+    pub name: &'a [u8],
+    pub names: &'a [u8],
+    pub line: &'a [u8],
+    pub kind: u32,
+    pub row: &'a [u32],
+    pub standing: &'a [u8],
+}
+
+/// Looks a field up: 0 for the line or 1 for the standing text, and from where to where in it. The three numbers are written over those handed in.
+#[cfg(not(before_names))]
+pub fn field(lookup: Lookup, field: &mut [u64; 3]) {
+    // Safety: every pointer leads to as many elements as the length beside it says.
+    unsafe {
+        terravisco_field(
+            lookup.name.as_ptr(),
+            lookup.name.len(),
+            lookup.names.as_ptr(),
+            lookup.names.len(),
+            lookup.line.as_ptr(),
+            lookup.line.len(),
+            lookup.kind,
+            lookup.row.as_ptr(),
+            lookup.row.len(),
+            lookup.standing.as_ptr(),
+            lookup.standing.len(),
+            field.as_mut_ptr(),
+        );
+    }
+}
+
+#[cfg(before_names)]
+pub fn field(_: Lookup, _: &mut [u64; 3]) {
+    panic!("this library is from before the lookup");
 }

@@ -1,8 +1,8 @@
-//! Why a call was refused: document 01, "Refusal numbers".
+//! Why a call was refused: document 01, "Refusal numbers", and document 02.
 
 use std::fmt;
 
-/// The reason, and the place in the rule that it is about, counted in bytes from 0; 0 for reasons 1 to 7.
+/// The reason, and the place in the rule that it is about, counted in bytes from 0; 0 for reasons 1 to 8.
 #[derive(Clone, Copy, PartialEq, Eq, Debug)]
 pub struct Refusal {
     pub reason: Reason,
@@ -18,6 +18,7 @@ pub enum Reason {
     RuleAreaShort = 5,
     WorkAreaShort = 6,
     ResultAreaShort = 7,
+    NameIndexShort = 8,
     LoneBackslash = 10,
     EscapeNotHeld = 11,
     EscapeIllFormed = 12,
@@ -33,10 +34,12 @@ pub enum Reason {
     UnknownOpening = 22,
     TooManyGroups = 23,
     TooDeep = 24,
+    NameIllFormed = 25,
+    NameUsedTwice = 26,
 }
 
 /// Every reason with its sentence.
-const SENTENCES: [(Reason, &str); 22] = [
+const SENTENCES: [(Reason, &str); 25] = [
     (Reason::RuleTooLong, "the rule is over 1,000 bytes"),
     (Reason::SubjectTooLong, "the subject is over 65,535 bytes"),
     (Reason::UnknownFlag, "a flag bit above 3 is set"),
@@ -44,6 +47,7 @@ const SENTENCES: [(Reason, &str); 22] = [
     (Reason::RuleAreaShort, "the rule area is short"),
     (Reason::WorkAreaShort, "the work area is short"),
     (Reason::ResultAreaShort, "the result area is under 66 numbers"),
+    (Reason::NameIndexShort, "the name index is under 544 bytes"),
     (Reason::LoneBackslash, "a backslash is the rule's last byte"),
     (Reason::EscapeNotHeld, "the escape is not held here"),
     (Reason::EscapeIllFormed, "the escape's number or letter is missing, of another form, unclosed or over its limit"),
@@ -56,13 +60,15 @@ const SENTENCES: [(Reason, &str); 22] = [
     (Reason::RepeatOnRepeat, "a repeat on a repeat"),
     (Reason::GroupNotClosed, "the group is not closed"),
     (Reason::GroupNotOpened, "a `)` without opening"),
-    (Reason::UnknownOpening, "`(?` is not followed by `:`"),
+    (Reason::UnknownOpening, "`(?` is followed by neither `:` nor `<`"),
     (Reason::TooManyGroups, "a 33rd capturing group"),
     (Reason::TooDeep, "groups nest more than 24 deep"),
+    (Reason::NameIllFormed, "a name is missing, malformed or not closed"),
+    (Reason::NameUsedTwice, "the name is used twice"),
 ];
 
 impl Reason {
-    /// Document 01's number of the reason.
+    /// The documents' number of the reason.
     pub fn number(self) -> u32 {
         self as u32
     }

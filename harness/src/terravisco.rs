@@ -11,11 +11,15 @@
 //!         println!("{:?}: {:?} or {:?}", reading.span(), reading.group(1), reading.group(2));
 //!     }
 //! }
+//! // By names: the litres of the line, or what stands for a farm that sends none.
+//! let line = b"tank 7: 820 L";
+//! let litres = matcher.match_line(br"^tank \d+:(?: (?<litres>\d+) L)?$", 0, line).field(b"litres", line, b"600").to_vec();
+//! assert_eq!(litres, b"820");
 //! ```
 
 use std::ops::Range;
 
-use crate::raw::{self, Call};
+use crate::raw::{self, Call, Lookup};
 pub use crate::refusal::{Reason, Refusal};
 
 /// `.` takes a newline too.
@@ -32,6 +36,7 @@ const WORK_PER_STEP: usize = 16;
 const MOST_BUDGET: u32 = 100_000;
 const ROW_LENGTH: usize = 66;
 const GROUPS: usize = 32;
+const INDEX_LENGTH: usize = 544;
 const UNSET: u32 = u32::MAX;
 
 /// Owns the areas for calls with one budget and room for so many readings. They are made once, and each call uses them again.
@@ -40,6 +45,7 @@ pub struct Matcher {
     rule_area: Vec<u32>,
     work_area: Vec<u32>,
     rows: Vec<u32>,
+    names: Vec<u8>,
 }
 
 /// What a match answers.
@@ -87,12 +93,14 @@ pub enum Listing<'m> {
 #[derive(Clone, Debug)]
 pub struct Readings<'m> {
     rows: std::slice::ChunksExact<'m, u32>,
+    names: &'m [u8],
 }
 
 /// One way to read a line: where the rule begins and ends in it, and what each group took.
 #[derive(Clone, Copy)]
 pub struct Reading<'m> {
     row: &'m [u32],
+    names: &'m [u8],
 }
 
 impl Matcher {
@@ -104,6 +112,7 @@ impl Matcher {
             rule_area: vec![0; RULE_AREA],
             work_area: vec![0; WORK_PER_STEP * budget.min(MOST_BUDGET) as usize],
             rows: vec![0; ROW_LENGTH * readings.max(1)],
+            names: vec![0; INDEX_LENGTH],
         }
     }
 
@@ -112,7 +121,7 @@ impl Matcher {
         let answer = self.call(Call::Match, rule, flags, line);
         let steps = answer.steps;
         match answer.kind {
-            0 => Outcome::Matched { reading: Reading { row: &self.rows[..ROW_LENGTH] }, steps },
+            0 => Outcome::Matched { reading: Reading { row: &self.rows[..ROW_LENGTH], names: &self.names }, steps },
             1 => Outcome::NotMatched { steps },
             2 => Outcome::Exhausted { start: answer.detail as usize, steps },
             _ => Outcome::Refused(answer.refusal()),
@@ -123,7 +132,7 @@ impl Matcher {
     pub fn list_readings(&mut self, rule: &[u8], flags: u32, line: &[u8]) -> Listing<'_> {
         let answer = self.call(Call::List, rule, flags, line);
         let steps = answer.steps;
-        let readings = Readings { rows: self.rows[..ROW_LENGTH * answer.rows].chunks_exact(ROW_LENGTH) };
+        let readings = Readings { rows: self.rows[..ROW_LENGTH * answer.rows].chunks_exact(ROW_LENGTH), names: &self.names };
         match answer.kind {
             0 => Listing::Complete { readings, steps },
             1 => Listing::Full { readings, steps },
@@ -134,7 +143,7 @@ impl Matcher {
 
     fn call(&mut self, call: Call, rule: &[u8], flags: u32, subject: &[u8]) -> Answer {
         let question = raw::Question { rule, flags, subject, budget: self.budget };
-        let areas = raw::Areas { rule: &mut self.rule_area, work: &mut self.work_area, result: &mut self.rows };
+        let areas = raw::Areas { rule: &mut self.rule_area, work: &mut self.work_area, result: &mut self.rows, names: &mut self.names };
         let mut numbers = [0; 6];
         raw::call(call, question, areas, &mut numbers);
         let [kind, detail, place, low, high, rows] = numbers;
@@ -157,7 +166,27 @@ impl Answer {
     }
 }
 
+impl Outcome<'_> {
+    /// The field of this name: what `Reading::field` gives if the line matched, and otherwise the standing text's empty beginning.
+    pub fn field<'t>(&self, name: &[u8], line: &'t [u8], standing: &'t [u8]) -> &'t [u8] {
+        match self {
+            Outcome::Matched { reading, .. } => reading.field(name, line, standing),
+            _ => &standing[..0],
+        }
+    }
+}
+
 impl<'m> Reading<'m> {
+    /// The part of the line that the group of this name took, or the standing text if the group is not set; its empty beginning if the rule has no
+    /// such name. The line is the one that the reading is of: with another one it counts as not matched where the reading does not fit into it.
+    pub fn field<'t>(&self, name: &[u8], line: &'t [u8], standing: &'t [u8]) -> &'t [u8] {
+        let mut field = [0; 3];
+        raw::field(Lookup { name, names: self.names, line, kind: 0, row: self.row, standing }, &mut field);
+        let [part, from, to] = field;
+        let text = if part == 0 { line } else { standing };
+        &text[from as usize..to as usize]
+    }
+
     pub fn start(&self) -> usize {
         self.row[0] as usize
     }
@@ -201,7 +230,7 @@ impl<'m> Iterator for Readings<'m> {
     type Item = Reading<'m>;
 
     fn next(&mut self) -> Option<Reading<'m>> {
-        self.rows.next().map(|row| Reading { row })
+        self.rows.next().map(|row| Reading { row, names: self.names })
     }
 
     fn size_hint(&self) -> (usize, Option<usize>) {

@@ -9,6 +9,11 @@ pub fn hex(bytes: &[u8]) -> String {
     bytes.iter().map(|byte| format!("{byte:02x}")).collect()
 }
 
+/// The bytes that a text of hex digits stands for.
+pub fn from_hex(text: &str) -> Option<Vec<u8>> {
+    text.as_bytes().chunks(2).map(|pair| u8::from_str_radix(std::str::from_utf8(pair).ok()?, 16).ok()).collect()
+}
+
 /// The bytes that a text with `\n`, `\r`, `\t`, `\\` and `\xHH` stands for.
 pub fn unescaped(text: &str) -> Option<Vec<u8>> {
     let mut bytes = Vec::new();

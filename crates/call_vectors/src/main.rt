@@ -1,7 +1,12 @@
 // Runs the public calls and writes what they answer, with the rows.
 //
-// A line of input has eight words: the kind, 0 for a match and 1 for a listing; the flags, the budget and the lengths of the rule area, the
-// work area and the result area in decimal; the rule in hex; and how the subject is given, in hex, or 'x' and a count for so many bytes `a`.
+// A line of input has nine words: the kind, 0 for a match and 1 for a listing; the flags, the budget and the lengths of the rule area, the work area,
+// the result area and the name index in decimal; the rule in hex; and how the subject is given, in hex, or 'x' and a count for so many bytes `a`.
+// Behind an answer and its rows the entries of the name index follow that are not all 00.
+use frame::NAME_INDEX_NEED;
+use index::ROW_LENGTH;
+use index::SPANS_LENGTH;
+use index::UNSET;
 use libc::STDIN_FILENO;
 use libc::STDOUT_FILENO;
 use listing::Listing;
@@ -9,6 +14,25 @@ use matching::Outcome;
 use syntax::Refusal;
 ghost use Prim.Native.Nat.{_≤_, _<_};
 ghost use lib.ListN.{length};
+
+// One byte more than a rule may have, and than a subject may have.
+const RULE_ROOM: usize = frame::RULE_LIMIT + 1;
+
+const LETTERS: usize = frame::SUBJECT_LIMIT + 1;
+
+// What is lent to all calls.
+const RULE_AREA: usize = frame::RULE_AREA_NEED;
+
+const WORK_AREA: usize = frame::WORK_PER_STEP * frame::BUDGET_LIMIT as usize;
+
+const RESULT_AREA: usize = 100 * ROW_LENGTH;
+
+const NAMES: usize = NAME_INDEX_NEED + 56;
+
+// The groups that a rule can have, and the bytes of the entry that each has in the name index.
+const GROUP_LIMIT: usize = SPANS_LENGTH / 2;
+
+const NAME_ENTRY: usize = NAME_INDEX_NEED / GROUP_LIMIT;
 
 fn put(text: &[u8]) {
     io::write_all(STDOUT_FILENO, text);
@@ -24,7 +48,7 @@ fn put_word(n: u32) {
 
 // A group's span, if it is set.
 fn put_span(group: usize, from: u32, to: u32) {
-    if from == 4294967295 {
+    if from == UNSET {
         return;
     }
     put(b" ");
@@ -37,10 +61,10 @@ fn put_span(group: usize, from: u32, to: u32) {
 
 // The row at a position, if it is there: start, end and the spans that are set.
 fn put_row(results: &[u32], base: usize) {
-    if results.len() < 66 {
+    if results.len() < ROW_LENGTH {
         return;
     }
-    if results.len() - 66 < base {
+    if results.len() - ROW_LENGTH < base {
         return;
     }
     put(b"  ");
@@ -48,7 +72,7 @@ fn put_row(results: &[u32], base: usize) {
     put(b" ");
     put_word(results[base + 1]);
     let mut i: usize = 1;
-    while i < 33 {
+    while i <= GROUP_LIMIT {
         put_span(i, results[base + 2 * i], results[base + 2 * i + 1]);
         i += 1;
     }
@@ -64,9 +88,63 @@ fn put_rows(results: &[u32], rows: usize) {
         if results.len() <= base {
             return;
         }
-        base += 66;
+        base += ROW_LENGTH;
         i += 1;
     }
+}
+
+// The hex digit of a number below 16.
+fn hex_digit(d: u8) -> u8
+    requires { ⌜ d < 16 ⌝ }
+{
+    if d < 10 { b'0' + d } else { b'a' + (d - 10) }
+}
+
+// Two hex digits for each byte.
+fn put_hex(bytes: &[u8]) {
+    let mut i: usize = 0;
+    while i < bytes.len() {
+        let b = bytes[i];
+        let digits = [hex_digit(b / 16), hex_digit(b % 16)];
+        put(&digits);
+        i += 1;
+    }
+}
+
+// Whether all bytes are 00.
+fn is_clear(bytes: &[u8]) -> bool {
+    let mut i: usize = 0;
+    while i < bytes.len() {
+        if bytes[i] != 0 {
+            return false;
+        }
+        i += 1;
+    }
+    true
+}
+
+// The entries that are not all 00, each with its group, on one line; no line where there is none.
+fn put_names(names: &[u8]) {
+    if names.len() < NAME_INDEX_NEED {
+        return;
+    }
+    if is_clear(&names[..NAME_INDEX_NEED]) {
+        return;
+    }
+    put(b"  names");
+    let mut g: usize = 0;
+    while g < GROUP_LIMIT {
+        let from = g * NAME_ENTRY;
+        let to = from + NAME_ENTRY;
+        if !is_clear(&names[from..to]) {
+            put(b" ");
+            put_number(g as u64 + 1);
+            put(b":");
+            put_hex(&names[from..to]);
+        }
+        g += 1;
+    }
+    put(b"\n");
 }
 
 fn put_steps(steps: u64) {
@@ -83,53 +161,45 @@ fn put_refusal(f: Refusal) {
     put(b"\n");
 }
 
-// What a match tells, with its row.
-fn put_outcome(outcome: Outcome, results: &[u32]) {
+// What a match tells, with its row and the names.
+fn put_outcome(outcome: Outcome, results: &[u32], names: &[u8]) {
     match outcome {
         Outcome::Matched(steps) => {
             put(b"matched ");
             put_steps(steps);
             put_rows(results, 1);
+            put_names(names);
         }
         Outcome::NotMatched(steps) => {
             put(b"not matched ");
             put_steps(steps);
+            put_names(names);
         }
         Outcome::Exhausted(start, steps) => {
             put(b"exhausted at ");
             put_word(start);
             put(b" ");
             put_steps(steps);
+            put_names(names);
         }
         Outcome::Refused(f) => put_refusal(f),
     }
 }
 
-fn tell_match(
-    rule: &[u8],
-    flags: u32,
-    sub: &[u8],
-    budget: u32,
-    area: &mut [u32],
-    work: &mut [u32],
-    results: &mut [u32],
-) {
-    let outcome = matching::match_line(rule, flags, sub, budget, area, work, results);
-    put_outcome(outcome, results);
-}
-
-// What a listing tells, with its rows.
-fn put_listing(told: Listing, results: &[u32]) {
+// What a listing tells, with its rows and the names.
+fn put_listing(told: Listing, results: &[u32], names: &[u8]) {
     match told {
         Listing::Complete(rows, steps) => {
             put(b"complete ");
             put_steps(steps);
             put_rows(results, rows);
+            put_names(names);
         }
         Listing::Full(rows, steps) => {
             put(b"full ");
             put_steps(steps);
             put_rows(results, rows);
+            put_names(names);
         }
         Listing::Exhausted(start, rows, steps) => {
             put(b"exhausted at ");
@@ -137,12 +207,15 @@ fn put_listing(told: Listing, results: &[u32]) {
             put(b" ");
             put_steps(steps);
             put_rows(results, rows);
+            put_names(names);
         }
         Listing::Refused(f) => put_refusal(f),
     }
 }
 
-fn tell_list(
+// A match, or a listing.
+fn tell(
+    kind: u32,
     rule: &[u8],
     flags: u32,
     sub: &[u8],
@@ -150,9 +223,15 @@ fn tell_list(
     area: &mut [u32],
     work: &mut [u32],
     results: &mut [u32],
+    names: &mut [u8],
 ) {
-    let told = listing::list_readings(rule, flags, sub, budget, area, work, results);
-    put_listing(told, results);
+    if kind == 0 {
+        let outcome = matching::match_line(rule, flags, sub, budget, area, work, results, names);
+        put_outcome(outcome, results, names);
+        return;
+    }
+    let told = listing::list_readings(rule, flags, sub, budget, area, work, results, names);
+    put_listing(told, results, names);
 }
 
 // A word of a line.
@@ -198,13 +277,6 @@ fn within(n: u32, length: usize) -> usize
     }
 }
 
-// What is lent to all calls.
-const RULE_AREA: usize = 16384;
-
-const WORK_AREA: usize = 1600000;
-
-const RESULT_AREA: usize = 6600;
-
 // The call that the line between two positions asks for, on a subject.
 fn call(
     input: &[u8],
@@ -214,38 +286,31 @@ fn call(
     area: &mut [u32],
     work: &mut [u32],
     results: &mut [u32],
+    names: &mut [u8],
 )
     requires { ⌜ (from ≤ to) × (to ≤ length (now input)) ⌝ }
 {
-    let mut rule = [0u8; 1001];
-    let w = word(input, from, to, 6);
+    let mut rule = [0u8; RULE_ROOM];
+    let w = word(input, from, to, 7);
     let n = vectors::decode(input, w.at, w.end, &mut rule);
+    let kind = number(input, from, to, 0);
     let flags = number(input, from, to, 1);
     let budget = number(input, from, to, 2);
     let a = within(number(input, from, to, 3), area.len());
     let b = within(number(input, from, to, 4), work.len());
     let c = within(number(input, from, to, 5), results.len());
-    if number(input, from, to, 0) == 0 {
-        tell_match(
-            &rule[..n],
-            flags,
-            sub,
-            budget,
-            &mut area[..a],
-            &mut work[..b],
-            &mut results[..c],
-        );
-    } else {
-        tell_list(
-            &rule[..n],
-            flags,
-            sub,
-            budget,
-            &mut area[..a],
-            &mut work[..b],
-            &mut results[..c],
-        );
-    }
+    let d = within(number(input, from, to, 6), names.len());
+    tell(
+        kind,
+        &rule[..n],
+        flags,
+        sub,
+        budget,
+        &mut area[..a],
+        &mut work[..b],
+        &mut results[..c],
+        &mut names[..d],
+    );
 }
 
 // The subject in hex, or so many letters.
@@ -256,30 +321,31 @@ fn line(
     area: &mut [u32],
     work: &mut [u32],
     results: &mut [u32],
+    names: &mut [u8],
 )
     requires { ⌜ (from ≤ to) × (to ≤ length (now input)) ⌝ }
 {
-    let w = word(input, from, to, 7);
+    let w = word(input, from, to, 8);
     let at = w.at;
     let end = w.end;
     if at < end {
         if input[at] == b'x' {
-            let letters = [97u8; 65536];
-            let k = within(vectors::number(input, at + 1, end, 2000000), 65536);
-            call(input, from, to, &letters[..k], area, work, results);
+            let letters = [b'a'; LETTERS];
+            let k = within(vectors::number(input, at + 1, end, 2000000), LETTERS);
+            call(input, from, to, &letters[..k], area, work, results, names);
             return;
         }
     }
     let mut sub = [0u8; 1000];
     let k = vectors::decode(input, at, end, &mut sub);
-    call(input, from, to, &sub[..k], area, work, results);
+    call(input, from, to, &sub[..k], area, work, results, names);
 }
 
-fn lines(input: &[u8], area: &mut [u32], work: &mut [u32], results: &mut [u32]) {
+fn lines(input: &[u8], area: &mut [u32], work: &mut [u32], results: &mut [u32], names: &mut [u8]) {
     let mut at = 0;
     while at < input.len() {
         let end = text::line_end(input, at);
-        line(input, at, end, area, work, results);
+        line(input, at, end, area, work, results, names);
         at = end + 1;
     }
 }
@@ -288,7 +354,8 @@ fn lines(input: &[u8], area: &mut [u32], work: &mut [u32], results: &mut [u32]) 
 fn all(input: &[u8], work: &mut [u32; WORK_AREA]) {
     let mut area = [7u32; RULE_AREA];
     let mut results = [7u32; RESULT_AREA];
-    lines(input, &mut area, work, &mut results);
+    let mut names = [7u8; NAMES];
+    lines(input, &mut area, work, &mut results, &mut names);
 }
 
 fn main() {

@@ -17,7 +17,7 @@ fitnessOf Fits = none
 fitnessOf (Unfit why) = some why
 
 -- what of a call it is accepted or refused by
-pub record Sized (c : Call) (rule flags subject budget ruleArea workArea : ℕ) (short : Bool) : Type 0 where
+pub record Sized (c : Call) (rule flags subject budget ruleArea workArea : ℕ) (short : Bool) (names : ℕ) : Type 0 where
   pub rule-is : length (c .rule) ≡ rule
   pub flags-is : c .flags ≡ flags
   pub subject-is : length (c .subject) ≡ subject
@@ -25,3 +25,4 @@ pub record Sized (c : Call) (rule flags subject budget ruleArea workArea : ℕ) 
   pub rule-area-is : length (c .ruleArea) ≡ ruleArea
   pub work-area-is : length (c .workArea) ≡ workArea
   pub short-is : ltb (length (c .resultArea)) rowLength ≡ short
+  pub names-is : length (c .names) ≡ names

@@ -8,8 +8,8 @@ use Rattle.syntax.specs.Tree.{Rule}
 use Rattle.semantics.specs.Calls.{Call, Return, workAreaNeed}
 use Rattle.machine.specs.Theorem.{Stands}
 
-abbrev pub callOf : (rule : List ℕ) (flags : ℕ) (subject : List ℕ) (budget : ℕ) (ruleArea workArea resultArea : List ℕ) → Call
-callOf rule flags subject budget ruleArea workArea resultArea = record {
+abbrev pub callOf : (rule : List ℕ) (flags : ℕ) (subject : List ℕ) (budget : ℕ) (ruleArea workArea resultArea names : List ℕ) → Call
+callOf rule flags subject budget ruleArea workArea resultArea names = record {
   rule = rule;
   flags = flags;
   subject = subject;
@@ -17,16 +17,18 @@ callOf rule flags subject budget ruleArea workArea resultArea = record {
   ruleArea = ruleArea;
   workArea = workArea;
   resultArea = resultArea;
+  names = names;
 }
 
--- the answer, and what stands in the areas, are those of a return
-pub record Returned {A : Type 0} (is : Return A) (told : A) (ruleArea workArea resultArea : List ℕ) : Type 0 where
+-- the answer, and what stands in the areas and in the name index, are those of a return
+pub record Returned {A : Type 0} (is : Return A) (told : A) (ruleArea workArea resultArea names : List ℕ) : Type 0 where
   pub outcome-is : told ≡ is .outcome
   pub rule-area-is : ruleArea ≡ is .ruleArea
   pub work-area-is : workArea ≡ is .workArea
   pub result-area-is : resultArea ≡ is .resultArea
+  pub names-is : names ≡ is .names
 
--- the same before the rule area and the work area are cleared
+-- of an inside: its answer and its rows
 pub record Told {A : Type 0} (is : Return A) (told : A) (resultArea : List ℕ) : Type 0 where
   pub outcome-is : told ≡ is .outcome
   pub result-area-is : resultArea ≡ is .resultArea

@@ -1,8 +1,11 @@
 // Preparing a call: what refuses it, or its rule compiled.
 use crate::areas::finish;
 use crate::refusals::Fitness;
+use crate::refusals::RULE_AREA_NEED;
 use crate::refusals::unfit;
+use naming::fill;
 use reader::Compilation;
+use reader::TABLE_START;
 use reader::compile;
 use syntax::Refusal;
 ghost use mathlib.Core.Path.{_≡_};
@@ -23,22 +26,24 @@ pub enum Preparation {
     Refused(Refusal),
 }
 
-// Compiles the rule of a call that is acceptable so far.
+// Compiles the rule of a call that is acceptable so far, and fills the name index from the table that compiling leaves.
 fn compile_or_clear(
     rule: &[u8],
     flags: u32,
     budget: u32,
     rule_area: &mut [u32],
     work_area: &mut [u32],
+    names: &mut [u8],
 ) -> Preparation
-    requires { ⌜ Lends (now rule) budget (now «rule_area») (now «work_area») ⌝ }
-    ensures { λ r. ⌜ ((line results : List ℕ) → none ≡ unacceptable (callOf (now (rule .entry)) flags line budget (now («rule_area» .entry)) (now («work_area» .entry)) results)
-        → Prepares (callOf (now (rule .entry)) flags line budget (now («rule_area» .entry)) (now («work_area» .entry)) results) r (now («rule_area» .exit)) (now («work_area» .exit))) ⌝ }
+    requires { ⌜ Lends (now rule) budget (now «rule_area») (now «work_area») (now names) ⌝ }
+    ensures { λ r. ⌜ ((line results : List ℕ) → none ≡ unacceptable (callOf (now (rule .entry)) flags line budget (now («rule_area» .entry)) (now («work_area» .entry)) results (now (names .entry)))
+        → Prepares (callOf (now (rule .entry)) flags line budget (now («rule_area» .entry)) (now («work_area» .entry)) results (now (names .entry))) r (now («rule_area» .exit)) (now («work_area» .exit)) (now (names .exit))) ⌝ }
 {
     let compiled = compile(rule, flags, rule_area);
     match compiled {
         Compilation::Sound(pc, groups) => {
             let entry = pc as u32;
+            fill(rule, &rule_area[TABLE_START..RULE_AREA_NEED], groups, names);
             Preparation::Ready(entry, groups)
         }
         Compilation::Refused(f) => {
@@ -57,9 +62,10 @@ pub fn prepare(
     rule_area: &mut [u32],
     work_area: &mut [u32],
     short: bool,
+    names: &mut [u8],
 ) -> Preparation
     ensures { λ r. ⌜ ((line results : List ℕ) → length line ≡ subject → ltb (length results) rowLength ≡ short
-        → Prepares (callOf (now (rule .entry)) flags line budget (now («rule_area» .entry)) (now («work_area» .entry)) results) r (now («rule_area» .exit)) (now («work_area» .exit))) ⌝ }
+        → Prepares (callOf (now (rule .entry)) flags line budget (now («rule_area» .entry)) (now («work_area» .entry)) results (now (names .entry))) r (now («rule_area» .exit)) (now («work_area» .exit)) (now (names .exit))) ⌝ }
 {
     match unfit(
         rule.len(),
@@ -69,8 +75,9 @@ pub fn prepare(
         rule_area.len(),
         work_area.len(),
         short,
+        names.len(),
     ) {
         Fitness::Unfit(reason) => Preparation::Refused(Refusal { place: 0, reason }),
-        Fitness::Fits => compile_or_clear(rule, flags, budget, rule_area, work_area),
+        Fitness::Fits => compile_or_clear(rule, flags, budget, rule_area, work_area, names),
     }
 }

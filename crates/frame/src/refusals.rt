@@ -1,4 +1,5 @@
 // What is refused before the rule is read.
+use naming::NAME_INDEX_NEED;
 use syntax::Reason;
 ghost use mathlib.Core.Path.{_≡_};
 ghost use Rattle.semantics.specs.Calls.{Call, unacceptable};
@@ -31,8 +32,9 @@ pub fn unfit(
     rule_area: usize,
     work_area: usize,
     short: bool,
+    names: usize,
 ) -> Fitness
-    ensures { λ r. ⌜ ((c : Call) → Sized c rule flags subject budget «rule_area» «work_area» short → fitnessOf r ≡ unacceptable c) ⌝ }
+    ensures { λ r. ⌜ ((c : Call) → Sized c rule flags subject budget «rule_area» «work_area» short names → fitnessOf r ≡ unacceptable c) ⌝ }
 {
     if RULE_LIMIT < rule {
         return Fitness::Unfit(Reason::RuleTooLong);
@@ -54,6 +56,9 @@ pub fn unfit(
     }
     if short {
         return Fitness::Unfit(Reason::ResultAreaShort);
+    }
+    if names < NAME_INDEX_NEED {
+        return Fitness::Unfit(Reason::NameIndexShort);
     }
     Fitness::Fits
 }

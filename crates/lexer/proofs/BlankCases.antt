@@ -15,7 +15,8 @@ use Rattle.charset.specs.declared.Named.the-variants.{Space}
 use Rattle.charset.specs.Named.{ranges, inRange, inRanges, inNamed}
 use Rattle.syntax.specs.Limits.{extendedBit}
 use Rattle.syntax.specs.Read.{if_then_else_}
-use Rattle.syntax.specs.Grammar.{extended, skipped, behindBlanks}
+use Rattle.syntax.specs.Flags.{extended}
+use Rattle.syntax.specs.Grammar.{skipped, behindBlanks}
 use Rattle.lexer.proofs.Digits.{inside, outside}
 
 -- One byte --------------------------------------------------------------------------

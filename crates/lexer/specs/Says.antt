@@ -4,19 +4,25 @@ use mathlib.Core.List.{List}
 use mathlib.Core.Bool.{Bool, false}
 use mathlib.Core.Option.{Option, none, some}
 use Prim.Native.Nat.{ℕ, _+_, _-_, _*_, _≤_, _<_}
+use Prim.Native.Char.{Char, code}
 use lib.ListN.{length}
 use lib.Dec.{ltb}
+use lib.Seq.{slice}
 use Rattle.charset.specs.declared.Named.{Named}
 use Rattle.charset.specs.Class.{has}
+use Rattle.syntax.specs.Limits.{nameLimit}
 use Rattle.syntax.specs.Read.{if_then_else_, byte, Read, sound, refused}
 use Rattle.syntax.specs.Sets.{Member, single, range, named, notNamed, Class, isMember, isAny, inClass}
 use Rattle.syntax.specs.Tree.{Item, byteIn, assert, reference}
 use Rattle.syntax.specs.Numbers.{digits, value}
+use Rattle.syntax.specs.Names.{Name, Names, nameUpTo, groupCalled}
 use Rattle.lexer.specs.declared.Number.{Number}
 use Rattle.lexer.specs.declared.MemberRead.{MemberRead}
 use Rattle.lexer.specs.declared.MemberRead.the-variants.{Single, Range, Set, NotSet, Bad}
 use Rattle.lexer.specs.declared.GroupRead.{GroupRead}
 use Rattle.lexer.specs.declared.GroupRead.the-variants.{Group, BadGroup}
+use Rattle.lexer.specs.declared.NameRead.{NameRead}
+use Rattle.lexer.specs.declared.NameRead.the-variants.{Named as NamedAt, BadName}
 use Rattle.lexer.specs.declared.SetRead.{SetRead}
 use Rattle.lexer.specs.declared.SetRead.the-variants.{Known, Unknown}
 use Rattle.lexer.specs.declared.ClassRead.{ClassRead}
@@ -24,7 +30,7 @@ use Rattle.lexer.specs.declared.ClassEnd.{ClassEnd}
 use Rattle.lexer.specs.declared.ClassEnd.the-variants.{Closed, BadClass}
 use Rattle.lexer.specs.declared.Lexed.{Lexed}
 use Rattle.lexer.specs.declared.Token.{Token}
-use Rattle.lexer.specs.declared.Token.the-variants.{Byte, Assert, Reference, BadItem}
+use Rattle.lexer.specs.declared.Token.the-variants.{Byte, Assert, Reference, Called, BadItem}
 
 -- r is the byte at a position, or 256 past the end; `near` says linearly that a byte below 256 stands within the rule
 pub record Peeked (s : List ℕ) (at r : ℕ) : Type 0 where
@@ -63,12 +69,28 @@ abbrev pub groupOf : GroupRead → Read ℕ
 groupOf (Group n next) = sound n next
 groupOf (BadGroup f) = refused (f .place) (f .reason)
 
+-- a name that is told by its position and its length stands within the rule, and so does what closes it
+pub record NameWithin (s : List ℕ) (from len next : ℕ) : Type 0 where
+  pub some : 1 ≤ len
+  pub most : len ≤ nameLimit
+  pub closed : from + len < length s
+  pub behind : next ≡ from + len + 1
+
+-- the reading a of a group's name is what a reader says
+abbrev pub SaysName : List ℕ → Read Name → NameRead → Type 0
+SaysName s a (NamedAt from len next) = (a ≡ sound (slice from (from + len) s) next) × NameWithin s from len next
+SaysName s a (BadName f) = a ≡ refused (f .place) (f .reason)
+
+-- the name at a position, up to a character that is told by its byte, is what a reader says
+abbrev pub SaysNameUpTo : ℕ → List ℕ → (place at : ℕ) → NameRead → Type 0
+SaysNameUpTo closer s place at r = (c : Char) → code c ≡ closer → SaysName s (nameUpTo c s place at) r
+
 -- what a reader of a set's name says
 abbrev pub setOf : SetRead → Option Named
 setOf (Known set) = some set
 setOf Unknown = none
 
--- All that follows is for classes and items that are folded, or for those that are not.
+-- Classes, which are folded or are not.
 module _ (folded : Bool) where
   -- whether the member that was read has a byte
   abbrev pub isRead : ℕ → MemberRead → Bool
@@ -102,11 +124,14 @@ module _ (folded : Bool) where
   abbrev pub SaysClass : Read Class → ClassRead → Type 0
   SaysClass a r = ClassIn a (r .words) (r .end)
 
+-- Items of the rule s, which are folded or are not. `known` are the names of the whole rule's groups.
+module _ (s : List ℕ) (folded : Bool) (known : Names) where
   -- the reading a of an item is what words and a token say: a byte item's class stands in the words
   abbrev pub ItemIn : Read Item → List ℕ → Token → Type 0
-  ItemIn a words (Byte next) = (c : Class) × (a ≡ sound (byteIn folded c) next) × HoldsClass words c
+  ItemIn a words (Byte next) = (c : Class) × (a ≡ sound (byteIn folded c) next) × HoldsClass folded words c
   ItemIn a words (Assert k next) = a ≡ sound (assert k) next
   ItemIn a words (Reference n next) = a ≡ sound (reference folded n) next
+  ItemIn a words (Called from len next) = (a ≡ sound (reference folded (groupCalled (slice from (from + len) s) known)) next) × NameWithin s from len next
   ItemIn a words (BadItem f) = a ≡ refused (f .place) (f .reason)
 
   abbrev pub SaysItem : Read Item → Lexed → Type 0

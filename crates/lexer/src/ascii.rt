@@ -3,6 +3,10 @@ pub const OPENING_BRACE: u32 = b'{' as u32;
 
 pub const CLOSING_BRACE: u32 = b'}' as u32;
 
+pub const LESS: u32 = b'<' as u32;
+
+pub const APOSTROPHE: u32 = b'\'' as u32;
+
 pub const CLOSING_BRACKET: u32 = b']' as u32;
 
 pub const COLON: u32 = b':' as u32;

@@ -5,8 +5,12 @@ use crate::ClassRead;
 use crate::GroupRead;
 use crate::Lexed;
 use crate::MemberRead;
+use crate::NameRead;
 use crate::Token;
 use crate::ascii::END;
+use crate::called::called_at;
+use crate::called::calls_by_name;
+use crate::called::name_at;
 use crate::classes::class_at;
 use crate::classes::with_member;
 use crate::escapes::common_at;
@@ -21,22 +25,25 @@ use charset::empty;
 use syntax::Assertion;
 use syntax::Refusal;
 ghost use mathlib.Core.Path.{_≡_};
+ghost use mathlib.Core.List.{List};
 ghost use mathlib.Core.Bool.{Bool};
-ghost use Prim.Native.Nat.{_≤_, _<_};
+ghost use Prim.Native.Nat.{ℕ, _+_, _≤_, _<_};
 ghost use lib.ListN.{length};
 ghost use Rattle.syntax.specs.declared.Assertion.the-variants.{TextStart, LineStart, LastLineEnd, LineEnd};
 ghost use Rattle.syntax.specs.Limits.{groupLimit};
-ghost use Rattle.syntax.specs.Read.{if_then_else_, Read, sound, refused, andThen};
+ghost use Rattle.syntax.specs.Read.{if_then_else_, byte, Read, sound, refused, andThen};
 ghost use Rattle.syntax.specs.Sets.{Class, only, notNewline, anyByte};
 ghost use Rattle.syntax.specs.Tree.{byteIn, assert, reference};
+ghost use Rattle.syntax.specs.Flags.{dotAll, multiline, ignoreCase};
+ghost use Rattle.syntax.specs.Names.{Name, Names, groupCalled};
 ghost use Rattle.syntax.specs.Escapes.{escape};
-ghost use Rattle.syntax.specs.Grammar.{dotAll, multiline, ignoreCase, atom};
-ghost use Rattle.lexer.specs.Says.{memberOf, groupOf, HoldsClass, SaysClass, SaysItem};
+ghost use Rattle.syntax.specs.Grammar.{atom};
+ghost use Rattle.lexer.specs.Says.{memberOf, groupOf, SaysName, HoldsClass, SaysClass, SaysItem};
 
 // Items with no class of their own -----------------------------------------------
 
 fn bad_item(refusal: Refusal) -> Lexed
-    ensures { λ r. ⌜ ((folded : Bool) → SaysItem folded (refused (refusal .place) (refusal .reason)) r) ⌝ }
+    ensures { λ r. ⌜ ((s : List ℕ) (folded : Bool) (known : Names) → SaysItem s folded known (refused (refusal .place) (refusal .reason)) r) ⌝ }
 {
     Lexed {
         words: [0; 8],
@@ -45,7 +52,7 @@ fn bad_item(refusal: Refusal) -> Lexed
 }
 
 fn assertion(which: Assertion, next: usize) -> Lexed
-    ensures { λ r. ⌜ ((folded : Bool) → SaysItem folded (sound (assert which) next) r) ⌝ }
+    ensures { λ r. ⌜ ((s : List ℕ) (folded : Bool) (known : Names) → SaysItem s folded known (sound (assert which) next) r) ⌝ }
 {
     Lexed {
         words: [0; 8],
@@ -54,7 +61,7 @@ fn assertion(which: Assertion, next: usize) -> Lexed
 }
 
 fn group_item(group: GroupRead) -> Lexed
-    ensures { λ r. ⌜ ((folded : Bool) → SaysItem folded (andThen (groupOf group) (λ n next. sound (reference folded n) next)) r) ⌝ }
+    ensures { λ r. ⌜ ((s : List ℕ) (folded : Bool) (known : Names) → SaysItem s folded known (andThen (groupOf group) (λ n next. sound (reference folded n) next)) r) ⌝ }
 {
     match group {
         GroupRead::Group(n, next) => Lexed {
@@ -62,6 +69,19 @@ fn group_item(group: GroupRead) -> Lexed
             token: Token::Reference(n, next),
         },
         GroupRead::BadGroup(refusal) => bad_item(refusal),
+    }
+}
+
+// A reference by name. Which group has it is known when the whole rule has been read.
+fn called_item(name: NameRead) -> Lexed
+    ensures { λ r. ⌜ ((s : List ℕ) (folded : Bool) (known : Names) (a : Read Name) → SaysName s a name → SaysItem s folded known (andThen a (λ n next. sound (reference folded (groupCalled n known)) next)) r) ⌝ }
+{
+    match name {
+        NameRead::Named(from, len, next) => Lexed {
+            words: [0; 8],
+            token: Token::Called(from, len, next),
+        },
+        NameRead::BadName(refusal) => bad_item(refusal),
     }
 }
 
@@ -83,7 +103,7 @@ fn not_newline() -> [u32; 8]
 
 // A byte or a set outside a class, folded or not.
 fn member_item(m: MemberRead, folded: bool) -> Lexed
-    ensures { λ r. ⌜ SaysItem folded (andThen (memberOf m) (λ x next. sound (byteIn folded (only x)) next)) r ⌝ }
+    ensures { λ r. ⌜ ((s : List ℕ) (known : Names) → SaysItem s folded known (andThen (memberOf m) (λ x next. sound (byteIn folded (only x)) next)) r) ⌝ }
 {
     if let MemberRead::Bad(refusal) = m {
         return bad_item(refusal);
@@ -98,7 +118,7 @@ fn member_item(m: MemberRead, folded: bool) -> Lexed
 
 // A class as an item.
 fn class_item(class: ClassRead) -> Lexed
-    ensures { λ r. ⌜ ((folded : Bool) (a : Read Class) → SaysClass folded a class → SaysItem folded (andThen a (λ x next. sound (byteIn folded x) next)) r) ⌝ }
+    ensures { λ r. ⌜ ((s : List ℕ) (folded : Bool) (known : Names) (a : Read Class) → SaysClass folded a class → SaysItem s folded known (andThen a (λ x next. sound (byteIn folded x) next)) r) ⌝ }
 {
     let words = class.words;
     let end = class.end;
@@ -122,7 +142,7 @@ fn ignores_case(flags: u32) -> bool
 
 // `.`
 fn dot(flags: u32, next: usize) -> Lexed
-    ensures { λ r. ⌜ ((folded : Bool) → SaysItem folded (sound (byteIn folded (if dotAll flags then anyByte else notNewline)) next) r) ⌝ }
+    ensures { λ r. ⌜ ((s : List ℕ) (folded : Bool) (known : Names) → SaysItem s folded known (sound (byteIn folded (if dotAll flags then anyByte else notNewline)) next) r) ⌝ }
 {
     if flags % 2 == 1 {
         return Lexed {
@@ -138,7 +158,7 @@ fn dot(flags: u32, next: usize) -> Lexed
 
 // `^`
 fn caret(flags: u32, next: usize) -> Lexed
-    ensures { λ r. ⌜ ((folded : Bool) → SaysItem folded (sound (assert (if multiline flags then LineStart else TextStart)) next) r) ⌝ }
+    ensures { λ r. ⌜ ((s : List ℕ) (folded : Bool) (known : Names) → SaysItem s folded known (sound (assert (if multiline flags then LineStart else TextStart)) next) r) ⌝ }
 {
     if flags / 2 % 2 == 1 {
         return assertion(Assertion::LineStart, next);
@@ -148,7 +168,7 @@ fn caret(flags: u32, next: usize) -> Lexed
 
 // `$`
 fn dollar(flags: u32, next: usize) -> Lexed
-    ensures { λ r. ⌜ ((folded : Bool) → SaysItem folded (sound (assert (if multiline flags then LineEnd else LastLineEnd)) next) r) ⌝ }
+    ensures { λ r. ⌜ ((s : List ℕ) (folded : Bool) (known : Names) → SaysItem s folded known (sound (assert (if multiline flags then LineEnd else LastLineEnd)) next) r) ⌝ }
 {
     if flags / 2 % 2 == 1 {
         return assertion(Assertion::LineEnd, next);
@@ -158,10 +178,21 @@ fn dollar(flags: u32, next: usize) -> Lexed
 
 // By the first byte ---------------------------------------------------------------------
 
+// `\g`: a name in braces, or a number.
+fn group_at(rule: &[u8], opened: u32, at: usize) -> Lexed
+    requires { ⌜ (opened ≤ groupLimit) × (at + 2 ≤ length (now rule)) × (byte (now rule) (at + 1) ≡ 103) ⌝ }
+    ensures { λ r. ⌜ ((folded : Bool) (known : Names) → SaysItem (now (rule .entry)) folded known (escape (now (rule .entry)) folded known opened at) r) ⌝ }
+{
+    if calls_by_name(rule, at) {
+        return called_item(name_at(rule, b'}', at, at + 3));
+    }
+    group_item(group_number_at(rule, opened, at))
+}
+
 // An escape outside a class, folded or not, where so many groups have been opened.
 fn escape_at(rule: &[u8], folded: bool, opened: u32, at: usize) -> Lexed
     requires { ⌜ (opened ≤ groupLimit) × (at < length (now rule)) ⌝ }
-    ensures { λ r. ⌜ SaysItem folded (escape (now (rule .entry)) folded opened at) r ⌝ }
+    ensures { λ r. ⌜ ((known : Names) → SaysItem (now (rule .entry)) folded known (escape (now (rule .entry)) folded known opened at) r) ⌝ }
 {
     let next = at + 2;
     let b = peek(rule, at + 1);
@@ -181,7 +212,8 @@ fn escape_at(rule: &[u8], folded: bool, opened: u32, at: usize) -> Lexed
         b'B' => assertion(Assertion::NoWordBoundary, next),
         b'0' => member_item(octal_at(rule, at), folded),
         b'1'..=b'9' => group_item(forward_at(rule, at, at + 1)),
-        b'g' => group_item(group_number_at(rule, opened, at)),
+        b'k' => called_item(called_at(rule, at)),
+        b'g' => group_at(rule, opened, at),
         _ => member_item(common_at(rule, at), folded),
     }
 }
@@ -189,7 +221,7 @@ fn escape_at(rule: &[u8], folded: bool, opened: u32, at: usize) -> Lexed
 // The item at a position, where so many groups have been opened.
 pub fn item_at(rule: &[u8], flags: u32, opened: u32, at: usize) -> Lexed
     requires { ⌜ (opened ≤ groupLimit) × (at < length (now rule)) ⌝ }
-    ensures { λ r. ⌜ SaysItem (ignoreCase flags) (atom (now (rule .entry)) flags opened at) r ⌝ }
+    ensures { λ r. ⌜ ((known : Names) → SaysItem (now (rule .entry)) (ignoreCase flags) known (atom (now (rule .entry)) flags known opened at) r) ⌝ }
 {
     let folded = ignores_case(flags);
     let next = at + 1;

@@ -5,6 +5,7 @@ use syntax::Refusal;
 
 mod ascii;
 mod blanks;
+mod called;
 mod classes;
 mod escapes;
 mod items;
@@ -15,6 +16,7 @@ mod quantifiers;
 mod references;
 
 pub use blanks::behind_blanks;
+pub use called::name_at;
 pub use items::item_at;
 pub use numbers::digit_value;
 pub use numbers::number_at;
@@ -42,6 +44,12 @@ pub enum GroupRead {
     BadGroup(Refusal),
 }
 
+// A group's name, told by where it stands in the rule: its first byte's position and its length. Then the position behind what closes it.
+pub enum NameRead {
+    Named(usize, usize, usize),
+    BadName(Refusal),
+}
+
 // The set that a name stands for.
 pub enum SetRead {
     Known(Named),
@@ -60,11 +68,13 @@ pub struct ClassRead {
     pub end: ClassEnd,
 }
 
-// An item that is no group, and the position behind it.
+// An item that is no group, and the position behind it. A group that is called by its name is told by where the name stands, since it may be opened
+// further on.
 pub enum Token {
     Byte(usize),
     Assert(Assertion, usize),
     Reference(u32, usize),
+    Called(usize, usize, usize),
     BadItem(Refusal),
 }
 

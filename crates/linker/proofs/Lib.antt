@@ -3,6 +3,7 @@ pub mod Regions
 pub mod Compiled
 mod Made
 mod Stores
+mod Called
 mod Trees
 mod Items
 mod Groups

@@ -7,13 +7,14 @@ use Prim.Native.Nat.{ℕ, _+_, _-_, _*_, _≤_, _<_}
 use native.Mathlib.Omega.{arith}
 use borrow.Author.Tests.{eq-eqb, ne-eqb, le-leb, lt-leb}
 use lib.ListN.{getD, set, length, length-set}
-use lib.Seq.{getD-set-same, getD-set-other}
+use lib.Seq.{slice, getD-set-same, getD-set-other}
 use Rattle.syntax.specs.Limits.{slot}
+use Rattle.syntax.specs.Names.{Names, groupCalled}
 use Rattle.syntax.specs.Reading.{dangling}
 use Rattle.syntax.specs.Tree.{reference}
 use Rattle.linker.specs.Nodes.{beforeOf}
 use Rattle.linker.specs.Linking.{noted}
-use Rattle.linker.specs.Stores.{Put, PutTwo, GroupClosed, RepeatClosed, Referred}
+use Rattle.linker.specs.Stores.{Put, PutTwo, GroupClosed, RepeatClosed, Referred, Numbered}
 use Rattle.linker.proofs.Made.{outside-none, outside-then}
 
 pub put-done : (a : List ℕ) (at x : ℕ) → at < length a → Put a (set a at x) at x
@@ -115,3 +116,14 @@ module _ (groups : ℕ) (a : List ℕ) (p next sofar : ℕ) where
         span = λ w. v .is ∙ rw e;
         first = rw (group-answers groups (getD a (p + 2) 0) (getD a (p + 3) 0) (λ w. z (e ∙ w)) (omega arith));
       }
+
+-- a reference by name: its kind, then its number
+pub numbered : (s : List ℕ) (known : Names) (a b c : List ℕ) (p from len n : ℕ) → from ≡ getD a (p + 3) 0 → len ≡ getD a (p + 5) 0 → n ≡ groupCalled (slice from (from + len) s) known
+    → Put a b p 11 → Put b c (p + 3) n → Numbered s known a c p
+numbered s known a b c p from len n e f g u v =
+    record {
+      is = v .rest .below p (omega arith) ∙ u .is;
+      origin = v .rest .below (p + 2) (omega arith) ∙ u .rest .above (p + 2) (omega arith);
+      number = v .is ∙ g ∙ rw (e, f);
+      rest = outside-then p (p + 1) (p + 3) (p + 3 + 1) p (p + 4) a b c (omega arith) (omega arith) (omega arith) (omega arith) (u .rest) (v .rest);
+    }

@@ -5,12 +5,14 @@ use mathlib.Core.Option.{Option, none, some}
 use Prim.Native.Nat.{ℕ, suc, max, _+_, _*_, _≤_, _<_}
 use lib.ListN.{getD, length}
 use Rattle.syntax.specs.Limits.{groupLimit, ruleAreaNeed, registers, spansLength}
+use Rattle.syntax.specs.Names.{Names}
 use Rattle.syntax.specs.Tree.{Rule, empty, item, seq, alt, group, repeat, Branches, one, also}
 use Rattle.syntax.specs.Reading.{unresolved, unresolvedIn}
 use Rattle.syntax.specs.WellFormed.{Proper, Propers}
 use Rattle.syntax.specs.Compiled.{Compiled, CompiledBranches}
 use Rattle.linker.specs.declared.Linkage.{Linkage}
 use Rattle.linker.specs.declared.Linkage.the-variants.{Entry, NoGroup}
+use Rattle.linker.specs.Table.{Spelled}
 use Rattle.linker.specs.Nodes.{Region, Inside, Several}
 
 -- What is asked ---------------------------------------------------------------
@@ -50,14 +52,22 @@ pub record Stands (Holds : Rule → Region) (groups r : ℕ) (a : List ℕ) (p :
   pub within : top ≤ length a
   pub small : top ≤ ruleAreaNeed
 
-pub record StandAll (groups r : ℕ) (a : List ℕ) (p : ℕ) : Type 0 where
+pub record StandAll (s : List ℕ) (known : Names) (groups r : ℕ) (a : List ℕ) (p : ℕ) : Type 0 where
   pub branches : Branches
   pub lo : ℕ
   pub top : ℕ
-  pub holds : Several a branches lo top p
+  pub holds : Several s known a branches lo top p
   pub fits : FitAll groups r branches
   pub within : top ≤ length a
   pub small : top ≤ ruleAreaNeed
+
+-- What is asked of a whole rule s: the table spells the names of its groups, with which it stands.
+pub record Linkable (s : List ℕ) (groups : ℕ) (table a : List ℕ) (p : ℕ) : Type 0 where
+  pub known : Names
+  pub many : length known ≡ groups
+  pub spelled : Spelled s known table
+  pub room : 2 * groups ≤ length table
+  pub stands : Stands (Inside s known a) groups spansLength a p
 
 -- What is promised ------------------------------------------------------------
 
@@ -91,8 +101,8 @@ pub record MadeAll (groups r : ℕ) (bs : Branches) (lo top : ℕ) (old new : Li
 unfoldable pub Links : (Holds : Rule → Region) (groups r : ℕ) (old new : List ℕ) (p next sofar pc found : ℕ) → Type 0
 Links Holds groups r old new p next sofar pc found = (t : Rule) (lo top : ℕ) → Holds t lo top p → Fits groups r t → Made groups r t lo top old new next sofar pc found
 
-unfoldable pub LinksAll : (groups r : ℕ) (old new : List ℕ) (p other next sofar pc found : ℕ) → Type 0
-LinksAll groups r old new p other next sofar pc found = (bs : Branches) (lo top : ℕ) → Several old bs lo top p → FitAll groups r bs → MadeAll groups r bs lo top old new other next sofar pc found
+unfoldable pub LinksAll : (s : List ℕ) (known : Names) (groups r : ℕ) (old new : List ℕ) (p other next sofar pc found : ℕ) → Type 0
+LinksAll s known groups r old new p other next sofar pc found = (bs : Branches) (lo top : ℕ) → Several s known old bs lo top p → FitAll groups r bs → MadeAll groups r bs lo top old new other next sofar pc found
 
 -- A whole rule: the end follows it, at position 0, and its registers are those behind the captures.
 pub record Entered (groups : ℕ) (t : Rule) (lo top : ℕ) (new : List ℕ) (pc : ℕ) : Type 0 where
@@ -105,5 +115,7 @@ abbrev pub Whole : ℕ → Rule → (lo top : ℕ) → List ℕ → Linkage → 
 Whole groups t lo top new (Entry pc) = Entered groups t lo top new pc
 Whole groups t lo top new (NoGroup place) = unresolved groups t ≡ some place
 
-unfoldable pub LinksWhole : (groups : ℕ) (old new : List ℕ) (p : ℕ) → Linkage → Type 0
-LinksWhole groups old new p l = (t : Rule) (lo top : ℕ) → Inside old t lo top p → Fits groups spansLength t → Outside lo top old new × Whole groups t lo top new l
+-- whatever tree stood at p with the names that the table spells
+unfoldable pub LinksWhole : (s : List ℕ) (groups : ℕ) (table old new : List ℕ) (p : ℕ) → Linkage → Type 0
+LinksWhole s groups table old new p l =
+    (known : Names) → length known ≡ groups → Spelled s known table → (t : Rule) (lo top : ℕ) → Inside s known old t lo top p → Fits groups spansLength t → Outside lo top old new × Whole groups t lo top new l

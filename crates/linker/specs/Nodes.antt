@@ -4,6 +4,7 @@
 --   byte       0, before, place, the class in eight words
 --   assertion  1, before, place, which
 --   reference 11, before, place, the group's number, 1 if it is folded
+--   named     12, before, place, where the group's name begins in the rule, 1 if it is folded, how many bytes the name has
 --   group      4, before, 0, the slot of its span, 3, inside, 0       the close's four numbers, then the open's three
 --   plain     10, before, inside                                      a group that does not capture
 --   repeat     7, 8, least, most, greed, 0, body, before
@@ -11,13 +12,18 @@
 --   last       6, inside, the branch before it
 --
 -- `inside` is the last part of a sequence, or the last branch of an alternation. 0 is no node's position: it stands for none.
+-- A reference by name may stand before its group: its number is known only when the whole rule is read.
 use mathlib.Core.Path.{_≡_}
+use mathlib.Core.Bool.{Bool}
 use mathlib.Core.List.{List}
+use mathlib.Core.Logic.{_⊎_}
 use Prim.Native.Nat.{ℕ, _+_, _≤_, _<_}
-use lib.ListN.{getD, drop}
+use lib.ListN.{getD, drop, length}
+use lib.Seq.{slice}
 use lib.Dec.{eqb}
 use Rattle.charset.specs.Class.{has}
 use Rattle.syntax.specs.Limits.{slot}
+use Rattle.syntax.specs.Names.{Names, groupCalled}
 use Rattle.syntax.specs.Read.{if_then_else_}
 use Rattle.syntax.specs.Sets.{inClass}
 use Rattle.syntax.specs.Tree.{Item, byteIn, assert, reference, Rule, empty, item, seq, alt, group, repeat, Branches, one, also}
@@ -70,6 +76,27 @@ module _ (a : List ℕ) where
     pub is : getD a (p + 2) 0 ≡ inside
     pub holds : Within lo p inside
 
+  -- a reference by its group's number
+  pub record ByNumber (folded : Bool) (n lo top p place : ℕ) : Type 0 where
+    pub node : Last a lo top p 5 11
+    pub origin : getD a (p + 2) 0 ≡ place
+    pub number : getD a (p + 3) 0 ≡ n
+    pub folds : getD a (p + 4) 0 ≡ foldedWord folded
+
+-- The rule's bytes are s, and the names of its groups are known. -----
+module _ (s : List ℕ) (known : Names) (a : List ℕ) where
+  -- a reference by its group's name, which is bytes of the rule
+  pub record ByName (folded : Bool) (n lo top p place : ℕ) : Type 0 where
+    pub node : Last a lo top p 6 12
+    pub origin : getD a (p + 2) 0 ≡ place
+    pub from : ℕ
+    pub begins : getD a (p + 3) 0 ≡ from
+    pub folds : getD a (p + 4) 0 ≡ foldedWord folded
+    pub len : ℕ
+    pub long : getD a (p + 5) 0 ≡ len
+    pub within : from + len ≤ length s
+    pub number : n ≡ groupCalled (slice from (from + len) s) known
+
   abbrev pub ItemPart : Item → (lo top p place : ℕ) → Type 0
   ItemPart (byteIn folded c) lo top p place = record {
     node : Last a lo top p 11 0;
@@ -77,12 +104,7 @@ module _ (a : List ℕ) where
     set : (x : ℕ) → x < 256 → has (drop (p + 3) a) x ≡ inClass folded c x;
   }
   ItemPart (assert k) lo top p place = record { node : Last a lo top p 4 1; origin : getD a (p + 2) 0 ≡ place; which : getD a (p + 3) 0 ≡ assertionWord k }
-  ItemPart (reference folded n) lo top p place = record {
-    node : Last a lo top p 5 11;
-    origin : getD a (p + 2) 0 ≡ place;
-    number : getD a (p + 3) 0 ≡ n;
-    folds : getD a (p + 4) 0 ≡ foldedWord folded;
-  }
+  ItemPart (reference folded n) lo top p place = ByNumber a folded n lo top p place ⊎ ByName folded n lo top p place
 
   unfoldable mutual
     -- a part of a sequence stands at p, its nodes from lo on and below top: an item, a group or a repeat; or a group that does not
@@ -107,14 +129,14 @@ module _ (a : List ℕ) where
       is : getD a (p + 6) 0 ≡ body;
       holds : Part t lo p body;
     }
-    Part empty lo top p = Plain Nothing lo top p
-    Part (seq x y) lo top p = Plain (Sequence (λ l h q. Chain x l h q) (λ l h q. Part y l h q)) lo top p
-    Part (alt bs t) lo top p = Plain (Branch 6 (λ l h q. Several bs l h q) (λ l h q. Chain t l h q)) lo top p
+    Part empty lo top p = Plain a Nothing lo top p
+    Part (seq x y) lo top p = Plain a (Sequence a (λ l h q. Chain x l h q) (λ l h q. Part y l h q)) lo top p
+    Part (alt bs t) lo top p = Plain a (Branch a 6 (λ l h q. Several bs l h q) (λ l h q. Chain t l h q)) lo top p
 
     -- the parts of a sequence, the last of them at p, or 0 for none
     pub Chain : Rule → Region
     Chain empty lo top p = Nothing lo top p
-    Chain (seq x y) lo top p = Sequence (λ l h q. Chain x l h q) (λ l h q. Part y l h q) lo top p
+    Chain (seq x y) lo top p = Sequence a (λ l h q. Chain x l h q) (λ l h q. Part y l h q) lo top p
     Chain (item place i) lo top p = ⊥
     Chain (alt bs t) lo top p = ⊥
     Chain (group n t) lo top p = ⊥
@@ -123,13 +145,13 @@ module _ (a : List ℕ) where
     -- what stands in a group: a sequence or an alternation, with its last part or branch at p
     pub Inside : Rule → Region
     Inside empty lo top p = Nothing lo top p
-    Inside (seq x y) lo top p = Sequence (λ l h q. Chain x l h q) (λ l h q. Part y l h q) lo top p
-    Inside (alt bs t) lo top p = Branch 6 (λ l h q. Several bs l h q) (λ l h q. Chain t l h q) lo top p
+    Inside (seq x y) lo top p = Sequence a (λ l h q. Chain x l h q) (λ l h q. Part y l h q) lo top p
+    Inside (alt bs t) lo top p = Branch a 6 (λ l h q. Several bs l h q) (λ l h q. Chain t l h q) lo top p
     Inside (item place i) lo top p = ⊥
     Inside (group n t) lo top p = ⊥
     Inside (repeat place least most g t) lo top p = ⊥
 
     -- branches but the last, the latest of them at p
     pub Several : Branches → Region
-    Several (one t) lo top p = Branch 5 Nothing (λ l h q. Chain t l h q) lo top p
-    Several (also bs t) lo top p = Branch 5 (λ l h q. Several bs l h q) (λ l h q. Chain t l h q) lo top p
+    Several (one t) lo top p = Branch a 5 Nothing (λ l h q. Chain t l h q) lo top p
+    Several (also bs t) lo top p = Branch a 5 (λ l h q. Several bs l h q) (λ l h q. Chain t l h q) lo top p

@@ -6,7 +6,9 @@ use mathlib.Core.Logic.{_⊎_}
 use mathlib.Core.Option.{none}
 use Prim.Native.Nat.{ℕ, _+_, _≤_, _<_}
 use lib.ListN.{getD}
+use lib.Seq.{slice}
 use Rattle.syntax.specs.Limits.{slot}
+use Rattle.syntax.specs.Names.{Names, groupCalled}
 use Rattle.syntax.specs.Reading.{dangling}
 use Rattle.syntax.specs.Tree.{reference}
 use Rattle.linker.specs.Linking.{Outside, noted}
@@ -65,3 +67,17 @@ pub record Referred (groups : ℕ) (old new : List ℕ) (p next sofar found : �
   pub goes : dangling groups (getD old (p + 2) 0) (reference false (getD old (p + 3) 0)) ≡ none → getD new (p + 1) 0 ≡ next
   pub span : dangling groups (getD old (p + 2) 0) (reference false (getD old (p + 3) 0)) ≡ none → getD new (p + 3) 0 ≡ slot (getD old (p + 3) 0)
   pub first : found ≡ noted (dangling groups (getD old (p + 2) 0) (reference false (getD old (p + 3) 0))) sofar
+
+-- a reference by name, whose name becomes its group's number
+pub record Numbered (s : List ℕ) (known : Names) (old new : List ℕ) (p : ℕ) : Type 0 where
+  pub is : getD new p 0 ≡ 11
+  pub origin : getD new (p + 2) 0 ≡ getD old (p + 2) 0
+  pub number : getD new (p + 3) 0 ≡ groupCalled (slice (getD old (p + 3) 0) (getD old (p + 3) 0 + getD old (p + 5) 0) s) known
+  pub rest : Outside p (p + 4) old new
+
+-- and which is then linked by that
+pub record NameLinked (s : List ℕ) (known : Names) (groups : ℕ) (old new : List ℕ) (p next sofar pc found : ℕ) : Type 0 where
+  pub entered : pc ≡ p
+  pub between : List ℕ
+  pub numbered : Numbered s known old between p
+  pub referred : Referred groups between new p next sofar found

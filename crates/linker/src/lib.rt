@@ -1,12 +1,17 @@
-// Turns the nodes that the first pass left in the rule area into the compiled rule, in place, from the last part to the first.
+// Turns the nodes that the first pass left in the rule area into the compiled rule, in place, from the last part to the first. Only here does a
+// reference by name get its group's number: the group may stand behind it, so that the first pass cannot tell.
 ghost use mathlib.Core.Path.{_≡_};
 ghost use mathlib.Core.Bool.{true};
 ghost use Prim.Native.Nat.{_+_, _≤_, _<_};
 ghost use lib.ListN.{getD, length};
-ghost use Rattle.syntax.specs.Limits.{groupLimit, ruleAreaNeed, registers, spansLength};
+ghost use lib.Seq.{slice};
+ghost use Rattle.syntax.specs.Limits.{groupLimit, ruleAreaNeed, registers};
+ghost use Rattle.syntax.specs.Names.{groupCalled};
+ghost use Rattle.syntax.specs.Sets.{sameBytes};
+ghost use Rattle.linker.specs.Table.{namesIn, NamesFit};
 ghost use Rattle.linker.specs.Nodes.{beforeOf, Part, Chain, Inside};
-ghost use Rattle.linker.specs.Linking.{Stands, StandAll, Links, LinksAll, LinksWhole};
-ghost use Rattle.linker.specs.Stores.{Put, PutTwo, GroupClosed, IsOneByte, EntryKind, RepeatClosed, Referred};
+ghost use Rattle.linker.specs.Linking.{Stands, StandAll, Linkable, Links, LinksAll, LinksWhole};
+ghost use Rattle.linker.specs.Stores.{Put, PutTwo, GroupClosed, IsOneByte, EntryKind, RepeatClosed, Referred, Numbered, NameLinked};
 
 // The kinds of nodes, as specs/Nodes.antt lists them. What is of none of these is an item, and goes on alike.
 const GROUP: usize = 4;
@@ -18,6 +23,8 @@ const REPEAT: usize = 7;
 const PLAIN: usize = 10;
 
 const REFERENCE: usize = 11;
+
+const NAMED: usize = 12;
 
 // The kinds of a byte item and of a compiled run, and the number of a greedy repeat's greed.
 const BYTE: usize = 0;
@@ -149,6 +156,77 @@ fn link_reference(area: &mut [u32], p: usize, next: usize, groups: usize, dangli
     dangling
 }
 
+// Whether two names are the same bytes: one is so many bytes of the rule from a position on, the other so many from another. A group without a
+// name has none, wherever its position is.
+fn same_name(rule: &[u8], from: usize, len: usize, other: usize, size: usize) -> bool
+    requires { ⌜ (from + len ≤ length (now rule)) × (1 ≤ size → other + size ≤ length (now rule)) ⌝ }
+    ensures { λ r. ⌜ r ≡ sameBytes (slice from (from + len) (now (rule .entry))) (slice other (other + size) (now (rule .entry))) ⌝ }
+{
+    if len != size {
+        return false;
+    }
+    let mut i = 0;
+    while i < size {
+        if rule[from + i] != rule[other + i] {
+            return false;
+        }
+        i += 1;
+    }
+    true
+}
+
+// The number of the group that has the name at a position of the rule, and 0 if none has. No two groups have one name, so that the order does
+// not matter; the last is looked at first because the grammar lists the names so.
+pub fn group_called(rule: &[u8], table: &[u32], groups: usize, from: usize, len: usize) -> usize
+    requires { ⌜ NamesFit (now rule) (now table) groups × (from + len ≤ length (now rule)) ⌝ }
+    ensures { λ r. ⌜ (r ≡ groupCalled (slice from (from + len) (now (rule .entry))) (namesIn (now (rule .entry)) (now (table .entry)) groups)) × (r ≤ groups) ⌝ }
+{
+    let mut g = groups;
+    while g != 0 {
+        let at = 2 * (g - 1);
+        let other = word(table, at);
+        let size = word(table, at + 1);
+        if same_name(rule, from, len, other, size) {
+            return g;
+        }
+        g -= 1;
+    }
+    0
+}
+
+// A reference by name becomes one by number.
+fn number_reference(area: &mut [u32], p: usize, groups: usize, rule: &[u8], table: &[u32])
+    requires { ⌜ (p + 6 ≤ length (now area)) × (groups ≤ groupLimit) × NamesFit (now rule) (now table) groups × (getD (now area) (p + 3) 0 + getD (now area) (p + 5) 0 ≤ length (now rule)) ⌝ }
+    ensures { λ _. ⌜ Numbered (now (rule .entry)) (namesIn (now (rule .entry)) (now (table .entry)) groups) (now (area .entry)) (now (area .exit)) p ⌝ }
+{
+    let from = word(area, p + 3);
+    let len = word(area, p + 5);
+    let number = group_called(rule, table, groups, from, len);
+    put(area, p, REFERENCE);
+    put(area, p + 3, number);
+}
+
+// A reference by name: its number is found first, then it is linked by that.
+fn link_named(
+    area: &mut [u32],
+    p: usize,
+    next: usize,
+    groups: usize,
+    dangling: usize,
+    rule: &[u8],
+    table: &[u32],
+) -> Linked
+    requires { ⌜ (p + 6 ≤ length (now area)) × (groups ≤ groupLimit) × NamesFit (now rule) (now table) groups × (getD (now area) (p + 3) 0 + getD (now area) (p + 5) 0 ≤ length (now rule)) × (next ≤ ruleAreaNeed) ⌝ }
+    ensures { λ l. ⌜ NameLinked (now (rule .entry)) (namesIn (now (rule .entry)) (now (table .entry)) groups) groups (now (area .entry)) (now (area .exit)) p next dangling (l .pc) (l .dangling) ⌝ }
+{
+    number_reference(area, p, groups, rule, table);
+    let found = link_reference(area, p, next, groups, dangling);
+    Linked {
+        pc: p,
+        dangling: found,
+    }
+}
+
 // The part at p, which goes on at `next` and uses the registers from r on.
 fn link_part(
     area: &mut [u32],
@@ -157,19 +235,21 @@ fn link_part(
     r: usize,
     groups: usize,
     dangling: usize,
+    rule: &[u8],
+    table: &[u32],
 ) -> Linked
-    requires { ⌜ Stands (Part (now area)) groups r (now area) p × (next ≤ ruleAreaNeed) ⌝ }
-    ensures { λ l. ⌜ Links (Part (now (area .entry))) groups r (now (area .entry)) (now (area .exit)) p next dangling (l .pc) (l .dangling) ⌝ }
+    requires { ⌜ Stands (Part (now rule) (namesIn (now rule) (now table) groups) (now area)) groups r (now area) p × (next ≤ ruleAreaNeed) × NamesFit (now rule) (now table) groups ⌝ }
+    ensures { λ l. ⌜ Links (Part (now (rule .entry)) (namesIn (now (rule .entry)) (now (table .entry)) groups) (now (area .entry))) groups r (now (area .entry)) (now (area .exit)) p next dangling (l .pc) (l .dangling) ⌝ }
 {
     let kind = word(area, p);
     if kind == GROUP {
-        return link_group(area, p, next, r, groups, dangling);
+        return link_group(area, p, next, r, groups, dangling, rule, table);
     }
     if kind == REPEAT {
-        return link_repeat(area, p, next, r, groups, dangling);
+        return link_repeat(area, p, next, r, groups, dangling, rule, table);
     }
     if kind == PLAIN {
-        return link_plain(area, p, next, r, groups, dangling);
+        return link_plain(area, p, next, r, groups, dangling, rule, table);
     }
     if kind == REFERENCE {
         let found = link_reference(area, p, next, groups, dangling);
@@ -177,6 +257,9 @@ fn link_part(
             pc: p,
             dangling: found,
         };
+    }
+    if kind == NAMED {
+        return link_named(area, p, next, groups, dangling, rule, table);
     }
     put(area, p + 1, next);
     Linked {
@@ -193,17 +276,20 @@ fn link_group(
     r: usize,
     groups: usize,
     dangling: usize,
+    rule: &[u8],
+    table: &[u32],
 ) -> Linked
-    requires { ⌜ Stands (Part (now area)) groups r (now area) p × (next ≤ ruleAreaNeed) × (getD (now area) p 0 ≡ 4) ⌝ }
-    ensures { λ l. ⌜ Links (Part (now (area .entry))) groups r (now (area .entry)) (now (area .exit)) p next dangling (l .pc) (l .dangling) ⌝ }
+    requires { ⌜ Stands (Part (now rule) (namesIn (now rule) (now table) groups) (now area)) groups r (now area) p × (next ≤ ruleAreaNeed) × (getD (now area) p 0 ≡ 4) × NamesFit (now rule) (now table) groups ⌝ }
+    ensures { λ l. ⌜ Links (Part (now (rule .entry)) (namesIn (now (rule .entry)) (now (table .entry)) groups) (now (area .entry))) groups r (now (area .entry)) (now (area .exit)) p next dangling (l .pc) (l .dangling) ⌝ }
 {
     let inside = word(area, p + 5);
-    let l = link_inside(area, inside, p, r + 2, groups, dangling);
+    let l = link_inside(area, inside, p, r + 2, groups, dangling, rule, table);
     let entry = l.pc;
     let found = l.dangling;
     close_group(area, p, next, r, entry);
+    let opening = p + 4;
     Linked {
-        pc: p + 4,
+        pc: opening,
         dangling: found,
     }
 }
@@ -216,13 +302,15 @@ fn link_repeat(
     r: usize,
     groups: usize,
     dangling: usize,
+    rule: &[u8],
+    table: &[u32],
 ) -> Linked
-    requires { ⌜ Stands (Part (now area)) groups r (now area) p × (next ≤ ruleAreaNeed) × (getD (now area) p 0 ≡ 7) ⌝ }
-    ensures { λ l. ⌜ Links (Part (now (area .entry))) groups r (now (area .entry)) (now (area .exit)) p next dangling (l .pc) (l .dangling) ⌝ }
+    requires { ⌜ Stands (Part (now rule) (namesIn (now rule) (now table) groups) (now area)) groups r (now area) p × (next ≤ ruleAreaNeed) × (getD (now area) p 0 ≡ 7) × NamesFit (now rule) (now table) groups ⌝ }
+    ensures { λ l. ⌜ Links (Part (now (rule .entry)) (namesIn (now (rule .entry)) (now (table .entry)) groups) (now (area .entry))) groups r (now (area .entry)) (now (area .exit)) p next dangling (l .pc) (l .dangling) ⌝ }
 {
     let body = word(area, p + 6);
     let kind = entry_kind(area, p, body);
-    let l = link_part(area, body, p + 1, r + 2, groups, dangling);
+    let l = link_part(area, body, p + 1, r + 2, groups, dangling, rule, table);
     let entry = l.pc;
     let found = l.dangling;
     close_repeat(area, p, kind, next, r, entry);
@@ -240,12 +328,14 @@ fn link_plain(
     r: usize,
     groups: usize,
     dangling: usize,
+    rule: &[u8],
+    table: &[u32],
 ) -> Linked
-    requires { ⌜ Stands (Part (now area)) groups r (now area) p × (next ≤ ruleAreaNeed) × (getD (now area) p 0 ≡ 10) ⌝ }
-    ensures { λ l. ⌜ Links (Part (now (area .entry))) groups r (now (area .entry)) (now (area .exit)) p next dangling (l .pc) (l .dangling) ⌝ }
+    requires { ⌜ Stands (Part (now rule) (namesIn (now rule) (now table) groups) (now area)) groups r (now area) p × (next ≤ ruleAreaNeed) × (getD (now area) p 0 ≡ 10) × NamesFit (now rule) (now table) groups ⌝ }
+    ensures { λ l. ⌜ Links (Part (now (rule .entry)) (namesIn (now (rule .entry)) (now (table .entry)) groups) (now (area .entry))) groups r (now (area .entry)) (now (area .exit)) p next dangling (l .pc) (l .dangling) ⌝ }
 {
     let inside = word(area, p + 2);
-    link_inside(area, inside, next, r, groups, dangling)
+    link_inside(area, inside, next, r, groups, dangling, rule, table)
 }
 
 // What stands in a group, its last part or branch at p.
@@ -256,9 +346,11 @@ fn link_inside(
     r: usize,
     groups: usize,
     dangling: usize,
+    rule: &[u8],
+    table: &[u32],
 ) -> Linked
-    requires { ⌜ Stands (Inside (now area)) groups r (now area) p × (next ≤ ruleAreaNeed) ⌝ }
-    ensures { λ l. ⌜ Links (Inside (now (area .entry))) groups r (now (area .entry)) (now (area .exit)) p next dangling (l .pc) (l .dangling) ⌝ }
+    requires { ⌜ Stands (Inside (now rule) (namesIn (now rule) (now table) groups) (now area)) groups r (now area) p × (next ≤ ruleAreaNeed) × NamesFit (now rule) (now table) groups ⌝ }
+    ensures { λ l. ⌜ Links (Inside (now (rule .entry)) (namesIn (now (rule .entry)) (now (table .entry)) groups) (now (area .entry))) groups r (now (area .entry)) (now (area .exit)) p next dangling (l .pc) (l .dangling) ⌝ }
 {
     if p == 0 {
         return Linked {
@@ -268,9 +360,9 @@ fn link_inside(
     }
     let kind = word(area, p);
     if kind == LAST {
-        return link_alternation(area, p, next, r, groups, dangling);
+        return link_alternation(area, p, next, r, groups, dangling, rule, table);
     }
-    link_chain(area, p, next, r, groups, dangling)
+    link_chain(area, p, next, r, groups, dangling, rule, table)
 }
 
 // A sequence, from its last part to its first: each part goes on at the one after it.
@@ -281,16 +373,18 @@ fn link_chain(
     r: usize,
     groups: usize,
     dangling: usize,
+    rule: &[u8],
+    table: &[u32],
 ) -> Linked
-    requires { ⌜ Stands (Chain (now area)) groups r (now area) last × (next ≤ ruleAreaNeed) ⌝ }
-    ensures { λ l. ⌜ Links (Chain (now (area .entry))) groups r (now (area .entry)) (now (area .exit)) last next dangling (l .pc) (l .dangling) ⌝ }
+    requires { ⌜ Stands (Chain (now rule) (namesIn (now rule) (now table) groups) (now area)) groups r (now area) last × (next ≤ ruleAreaNeed) × NamesFit (now rule) (now table) groups ⌝ }
+    ensures { λ l. ⌜ Links (Chain (now (rule .entry)) (namesIn (now (rule .entry)) (now (table .entry)) groups) (now (area .entry))) groups r (now (area .entry)) (now (area .exit)) last next dangling (l .pc) (l .dangling) ⌝ }
 {
     let mut p = last;
     let mut pc = next;
     let mut found = dangling;
     while p != 0 {
         let before = before_of(area, p);
-        let l = link_part(area, p, pc, r, groups, found);
+        let l = link_part(area, p, pc, r, groups, found, rule, table);
         pc = l.pc;
         found = l.dangling;
         p = before;
@@ -309,17 +403,19 @@ fn link_alternation(
     r: usize,
     groups: usize,
     dangling: usize,
+    rule: &[u8],
+    table: &[u32],
 ) -> Linked
-    requires { ⌜ Stands (Inside (now area)) groups r (now area) p × (next ≤ ruleAreaNeed) × (1 ≤ p) × (getD (now area) p 0 ≡ 6) ⌝ }
-    ensures { λ l. ⌜ Links (Inside (now (area .entry))) groups r (now (area .entry)) (now (area .exit)) p next dangling (l .pc) (l .dangling) ⌝ }
+    requires { ⌜ Stands (Inside (now rule) (namesIn (now rule) (now table) groups) (now area)) groups r (now area) p × (next ≤ ruleAreaNeed) × (1 ≤ p) × (getD (now area) p 0 ≡ 6) × NamesFit (now rule) (now table) groups ⌝ }
+    ensures { λ l. ⌜ Links (Inside (now (rule .entry)) (namesIn (now (rule .entry)) (now (table .entry)) groups) (now (area .entry))) groups r (now (area .entry)) (now (area .exit)) p next dangling (l .pc) (l .dangling) ⌝ }
 {
     let inside = word(area, p + 1);
     let before = word(area, p + 2);
-    let l = link_chain(area, inside, next, r, groups, dangling);
+    let l = link_chain(area, inside, next, r, groups, dangling, rule, table);
     let entry = l.pc;
     let found = l.dangling;
     put_two(area, p + 1, entry, 0);
-    link_branches(area, before, p, next, r, groups, found)
+    link_branches(area, before, p, next, r, groups, found, rule, table)
 }
 
 // Branches, from the latest to the first: each falls back on the one after it, the latest on the branch at `other`.
@@ -331,9 +427,11 @@ fn link_branches(
     r: usize,
     groups: usize,
     dangling: usize,
+    rule: &[u8],
+    table: &[u32],
 ) -> Linked
-    requires { ⌜ StandAll groups r (now area) last × (other ≤ ruleAreaNeed) × (next ≤ ruleAreaNeed) ⌝ }
-    ensures { λ l. ⌜ LinksAll groups r (now (area .entry)) (now (area .exit)) last other next dangling (l .pc) (l .dangling) ⌝ }
+    requires { ⌜ StandAll (now rule) (namesIn (now rule) (now table) groups) groups r (now area) last × (other ≤ ruleAreaNeed) × (next ≤ ruleAreaNeed) × NamesFit (now rule) (now table) groups ⌝ }
+    ensures { λ l. ⌜ LinksAll (now (rule .entry)) (namesIn (now (rule .entry)) (now (table .entry)) groups) groups r (now (area .entry)) (now (area .exit)) last other next dangling (l .pc) (l .dangling) ⌝ }
 {
     let mut p = last;
     let mut after = other;
@@ -341,7 +439,7 @@ fn link_branches(
     while p != 0 {
         let inside = word(area, p + 1);
         let before = word(area, p + 2);
-        let l = link_chain(area, inside, next, r, groups, found);
+        let l = link_chain(area, inside, next, r, groups, found, rule, table);
         let entry = l.pc;
         put_two(area, p + 1, entry, after);
         found = l.dangling;
@@ -357,16 +455,26 @@ fn link_branches(
 // How many numbers the captures take, behind which the registers of groups and repeats begin.
 const SPANS_LENGTH: usize = 64;
 
-// A whole rule, whose inside the first pass left: the end stands at position 0.
-pub fn link(area: &mut [u32], inside: usize, groups: u32) -> Linkage
-    requires { ⌜ Stands (Inside (now area)) groups spansLength (now area) inside ⌝ }
-    ensures { λ l. ⌜ LinksWhole groups (now (area .entry)) (now (area .exit)) inside l ⌝ }
+// A whole rule, whose inside the first pass left: the end stands at position 0. The table has the names of its groups.
+pub fn link(rule: &[u8], area: &mut [u32], inside: usize, groups: u32, table: &[u32]) -> Linkage
+    requires { ⌜ Linkable (now rule) groups (now table) (now area) inside ⌝ }
+    ensures { λ l. ⌜ LinksWhole (now (rule .entry)) groups (now (table .entry)) (now (area .entry)) (now (area .exit)) inside l ⌝ }
 {
-    let l = link_inside(area, inside, 0, SPANS_LENGTH, groups as usize, 0);
+    let l = link_inside(
+        area,
+        inside,
+        0,
+        SPANS_LENGTH,
+        groups as usize,
+        0,
+        rule,
+        table,
+    );
     let pc = l.pc;
     let dangling = l.dangling;
     if dangling == 0 {
         return Linkage::Entry(pc);
     }
-    Linkage::NoGroup(dangling - 1)
+    let place = dangling - 1;
+    Linkage::NoGroup(place)
 }

@@ -62,7 +62,7 @@ pub fn list_held(
     )
 }
 
-// Lists all readings of a rule on a subject, one row each.
+// Lists all readings of a rule on a subject, one row each, and fills the name index.
 pub fn list_readings(
     rule: &[u8],
     flags: u32,
@@ -71,8 +71,9 @@ pub fn list_readings(
     rule_area: &mut [u32],
     work_area: &mut [u32],
     results: &mut [u32],
+    names: &mut [u8],
 ) -> Listing
-    ensures { λ r. ⌜ Returned (listCall (callOf (now (rule .entry)) flags (now (subject .entry)) budget (now («rule_area» .entry)) (now («work_area» .entry)) (now (results .entry)))) (listingOf r) (now («rule_area» .exit)) (now («work_area» .exit)) (now (results .exit)) ⌝ }
+    ensures { λ r. ⌜ Returned (listCall (callOf (now (rule .entry)) flags (now (subject .entry)) budget (now («rule_area» .entry)) (now («work_area» .entry)) (now (results .entry)) (now (names .entry)))) (listingOf r) (now («rule_area» .exit)) (now («work_area» .exit)) (now (results .exit)) (now (names .exit)) ⌝ }
 {
     let short = results.len() < ROW_LENGTH;
     match prepare(
@@ -83,6 +84,7 @@ pub fn list_readings(
         rule_area,
         work_area,
         short,
+        names,
     ) {
         Preparation::Refused(f) => Listing::Refused(f),
         Preparation::Ready(entry, groups) => {

@@ -101,7 +101,7 @@ pub fn match_held(
     )
 }
 
-// Matches a rule against a subject. A row for the first match is written into the results.
+// Matches a rule against a subject. A row for the first match is written into the results, and the name index is filled.
 pub fn match_line(
     rule: &[u8],
     flags: u32,
@@ -110,8 +110,9 @@ pub fn match_line(
     rule_area: &mut [u32],
     work_area: &mut [u32],
     results: &mut [u32],
+    names: &mut [u8],
 ) -> Outcome
-    ensures { λ r. ⌜ Returned (matchCall (callOf (now (rule .entry)) flags (now (subject .entry)) budget (now («rule_area» .entry)) (now («work_area» .entry)) (now (results .entry)))) (outcomeOf r) (now («rule_area» .exit)) (now («work_area» .exit)) (now (results .exit)) ⌝ }
+    ensures { λ r. ⌜ Returned (matchCall (callOf (now (rule .entry)) flags (now (subject .entry)) budget (now («rule_area» .entry)) (now («work_area» .entry)) (now (results .entry)) (now (names .entry)))) (outcomeOf r) (now («rule_area» .exit)) (now («work_area» .exit)) (now (results .exit)) (now (names .exit)) ⌝ }
 {
     let short = results.len() < ROW_LENGTH;
     match prepare(
@@ -122,6 +123,7 @@ pub fn match_line(
         rule_area,
         work_area,
         short,
+        names,
     ) {
         Preparation::Refused(f) => Outcome::Refused(f),
         Preparation::Ready(entry, _groups) => {

@@ -9,134 +9,174 @@ use lib.ListN.{length}
 use Rattle.syntax.specs.declared.Refusal.{Refusal}
 use Rattle.syntax.specs.Read.{Read, sound, refused, andThen}
 use Rattle.syntax.specs.Tree.{Rule, Branches, one, also, alternatives}
+use Rattle.syntax.specs.Names.{Names}
 use Rattle.syntax.specs.Grammar.{branch, further, alternation, inside}
 use Rattle.syntax.specs.Laws.Forward.{inside-on}
 use Rattle.syntax.specs.Laws.Fuel.{further-turn}
 use Rattle.lexer.specs.Says.{Peeked}
+use Rattle.linker.specs.Table.{namesIn, NamesFit}
 use Rattle.linker.specs.Nodes.{Chain, Inside}
 use Rattle.linker.proofs.Regions.{several-same}
 use Rattle.reader.specs.declared.Cursor.{Cursor}
 use Rattle.reader.specs.declared.Answer.{Answer}
 use Rattle.reader.specs.declared.Answer.the-variants.{Sound, Refused}
 use Rattle.reader.specs.Wrote.{Below, Wrote}
-use Rattle.reader.specs.Says.{price, behindNode, Ready, Moves, Branch, Furthers, Alternates}
-use Rattle.reader.proofs.Answers.{said, moved, says-as, moved-on, ready-on}
+use Rattle.reader.specs.Says.{price, behindNode, Ready, Moves, Naming, Branch, Furthers, Alternates}
+use Rattle.reader.proofs.Answers.{said, moved, named, says-as, moved-on, ready-on, naming-on}
 use Rattle.reader.proofs.Standing.{below-same, Pending, branch-put, last-put, single-branch}
 
--- the loop stands behind some branches, the last of which has no node yet
-pub record Pended (s : List ℕ) (flags depth : ℕ) (new : List ℕ) (lo : ℕ) (d : Cursor) (before last : ℕ) (reading : Read (Rule × ℕ)) : Type 0 where
+-- the loop stands behind some branches, the last of which has no node yet; `table` has the names of the groups so far
+pub record Pended (s : List ℕ) (flags depth : ℕ) (new table : List ℕ) (lo : ℕ) (d : Cursor) (before last : ℕ) (known : Names) (reading : Read (Rule × Names)) : Type 0 where
   pub branches : Branches
-  pub stand : Pending new branches lo (d .used) before last
-  pub rest : reading ≡ further (length s) s flags (inside depth s flags) branches (d .opened) (d .at)
+  pub stand : Pending s known new branches lo (d .used) before last
+  pub rest : reading ≡ further (length s) s flags known (inside depth s flags known) branches (namesIn s table (d .opened)) (d .at)
 
 -- from the cursor c to d; once there is a branch before the last one, enough has been paid for another node
-pub record Branched (s : List ℕ) (flags depth : ℕ) (old new : List ℕ) (c : Cursor) (first : ℕ) (d : Cursor) (before last : ℕ) : Type 0 where
+pub record Branched (s : List ℕ) (flags depth : ℕ) (old new names table : List ℕ) (c : Cursor) (first : ℕ) (d : Cursor) (before last : ℕ) : Type 0 where
   pub moves : Moves (length s) c 0 d last
   pub saved : d .used + price * c .at + 3 ≤ c .used + price * d .at + 3 * (1 - before)
   pub earlier : before < d .used
   pub long : length new ≡ length old
+  pub wide : length table ≡ length names
   pub frame : Below (c .used) new old
-  pub claim : (lo : ℕ) (t : Rule) → Chain old t lo (c .used) first → Pended s flags depth new lo d before last (further (length s) s flags (inside depth s flags) (one t) (c .opened) (c .at))
+  pub fit : NamesFit s table (d .opened)
+  pub claim : (known : Names) (lo : ℕ) (t : Rule) → Chain s known old t lo (c .used) first
+      → Pended s flags depth new table lo d before last known (further (length s) s flags known (inside depth s flags known) (one t) (namesIn s names (c .opened)) (c .at))
 
-pub branched-none : {area : List ℕ} {c : Cursor} {first : ℕ} (s : List ℕ) (flags depth : ℕ) → Ready (length s) area c → first < c .used → Branched s flags depth area area c first c 0 first
-branched-none {area} {c} {first} s flags depth r l = record {
+pub branched-none : {area table : List ℕ} {c : Cursor} {first : ℕ} (s : List ℕ) (flags depth : ℕ) → Ready (length s) area c → Naming s table c → first < c .used → Branched s flags depth area area table table c first c 0 first
+branched-none {area} {table} {c} {first} s flags depth r n l = record {
   moves = record { on = omega arith; within = r .within; grown = omega arith; paid = omega arith; address = l; few = r .few };
   saved = omega arith;
   earlier = r .began;
   long = refl;
+  wide = refl;
   frame = λ i k. refl;
-  claim = λ lo t h. record { branches = one t; stand = (refl, h); rest = refl };
+  fit = n .fit;
+  claim = λ known lo t h. record { branches = one t; stand = (refl, h); rest = refl };
 }
 
-pub branched-ready : {s old new : List ℕ} {c d : Cursor} {flags depth first before last : ℕ} → Ready (length s) old c → Branched s flags depth old new c first d before last → Ready (length s) new d
+pub branched-ready : {s old new names table : List ℕ} {c d : Cursor} {flags depth first before last : ℕ} → Ready (length s) old c → Branched s flags depth old new names table c first d before last → Ready (length s) new d
 branched-ready r h = ready-on r (h .moves) (h .long)
+
+pub branched-naming : {s old new names table : List ℕ} {c d : Cursor} {flags depth first before last : ℕ} → Naming s names c → Branched s flags depth old new names table c first d before last → Naming s table d
+branched-naming {d = d} n h = naming-on d n (h .fit) (h .wide)
+
+-- behind the node of a branch, which its bar has paid for
+pub bar-ready : {s area : List ℕ} (wrote : List ℕ) {d : Cursor} {b : ℕ} → Ready (length s) area d → Peeked s (d .at) b → b ≡ 124 → length wrote ≡ length area → Ready (length s) wrote (behindNode d (d .at + 1) 3)
+bar-ready wrote r p e l = record { within = omega arith; began = omega (arith, r .began); paid = omega (arith, r .paid); room = omega (arith, r .room); narrow = r .narrow; few = r .few }
 
 at-most-none : (n : ℕ) → (n ≡ 0 → ⊥) → 1 - n ≡ 0
 at-most-none n x = omega arith
 
 -- the room for the node of the last branch, where there are others
-pub last-room : {s old area : List ℕ} {c d : Cursor} {flags depth first before last : ℕ} → Ready (length s) old c → Branched s flags depth old area c first d before last → (before ≡ 0 → ⊥) → d .used + 3 ≤ length area
+pub last-room : {s old area names table : List ℕ} {c d : Cursor} {flags depth first before last : ℕ} → Ready (length s) old c → Branched s flags depth old area names table c first d before last → (before ≡ 0 → ⊥) → d .used + 3 ≤ length area
 last-room {before = before} r h ne = let z = at-most-none before ne in omega (arith, r .paid, r .room, h .saved, h .moves .within, h .long)
 
-module _ {s old area : List ℕ} {c d : Cursor} {first before last b : ℕ} (flags depth : ℕ) (r : Ready (length s) old c) (h : Branched s flags depth old area c first d before last) (p : Peeked s (d .at) b) where
+module _ {s old area names table : List ℕ} {c d : Cursor} {first before last b : ℕ} (flags depth : ℕ) (r : Ready (length s) old c) (h : Branched s flags depth old area names table c first d before last)
+    (p : Peeked s (d .at) b) where
   began : 1 ≤ d .used
   began = omega (arith, r .began, h .moves .grown)
 
   module _ (none : b ≡ 124 → ⊥) where
-    stops : (bs : Branches) → further (length s) s flags (inside depth s flags) bs (d .opened) (d .at) ≡ sound (alternatives bs, d .opened) (d .at)
-    stops bs = further-turn s flags (inside depth s flags) bs (d .opened) (d .at) (inside-on depth s flags) ∙ rw (← p .is) (simp (ne-eqb b 124 none))
+    stops : (known : Names) (bs : Branches) → further (length s) s flags known (inside depth s flags known) bs (namesIn s table (d .opened)) (d .at) ≡ sound (alternatives bs, namesIn s table (d .opened)) (d .at)
+    stops known bs = further-turn s flags known (inside depth s flags known) bs (namesIn s table (d .opened)) (d .at) (inside-on depth s flags known) ∙ rw (← p .is) (simp (ne-eqb b 124 none))
 
-    pub further-single : before ≡ 0 → Furthers s flags depth old area c first (Sound d last)
+    pub further-single : before ≡ 0 → Furthers s flags depth old area names table c first (Sound d last)
     further-single e = record {
       moved = h .moves;
       frame = h .frame;
-      claim = λ lo t k. let y = h .claim lo t k in (alternatives (y .branches), y .rest ∙ stops (y .branches), single-branch area lo (d .used) before last (y .branches) e (y .stand));
+      names = h .fit;
+      claim = λ known lo t k.
+          let y = h .claim known lo t k in
+          (alternatives (y .branches), y .rest ∙ stops known (y .branches), single-branch s known area lo (d .used) before last (y .branches) e (y .stand));
     }
 
-    pub further-last : {new : List ℕ} → (before ≡ 0 → ⊥) → Wrote area new (d .used) 3 (6 ∷ last ∷ before ∷ []) → Furthers s flags depth old new c first (Sound (behindNode d (d .at) 3) (d .used))
+    pub further-last : {new : List ℕ} → (before ≡ 0 → ⊥) → Wrote area new (d .used) 3 (6 ∷ last ∷ before ∷ []) → Furthers s flags depth old new names table c first (Sound (behindNode d (d .at) 3) (d .used))
     further-last {new} ne w =
         let m = h .moves in
         record {
           moved = record { on = m .on; within = m .within; grown = omega (arith, m .grown); paid = paid; address = omega arith; few = m .few };
           frame = λ i l. w .below i (omega (arith, m .grown)) ∙ h .frame i l;
-          claim = λ lo t k. let y = h .claim lo t k in (alternatives (y .branches), y .rest ∙ stops (y .branches), last-put lo (y .branches) w began ne (y .stand));
+          names = h .fit;
+          claim = λ known lo t k.
+              let y = h .claim known lo t k in
+              (alternatives (y .branches), y .rest ∙ stops known (y .branches), last-put s known lo (y .branches) w began ne (y .stand));
         }
       where
         paid : d .used + 3 + price * c .at ≤ c .used + price * d .at
         paid = let z = at-most-none before ne in omega (arith, h .saved)
 
   module _ {wrote : List ℕ} (bar : b ≡ 124) (w : Wrote area wrote (d .used) 3 (5 ∷ last ∷ before ∷ [])) where
-    module _ {new : List ℕ} (q : Answer) (x : Branch s flags depth wrote new (behindNode d (d .at + 1) 3) q) where
-      goes : (bs : Branches) (a : Read (Rule × ℕ)) → branch s flags (inside depth s flags) (d .opened) (d .at + 1) ≡ a
-          → further (length s) s flags (inside depth s flags) bs (d .opened) (d .at) ≡ andThen a (λ y end. further (length s) s flags (inside depth s flags) (also bs (y .0)) (y .1) end)
-      goes bs a e = further-turn s flags (inside depth s flags) bs (d .opened) (d .at) (inside-on depth s flags) ∙ rw (← p .is, bar) (rw e)
+    module _ {new : List ℕ} (after : List ℕ) (q : Answer) (x : Branch s flags depth wrote new table after (behindNode d (d .at + 1) 3) q) where
+      goes : (known : Names) (bs : Branches) (a : Read (Rule × Names)) → branch s flags known (inside depth s flags known) (namesIn s table (d .opened)) (d .at + 1) ≡ a
+          → further (length s) s flags known (inside depth s flags known) bs (namesIn s table (d .opened)) (d .at)
+          ≡ andThen a (λ y end. further (length s) s flags known (inside depth s flags known) (also bs (y .0)) (y .1) end)
+      goes known bs a e = further-turn s flags known (inside depth s flags known) bs (namesIn s table (d .opened)) (d .at) (inside-on depth s flags known) ∙ rw (← p .is, bar) (rw e)
 
       frame : Below (c .used) new old
       frame i l = x .frame i (omega (arith, h .moves .grown)) ∙ w .below i (omega (arith, h .moves .grown)) ∙ h .frame i l
 
-      pub further-refused : (f : Refusal) → q ≡ Refused f → Furthers s flags depth old new c first (Refused f)
+      pub further-refused : (f : Refusal) → q ≡ Refused f → Furthers s flags depth old new names after c first (Refused f)
       further-refused f e = record {
         moved = tt;
         frame = frame;
-        claim = λ lo t k. let y = h .claim lo t k in y .rest ∙ goes (y .branches) (refused (f .place) (f .reason)) (said Chain _ new (d .used + 3) q (Refused f) e (x .claim));
+        names = tt;
+        claim = λ known lo t k.
+            let y = h .claim known lo t k in
+            y .rest ∙ goes known (y .branches) (refused (f .place) (f .reason)) (said (Chain s known) (namesIn s after) _ new (d .used + 3) q (Refused f) e (x .claim known));
       }
 
-      pub branched-more : (e : Cursor) (n : ℕ) → q ≡ Sound e n → length new ≡ length area → Branched s flags depth old new c first e (d .used) n
-      branched-more e n eq long =
+      pub branched-more : (e : Cursor) (n : ℕ) → q ≡ Sound e n → length new ≡ length area → length after ≡ length table → Branched s flags depth old new names after c first e (d .used) n
+      branched-more e n eq long wide =
           let g = h .moves in
           let m = moved (length s) (behindNode d (d .at + 1) 3) 0 q (Sound e n) eq (x .moved) in
-          let z = said Chain (branch s flags (inside depth s flags) (d .opened) (d .at + 1)) new (d .used + 3) q (Sound e n) eq (x .claim) in
           let one = began in
           record {
             moves = record { on = omega (arith, g .on, m .on); within = m .within; grown = omega (arith, g .grown, m .grown); paid = omega (arith, g .paid, m .paid); address = m .address; few = m .few };
             saved = omega (arith, g .paid, m .paid);
             earlier = omega (arith, m .grown);
             long = long ∙ h .long;
+            wide = wide ∙ h .wide;
             frame = frame;
-            claim = λ lo t k. let y = h .claim lo t k in record {
-              branches = also (y .branches) (z .0);
-              stand = (d .used + 3, several-same wrote new (y .branches) lo (d .used + 3) (d .used) (below-same new wrote (d .used + 3) lo (d .used + 3) (omega arith) (x .frame)) (branch-put lo (y .branches) w one (y .stand)), z .2);
-              rest = y .rest ∙ goes (y .branches) (sound (z .0, e .opened) (e .at)) (z .1);
-            };
+            fit = named s after q (Sound e n) eq (x .names);
+            claim = λ known lo t k.
+                let y = h .claim known lo t k in
+                let z = said (Chain s known) (namesIn s after) (branch s flags known (inside depth s flags known) (namesIn s table (d .opened)) (d .at + 1)) new (d .used + 3) q (Sound e n) eq (x .claim known) in
+                record {
+                  branches = also (y .branches) (z .0);
+                  stand = (
+                    d .used + 3,
+                    several-same s known wrote new (y .branches) lo (d .used + 3) (d .used) (below-same new wrote (d .used + 3) lo (d .used + 3) (omega arith) (x .frame)) (branch-put s known lo (y .branches) w one (y .stand)),
+                    z .2,
+                  );
+                  rest = y .rest ∙ goes known (y .branches) (sound (z .0, namesIn s after (e .opened)) (e .at)) (z .1);
+                };
           }
 
 -- The branches ----------------------------------------------------------------------
 
-first-branch : (s : List ℕ) (flags depth opened at : ℕ) (a : Read (Rule × ℕ)) → branch s flags (inside depth s flags) opened at ≡ a
-    → alternation s flags (inside depth s flags) opened at ≡ andThen a (λ r next. further (length s) s flags (inside depth s flags) (one (r .0)) (r .1) next)
+first-branch : (s : List ℕ) (flags depth : ℕ) (known names : Names) (at : ℕ) (a : Read (Rule × Names)) → branch s flags known (inside depth s flags known) names at ≡ a
+    → alternation s flags known (inside depth s flags known) names at ≡ andThen a (λ r next. further (length s) s flags known (inside depth s flags known) (one (r .0)) (r .1) next)
 unfolding alternation
-first-branch s flags depth opened at a x = rw x
+first-branch s flags depth known names at a x = rw x
 
-module _ (s : List ℕ) (flags depth : ℕ) {old mid : List ℕ} (c : Cursor) (r : Answer) (x : Branch s flags depth old mid c r) where
-  pub alternation-refused : (f : Refusal) → r ≡ Refused f → Alternates s flags depth old mid c (Refused f)
-  alternation-refused f e = record { moved = tt; frame = x .frame; claim = first-branch s flags depth (c .opened) (c .at) (refused (f .place) (f .reason)) (said Chain _ mid (c .used) r (Refused f) e (x .claim)) }
+module _ (s : List ℕ) (flags depth : ℕ) {old mid : List ℕ} (names table : List ℕ) (c : Cursor) (r : Answer) (x : Branch s flags depth old mid names table c r) where
+  pub alternation-refused : (f : Refusal) → r ≡ Refused f → Alternates s flags depth old mid names table c (Refused f)
+  alternation-refused f e = record {
+    moved = tt;
+    frame = x .frame;
+    names = tt;
+    claim = λ known. first-branch s flags depth known (namesIn s names (c .opened)) (c .at) (refused (f .place) (f .reason)) (said (Chain s known) (namesIn s table) _ mid (c .used) r (Refused f) e (x .claim known));
+  }
 
-  pub alternation-goes : (d : Cursor) (p : ℕ) → r ≡ Sound d p → (new : List ℕ) (r′ : Answer) → Furthers s flags depth mid new d p r′ → Alternates s flags depth old new c r′
-  alternation-goes d p e new r′ z =
+  pub alternation-goes : (d : Cursor) (p : ℕ) → r ≡ Sound d p → (new after : List ℕ) (r′ : Answer) → Furthers s flags depth mid new table after d p r′ → Alternates s flags depth old new names after c r′
+  alternation-goes d p e new after r′ z =
       let m = moved (length s) c 0 r (Sound d p) e (x .moved) in
-      let y = said Chain (branch s flags (inside depth s flags) (c .opened) (c .at)) mid (c .used) r (Sound d p) e (x .claim) in
       record {
         moved = moved-on (length s) c d 0 0 r′ (omega (arith, m .on)) (m .grown) (m .paid) (z .moved);
         frame = λ i l. z .frame i (omega (arith, m .grown)) ∙ x .frame i l;
-        claim = says-as Inside _ _ new (c .used) r′ (first-branch s flags depth (c .opened) (c .at) (sound (y .0, d .opened) (d .at)) (y .1)) (z .claim (c .used) (y .0) (y .2));
+        names = z .names;
+        claim = λ known.
+            let y = said (Chain s known) (namesIn s table) (branch s flags known (inside depth s flags known) (namesIn s names (c .opened)) (c .at)) mid (c .used) r (Sound d p) e (x .claim known) in
+            says-as (Inside s known) (namesIn s after) _ _ new (c .used) r′ (first-branch s flags depth known (namesIn s names (c .opened)) (c .at) (sound (y .0, namesIn s table (d .opened)) (d .at)) (y .1)) (z .claim known (c .used) (y .0) (y .2));
       }

@@ -2,6 +2,7 @@
 mod Writing
 mod Standing
 mod Parentheses
+mod Heads
 mod Items
 mod Answers
 mod Groups

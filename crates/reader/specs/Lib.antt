@@ -1,4 +1,5 @@
 -- What the readers of sequences, groups and alternations promise.
 pub mod Wrote
+pub mod Areas
 pub mod Says
 pub mod Compiles

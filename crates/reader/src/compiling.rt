@@ -7,11 +7,18 @@ use syntax::Reason;
 use syntax::Refusal;
 ghost use Prim.Native.Nat.{_≤_};
 ghost use lib.ListN.{length};
-ghost use Rattle.syntax.specs.Limits.{ruleLimit, ruleAreaNeed};
-ghost use Rattle.reader.specs.Compiles.{Says, Compiles};
+ghost use Rattle.syntax.specs.Limits.{ruleLimit, ruleAreaNeed, spansLength};
+ghost use Rattle.reader.specs.Areas.{tableStart};
+ghost use Rattle.reader.specs.Wrote.{Wrote};
+ghost use Rattle.reader.specs.Compiles.{SaysWith, Compiles};
 
-// How many numbers of the area a compiled rule takes at most.
+// How many numbers of the area a compiled rule takes at most, with the table of names behind it.
 const RULE_AREA: usize = 16384;
+
+// How many of them the table takes, and where it begins.
+const TABLE: usize = 64;
+
+pub const TABLE_START: usize = RULE_AREA - TABLE;
 
 // A compiled rule: where it is entered and how many groups it has; or why there is none.
 pub enum Compilation {
@@ -19,17 +26,17 @@ pub enum Compilation {
     Refused(Refusal),
 }
 
-// Reads and links a rule.
-fn compile_into(rule: &[u8], flags: u32, area: &mut [u32]) -> Compilation
-    requires { ⌜ (length (now rule) ≤ ruleLimit) × (ruleAreaNeed ≤ length (now area)) ⌝ }
-    ensures { λ r. ⌜ Says (now (rule .entry)) flags (now (area .exit)) r ⌝ }
+// Reads and links a rule, and leaves the names of its groups in the table.
+fn compile_into(rule: &[u8], flags: u32, area: &mut [u32], table: &mut [u32]) -> Compilation
+    requires { ⌜ (length (now rule) ≤ ruleLimit) × (tableStart ≤ length (now area)) × (spansLength ≤ length (now table)) ⌝ }
+    ensures { λ r. ⌜ SaysWith (now (rule .entry)) flags (now (area .exit)) (now (table .exit)) tableStart r ⌝ }
 {
-    let r = read_rule(rule, flags, area);
+    let r = read_rule(rule, flags, area, table);
     match r {
         Answer::Refused(f) => Compilation::Refused(f),
         Answer::Sound(d, inside) => {
             let groups = d.opened;
-            let l = link(area, inside, groups);
+            let l = link(rule, area, inside, groups, table);
             match l {
                 Linkage::Entry(pc) => Compilation::Sound(pc, groups),
                 Linkage::NoGroup(place) => Compilation::Refused(Refusal {
@@ -41,10 +48,26 @@ fn compile_into(rule: &[u8], flags: u32, area: &mut [u32]) -> Compilation
     }
 }
 
-// Compiles a rule into the first numbers of the area. The others are not even lent on.
+// Copies the table into its part of the area.
+fn put_table(part: &mut [u32], table: [u32; TABLE])
+    requires { ⌜ spansLength ≤ length (now part) ⌝ }
+    ensures { λ _. ⌜ Wrote (now (part .entry)) (now (part .exit)) 0 spansLength table ⌝ }
+{
+    let numbers = table;
+    for i in 0..TABLE {
+        let number = numbers[i];
+        part[i] = number;
+    }
+}
+
+// Compiles a rule into the first numbers of the area. The others are not even lent on. The table is made beside the area, since no two parts of one slice
+// can be lent at a time.
 pub fn compile(rule: &[u8], flags: u32, area: &mut [u32]) -> Compilation
     requires { ⌜ (length (now rule) ≤ ruleLimit) × (ruleAreaNeed ≤ length (now area)) ⌝ }
     ensures { λ r. ⌜ Compiles (now (rule .entry)) flags (now (area .entry)) (now (area .exit)) r ⌝ }
 {
-    compile_into(rule, flags, &mut area[..RULE_AREA])
+    let mut table = [0; TABLE];
+    let r = compile_into(rule, flags, &mut area[..TABLE_START], &mut table);
+    put_table(&mut area[TABLE_START..RULE_AREA], table);
+    r
 }

@@ -1,4 +1,5 @@
-// Reads a rule's alternations, sequences, items and groups, and appends a node for each part to a lent area.
+// Reads a rule's alternations, sequences, items and groups, and appends a node for each part to a lent area. The names of its groups go to a table of
+// their own: two numbers for each, where the name begins in the rule, and its length.
 use lexer::behind_blanks;
 use lexer::peek;
 use syntax::Reason;
@@ -6,22 +7,25 @@ use syntax::Refusal;
 ghost use mathlib.Core.Path.{_≡_};
 ghost use Prim.Native.Nat.{_+_, _≤_, _<_};
 ghost use lib.ListN.{length};
-ghost use Rattle.syntax.specs.Limits.{ruleLimit, ruleAreaNeed};
+ghost use Rattle.syntax.specs.Limits.{ruleLimit, spansLength};
 ghost use Rattle.syntax.specs.Grammar.{ends};
-ghost use Rattle.reader.specs.Says.{behindNode, Ready, Groups, Turns, Branch, Furthers, Alternates, Reads};
+ghost use Rattle.reader.specs.Areas.{tableStart};
+ghost use Rattle.reader.specs.Says.{behindNode, Ready, Naming, Groups, Turns, Branch, Furthers, Alternates, Reads};
 
 mod compiling;
 mod nodes;
+mod openings;
 mod parts;
 
 pub use compiling::Compilation;
+pub use compiling::TABLE_START;
 pub use compiling::compile;
 use nodes::BRANCH;
 use nodes::FINISH;
 use nodes::LAST;
 use nodes::put_three;
+use openings::opening;
 use parts::close;
-use parts::opening;
 use parts::other;
 
 // Bytes that a rule gives a meaning, and what stands past its end, as `peek` gives them.
@@ -32,6 +36,8 @@ const CLOSING: u32 = b')' as u32;
 const QUESTION: u32 = b'?' as u32;
 
 const COLON: u32 = b':' as u32;
+
+const LESS: u32 = b'<' as u32;
 
 const BAR: u32 = b'|' as u32;
 
@@ -44,8 +50,10 @@ const REPEATABLE: u32 = 1;
 
 const REPEATED: u32 = 2;
 
-// How deep groups may nest.
+// How deep groups may nest, and how many may capture.
 const NESTING_LIMIT: u32 = 24;
+
+const GROUP_LIMIT: u32 = 32;
 
 // How far a rule has been read: the position in it, the numbers of the area that are used, and the groups opened.
 pub struct Cursor {
@@ -64,6 +72,12 @@ pub enum Answer {
 enum Turn {
     Goes(Cursor, usize, u32),
     Ends(Refusal),
+}
+
+// The first bytes of a group: where its name or its inside begins, its number, 0 for one that does not capture, and whether it has a name.
+enum Bracket {
+    Begins(usize, u32, bool),
+    Unknown(Refusal),
 }
 
 // A group's opening: where its inside begins, the groups then opened, and its number, 0 for one that does not capture.
@@ -87,27 +101,30 @@ fn behind(c: Cursor, at: usize, n: usize) -> Cursor
 }
 
 // A group, whose opening bracket stands at the cursor, behind the part at `before`.
-fn group(rule: &[u8], flags: u32, area: &mut [u32], c: Cursor, before: usize, depth: u32) -> Answer
-    requires { ⌜ Ready (length (now rule)) (now area) c × (c .at < length (now rule)) × (before < c .used) ⌝ }
-    ensures { λ r. ⌜ Groups (now (rule .entry)) flags depth (now (area .entry)) (now (area .exit)) c before r ⌝ }
+fn group(
+    rule: &[u8],
+    flags: u32,
+    area: &mut [u32],
+    table: &mut [u32],
+    c: Cursor,
+    before: usize,
+    depth: u32,
+) -> Answer
+    requires { ⌜ Ready (length (now rule)) (now area) c × Naming (now rule) (now table) c × (c .at < length (now rule)) × (before < c .used) ⌝ }
+    ensures { λ r. ⌜ Groups (now (rule .entry)) flags depth (now (area .entry)) (now (area .exit)) (now (table .entry)) (now (table .exit)) c before r ⌝ }
 {
     let at = c.at;
     let used = c.used;
     let opened = c.opened;
-    let o = opening(rule, at, opened);
+    let o = opening(rule, table, at, opened, depth);
     match o {
         Opening::Unopened(f) => Answer::Refused(f),
         Opening::Opens(start, next, number) => {
-            if depth == 0 {
-                return Answer::Refused(Refusal {
-                    place: at,
-                    reason: Reason::TooDeep,
-                });
-            }
             let r = alternation(
                 rule,
                 flags,
                 area,
+                table,
                 Cursor {
                     at: start,
                     used: used,
@@ -128,18 +145,19 @@ fn piece(
     rule: &[u8],
     flags: u32,
     area: &mut [u32],
+    table: &mut [u32],
     c: Cursor,
     last: usize,
     kind: u32,
     depth: u32,
 ) -> Turn
-    requires { ⌜ Ready (length (now rule)) (now area) c × (c .at < length (now rule)) × (last < c .used) ⌝ }
-    ensures { λ r. ⌜ Turns (now (rule .entry)) flags depth (now (area .entry)) (now (area .exit)) c last kind r ⌝ }
+    requires { ⌜ Ready (length (now rule)) (now area) c × Naming (now rule) (now table) c × (c .at < length (now rule)) × (last < c .used) ⌝ }
+    ensures { λ r. ⌜ Turns (now (rule .entry)) flags depth (now (area .entry)) (now (area .exit)) (now (table .entry)) (now (table .exit)) c last kind r ⌝ }
 {
     let at = c.at;
     let b = peek(rule, at);
     if b == OPENING {
-        let r = group(rule, flags, area, c, last, depth);
+        let r = group(rule, flags, area, table, c, last, depth);
         match r {
             Answer::Refused(f) => {
                 return Turn::Ends(f);
@@ -163,9 +181,16 @@ fn stops(b: u32) -> bool
 }
 
 // The parts up to a bar, a closing bracket or the end. Blanks are skipped before each part and before the end, and nowhere else.
-fn sequence(rule: &[u8], flags: u32, area: &mut [u32], c: Cursor, depth: u32) -> Answer
-    requires { ⌜ Ready (length (now rule)) (now area) c ⌝ }
-    ensures { λ r. ⌜ Branch (now (rule .entry)) flags depth (now (area .entry)) (now (area .exit)) c r ⌝ }
+fn sequence(
+    rule: &[u8],
+    flags: u32,
+    area: &mut [u32],
+    table: &mut [u32],
+    c: Cursor,
+    depth: u32,
+) -> Answer
+    requires { ⌜ Ready (length (now rule)) (now area) c × Naming (now rule) (now table) c ⌝ }
+    ensures { λ r. ⌜ Branch (now (rule .entry)) flags depth (now (area .entry)) (now (area .exit)) (now (table .entry)) (now (table .exit)) c r ⌝ }
 {
     let mut d = c;
     let mut last: usize = 0;
@@ -185,7 +210,7 @@ fn sequence(rule: &[u8], flags: u32, area: &mut [u32], c: Cursor, depth: u32) ->
         if done {
             return Answer::Sound(here, last);
         }
-        let r = piece(rule, flags, area, here, last, kind, depth);
+        let r = piece(rule, flags, area, table, here, last, kind, depth);
         match r {
             Turn::Ends(f) => {
                 return Answer::Refused(f);
@@ -200,9 +225,17 @@ fn sequence(rule: &[u8], flags: u32, area: &mut [u32], c: Cursor, depth: u32) ->
 }
 
 // The further branches as long as a bar follows, behind the first, whose last part stands at `first`.
-fn further(rule: &[u8], flags: u32, area: &mut [u32], c: Cursor, first: usize, depth: u32) -> Answer
-    requires { ⌜ Ready (length (now rule)) (now area) c × (first < c .used) ⌝ }
-    ensures { λ r. ⌜ Furthers (now (rule .entry)) flags depth (now (area .entry)) (now (area .exit)) c first r ⌝ }
+fn further(
+    rule: &[u8],
+    flags: u32,
+    area: &mut [u32],
+    table: &mut [u32],
+    c: Cursor,
+    first: usize,
+    depth: u32,
+) -> Answer
+    requires { ⌜ Ready (length (now rule)) (now area) c × Naming (now rule) (now table) c × (first < c .used) ⌝ }
+    ensures { λ r. ⌜ Furthers (now (rule .entry)) flags depth (now (area .entry)) (now (area .exit)) (now (table .entry)) (now (table .exit)) c first r ⌝ }
 {
     let mut d = c;
     let mut last = first;
@@ -219,7 +252,7 @@ fn further(rule: &[u8], flags: u32, area: &mut [u32], c: Cursor, first: usize, d
             return Answer::Sound(behind(d, at, 3), used);
         }
         put_three(area, used, BRANCH, last as u32, before as u32);
-        let r = sequence(rule, flags, area, behind(d, at + 1, 3), depth);
+        let r = sequence(rule, flags, area, table, behind(d, at + 1, 3), depth);
         match r {
             Answer::Refused(f) => {
                 return Answer::Refused(f);
@@ -234,27 +267,35 @@ fn further(rule: &[u8], flags: u32, area: &mut [u32], c: Cursor, first: usize, d
 }
 
 // The branches.
-fn alternation(rule: &[u8], flags: u32, area: &mut [u32], c: Cursor, depth: u32) -> Answer
-    requires { ⌜ Ready (length (now rule)) (now area) c ⌝ }
-    ensures { λ r. ⌜ Alternates (now (rule .entry)) flags depth (now (area .entry)) (now (area .exit)) c r ⌝ }
+fn alternation(
+    rule: &[u8],
+    flags: u32,
+    area: &mut [u32],
+    table: &mut [u32],
+    c: Cursor,
+    depth: u32,
+) -> Answer
+    requires { ⌜ Ready (length (now rule)) (now area) c × Naming (now rule) (now table) c ⌝ }
+    ensures { λ r. ⌜ Alternates (now (rule .entry)) flags depth (now (area .entry)) (now (area .exit)) (now (table .entry)) (now (table .exit)) c r ⌝ }
 {
-    let r = sequence(rule, flags, area, c, depth);
+    let r = sequence(rule, flags, area, table, c, depth);
     match r {
         Answer::Refused(f) => Answer::Refused(f),
-        Answer::Sound(d, p) => further(rule, flags, area, d, p, depth),
+        Answer::Sound(d, p) => further(rule, flags, area, table, d, p, depth),
     }
 }
 
 // Reads a whole rule. Its nodes stand behind that of the end, at position 0.
-pub fn read_rule(rule: &[u8], flags: u32, area: &mut [u32]) -> Answer
-    requires { ⌜ (length (now rule) ≤ ruleLimit) × (ruleAreaNeed ≤ length (now area)) ⌝ }
-    ensures { λ r. ⌜ Reads (now (rule .entry)) flags (now (area .exit)) r ⌝ }
+pub fn read_rule(rule: &[u8], flags: u32, area: &mut [u32], table: &mut [u32]) -> Answer
+    requires { ⌜ (length (now rule) ≤ ruleLimit) × (tableStart ≤ length (now area)) × (spansLength ≤ length (now table)) ⌝ }
+    ensures { λ r. ⌜ Reads (now (rule .entry)) flags (now (area .exit)) (now (table .exit)) r ⌝ }
 {
     area[0] = FINISH;
     let r = alternation(
         rule,
         flags,
         area,
+        table,
         Cursor {
             at: 0,
             used: 1,

@@ -7,7 +7,7 @@ ghost use mathlib.Core.List.{[], _∷_};
 ghost use Prim.Native.Nat.{_+_, _≤_};
 ghost use lib.ListN.{length};
 ghost use Rattle.syntax.specs.Limits.{groupLimit, slot};
-ghost use Rattle.syntax.specs.Grammar.{ignoreCase};
+ghost use Rattle.syntax.specs.Flags.{ignoreCase};
 ghost use Rattle.syntax.specs.Compiled.{assertionWord, mostWord, greedWord, foldedWord};
 ghost use Rattle.reader.specs.Wrote.{Wrote};
 
@@ -33,6 +33,8 @@ pub const FINISH: u32 = 9;
 pub const PLAIN: u32 = 10;
 
 const REFERENCE: u32 = 11;
+
+const NAMED: u32 = 12;
 
 // The maximum of a repeat that has none.
 const UNLIMITED: u32 = 4294967295;
@@ -84,6 +86,23 @@ pub fn put_reference(area: &mut [u32], at: usize, before: u32, place: u32, numbe
 {
     put_four(area, at, REFERENCE, before, place, number);
     area[at + 4] = folded;
+}
+
+// Writes a reference by name: where the name begins in the rule, and its length.
+pub fn put_named(
+    area: &mut [u32],
+    at: usize,
+    before: u32,
+    place: u32,
+    from: u32,
+    folded: u32,
+    len: u32,
+)
+    requires { ⌜ at + 6 ≤ length (now area) ⌝ }
+    ensures { λ _. ⌜ Wrote (now (area .entry)) (now (area .exit)) at 6 (12 ∷ before ∷ place ∷ from ∷ folded ∷ len ∷ []) ⌝ }
+{
+    put_three(area, at, NAMED, before, place);
+    put_three(area, at + 3, from, folded, len);
 }
 
 // Writes a group that captures.

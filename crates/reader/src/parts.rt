@@ -1,11 +1,8 @@
-// Reads the parts of a sequence that are no groups, and the brackets of a group.
+// Reads the parts of a sequence that are no groups, and the end of a group.
 use crate::Answer;
 use crate::CLOSING;
-use crate::COLON;
 use crate::Cursor;
 use crate::NOTHING;
-use crate::Opening;
-use crate::QUESTION;
 use crate::REPEATABLE;
 use crate::REPEATED;
 use crate::Turn;
@@ -17,6 +14,7 @@ use crate::nodes::folded_word;
 use crate::nodes::put_byte;
 use crate::nodes::put_four;
 use crate::nodes::put_group;
+use crate::nodes::put_named;
 use crate::nodes::put_reference;
 use crate::nodes::put_repeat;
 use crate::nodes::put_three;
@@ -35,10 +33,7 @@ ghost use lib.ListN.{length};
 ghost use Rattle.syntax.specs.Limits.{groupLimit};
 ghost use Rattle.syntax.specs.Read.{byte, refused};
 ghost use Rattle.syntax.specs.Grammar.{Sequence, unfitFor};
-ghost use Rattle.reader.specs.Says.{Ready, kindOf, Items, Others, Repeats, SaysOpening, Closes};
-
-// How many groups a rule may have.
-const GROUP_LIMIT: u32 = 32;
+ghost use Rattle.reader.specs.Says.{Ready, kindOf, Items, Others, Repeats, Closes};
 
 // The refusal of a repeat whose bounds do not fit.
 fn unfit(at: usize, kind: u32) -> Refusal
@@ -116,6 +111,19 @@ fn item(rule: &[u8], flags: u32, area: &mut [u32], c: Cursor, last: usize) -> Tu
             put_reference(area, used, last as u32, at as u32, n, folded);
             Turn::Goes(behind(c, next, 5), used, REPEATABLE)
         }
+        Token::Called(from, len, next) => {
+            let folded = folded_word(flags);
+            put_named(
+                area,
+                used,
+                last as u32,
+                at as u32,
+                from as u32,
+                folded,
+                len as u32,
+            );
+            Turn::Goes(behind(c, next, 6), used, REPEATABLE)
+        }
     }
 }
 
@@ -144,31 +152,6 @@ pub fn other(rule: &[u8], flags: u32, area: &mut [u32], c: Cursor, last: usize, 
             next,
         ),
     }
-}
-
-// The opening of a group, whose bracket stands at a position.
-pub fn opening(rule: &[u8], at: usize, opened: u32) -> Opening
-    requires { ⌜ (at < length (now rule)) × (opened ≤ groupLimit) ⌝ }
-    ensures { λ r. ⌜ SaysOpening (now (rule .entry)) at opened r ⌝ }
-{
-    let b = peek(rule, at + 1);
-    if b == QUESTION {
-        let d = peek(rule, at + 2);
-        if d == COLON {
-            return Opening::Opens(at + 3, opened, 0);
-        }
-        return Opening::Unopened(Refusal {
-            place: at,
-            reason: Reason::UnknownGroup,
-        });
-    }
-    if opened < GROUP_LIMIT {
-        return Opening::Opens(at + 1, opened + 1, opened + 1);
-    }
-    Opening::Unopened(Refusal {
-        place: at,
-        reason: Reason::TooManyGroups,
-    })
 }
 
 // The end of the group of a number, 0 for one that does not capture, whose inside stands at p.

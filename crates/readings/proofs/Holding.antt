@@ -13,7 +13,7 @@ use Rattle.frame.specs.Laws.Refusals.{accepted}
 use Rattle.readings.specs.Rules.{Holds}
 
 -- the area is no longer than the rule needs
-pub readied-holds : {c : Call} {entry groups : ℕ} {area work : List ℕ} → Readied c entry groups area work → length area ≤ ruleAreaNeed → Holds area entry (c .budget)
+pub readied-holds : {c : Call} {entry groups : ℕ} {area work names : List ℕ} → Readied c entry groups area work names → length area ≤ ruleAreaNeed → Holds area entry (c .budget)
 readied-holds {c} {area = area} h long = record { tree = h .tree; stands = rw (take-all ruleAreaNeed area long) at (h .stands); budget-fits = accepted c (h .accepted) .budget-fits }
 
 -- the work area is long enough for the largest budget

@@ -11,6 +11,7 @@ mod telling;
 use arguments::Value;
 use counts::KINDS;
 use frame::BUDGET_LIMIT;
+use frame::NAME_INDEX_NEED;
 use frame::Preparation;
 use frame::prepare;
 use input::PIECE;
@@ -119,7 +120,8 @@ fn run(
 )
     requires { ⌜ length (now rule) ≤ 1001 ⌝ }
 {
-    match prepare(rule, flags, 0, budget, area, work, false) {
+    let mut names = [0u8; NAME_INDEX_NEED];
+    match prepare(rule, flags, 0, budget, area, work, false, &mut names) {
         Preparation::Refused(f) => messages::say_refusal(f, rule),
         Preparation::Ready(entry, groups) => {
             let fd = open(LINES_FILE);

@@ -48,7 +48,7 @@ fn say_line(text: &[u8], number: u32) {
     }
 }
 
-// Says what a refusal means: each is on the line of its number, and there is no 8 and no 9.
+// Says what a refusal means: each is on the line of its number, and there is no 9.
 fn say_meaning(number: u32) {
     say_line(
         b"the rule has more than 1000 bytes\n\
@@ -58,7 +58,7 @@ the budget is over 100000\n\
 the rule area is too short\n\
 the work area is too short\n\
 the result area is too short\n\
-\n\
+the name index is too short\n\
 \n\
 a backslash with nothing behind it\n\
 this escape may not stand here\n\
@@ -72,9 +72,11 @@ a { that begins no repeat, or a repeat over 255 or with its bounds the wrong way
 a repeat of a repeat\n\
 this bracket is not closed by )\n\
 a ) that closes nothing\n\
-(? is not followed by :\n\
+(? is followed by neither : nor <\n\
 the 33rd group; a rule has at most 32\n\
-the 25th bracket inside another; they nest at most 24 deep\n",
+the 25th bracket inside another; they nest at most 24 deep\n\
+a name is missing, malformed or not closed\n\
+this name is used twice\n",
         number,
     );
 }

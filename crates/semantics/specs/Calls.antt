@@ -5,12 +5,13 @@ use Prim.Native.Nat.{ℕ, _*_, _/_, _^_}
 use lib.ListN.{length, drop, replicate}
 use lib.Dec.{ltb, leb}
 use Rattle.syntax.specs.declared.Reason.{Reason}
-use Rattle.syntax.specs.declared.Reason.the-variants.{RuleTooLong, SubjectTooLong, UnknownFlag, BudgetTooLarge, RuleAreaShort, WorkAreaShort, ResultAreaShort}
-use Rattle.syntax.specs.Limits.{ruleLimit, subjectLimit, budgetLimit, ruleAreaNeed, workPerStep, flagBits, rowLength}
+use Rattle.syntax.specs.declared.Reason.the-variants.{RuleTooLong, SubjectTooLong, UnknownFlag, BudgetTooLarge, RuleAreaShort, WorkAreaShort, ResultAreaShort, NameIndexShort}
+use Rattle.syntax.specs.Limits.{ruleLimit, subjectLimit, budgetLimit, ruleAreaNeed, workPerStep, flagBits, rowLength, nameIndexNeed}
 use Rattle.syntax.specs.Read.{if_then_else_, Read, sound, refused}
 use Rattle.syntax.specs.Tree.{Rule}
-use Rattle.syntax.specs.Reading.{reading}
+use Rattle.syntax.specs.Reading.{namesOf, reading}
 use Rattle.semantics.specs.States.{Row, row}
+use Rattle.semantics.specs.NameIndex.{nameIndex}
 use Rattle.semantics.specs.Answers.{Outcome, matched, notMatched, exhausted, Answer, answer, Ending, complete, full, exhaustedAt, Listing, listing}
 
 -- What is handed in ---------------------------------------------------------
@@ -23,12 +24,13 @@ pub record Call : Type 0 where
   pub ruleArea : List ℕ  -- lent, with whatever stands in them
   pub workArea : List ℕ
   pub resultArea : List ℕ
+  pub names : List ℕ  -- the name index, in bytes (02, request e)
 
 -- "the work area 16 x budget of them"
 unfoldable pub workAreaNeed : ℕ → ℕ
 workAreaNeed budget = workPerStep * budget
 
--- refusals 1 to 7, "tested in this order"
+-- refusals 1 to 7, "tested in this order"; 02: "New refusal 8, after 7 .. index under 544 bytes"
 unfoldable pub unacceptable : Call → Option Reason
 unacceptable c =
     if ltb ruleLimit (length (c .rule)) then some RuleTooLong
@@ -38,6 +40,7 @@ unacceptable c =
     else if ltb (length (c .ruleArea)) ruleAreaNeed then some RuleAreaShort
     else if ltb (length (c .workArea)) (workAreaNeed (c .budget)) then some WorkAreaShort
     else if ltb (length (c .resultArea)) rowLength then some ResultAreaShort
+    else if ltb (length (c .names)) nameIndexNeed then some NameIndexShort
     else none
 
 -- What is left behind ---------------------------------------------------------
@@ -48,6 +51,7 @@ pub record Return (A : Type 0) : Type 0 where
   pub ruleArea : List ℕ
   pub workArea : List ℕ
   pub resultArea : List ℕ
+  pub names : List ℕ
 
 -- numbers written over the first ones of an area: "All other numbers in the area stay unchanged"
 unfoldable pub over : List ℕ → List ℕ → List ℕ
@@ -58,26 +62,37 @@ unfoldable pub cleared : ℕ → List ℕ → List ℕ
 cleared need area = over (replicate need 0) area
 
 module _ {A : Type 0} where
-  -- "After refusals 1 to 7 both areas are unchanged"
+  -- "After refusals 1 to 7 both areas are unchanged"; 8 is "like it in place and areas"
   unfoldable pub untouched : A → Call → Return A
-  untouched a c = record { outcome = a; ruleArea = c .ruleArea; workArea = c .workArea; resultArea = c .resultArea }
+  untouched a c = record { outcome = a; ruleArea = c .ruleArea; workArea = c .workArea; resultArea = c .resultArea; names = c .names }
 
-  -- after any other return, with these numbers written into the result area
+  -- after any other return both areas are cleared. A rule that is refused leaves it at that: "a refused call leaves the index unchanged"
+  unfoldable pub declined : A → Call → Return A
+  declined a c = record {
+    outcome = a;
+    ruleArea = cleared ruleAreaNeed (c .ruleArea);
+    workArea = cleared (workAreaNeed (c .budget)) (c .workArea);
+    resultArea = c .resultArea;
+    names = c .names;
+  }
+
+  -- an answer, with these numbers written into the result area: "Each call fills a lent name index, bytes after it unchanged"
   unfoldable pub leaving : A → List ℕ → Call → Return A
   leaving a numbers c = record {
     outcome = a;
     ruleArea = cleared ruleAreaNeed (c .ruleArea);
     workArea = cleared (workAreaNeed (c .budget)) (c .workArea);
     resultArea = over numbers (c .resultArea);
+    names = over (nameIndex (namesOf (c .rule) (c .flags))) (c .names);
   }
 
 -- A call of either kind: how it tells a refusal, by place and reason, and what it makes of a rule that is sound.
 module _ {A : Type 0} (refusal : ℕ → Reason → A) (answered : Call → Rule → Return A) where
   unfoldable pub withReading : Call → Read (Rule × ℕ) → Return A
   withReading c (sound r at) = answered c (r .0)
-  withReading c (refused place why) = leaving (refusal place why) [] c
+  withReading c (refused place why) = declined (refusal place why) c
 
-  -- "For 1 to 7 .. the place is 0."
+  -- "For 1 to 7 .. the place is 0." So it is for 8.
   unfoldable pub unlessRefused : Call → Option Reason → Return A
   unlessRefused c (some why) = untouched (refusal 0 why) c
   unlessRefused c none = withReading c (reading (c .rule) (c .flags))

@@ -7,15 +7,16 @@ use mathlib.Core.Logic.{_⊎_, _↔_}
 use Prim.Native.Nat.{ℕ, zero, suc, _+_, _*_, _^_, _≤_, _<_}
 use lib.ListN.{length, getD, take, drop, replicate}
 use Rattle.syntax.specs.declared.Reason.{Reason}
-use Rattle.syntax.specs.declared.Reason.the-variants.{RuleTooLong, SubjectTooLong, UnknownFlag, BudgetTooLarge, RuleAreaShort, WorkAreaShort, ResultAreaShort}
-use Rattle.syntax.specs.Limits.{ruleLimit, subjectLimit, budgetLimit, ruleAreaNeed, flagBits, groupLimit, unset, rowLength, slot}
+use Rattle.syntax.specs.declared.Reason.the-variants.{RuleTooLong, SubjectTooLong, UnknownFlag, BudgetTooLarge, RuleAreaShort, WorkAreaShort, ResultAreaShort, NameIndexShort}
+use Rattle.syntax.specs.Limits.{ruleLimit, subjectLimit, budgetLimit, ruleAreaNeed, flagBits, groupLimit, unset, rowLength, slot, nameIndexNeed}
 use Rattle.syntax.specs.Refusals.{numberOf}
 use Rattle.syntax.specs.Read.{sound, refused}
 use Rattle.syntax.specs.Tree.{Rule}
-use Rattle.syntax.specs.Reading.{reading}
+use Rattle.syntax.specs.Reading.{namesOf, reading}
 use Rattle.semantics.specs.States.{Before, State, Row, row}
 use Rattle.semantics.specs.Derivations.{Derivation}
 use Rattle.semantics.specs.Walk.{Trace, trace, Reaches}
+use Rattle.semantics.specs.NameIndex.{nameIndex}
 use Rattle.semantics.specs.Answers.{matched, notMatched, exhausted, Answer, complete, full, exhaustedAt, Listing}
 use Rattle.semantics.specs.Calls.{Call, workAreaNeed, Return, MatchOutcome, Matched, NotMatched, Exhausted, Refused, ListOutcome, Complete, Full, ListExhausted, ListRefused, joined, room}
 
@@ -47,7 +48,7 @@ stepsBefore walkFrom (suc n) = stepsBefore walkFrom n + length (walkFrom n)
 
 -- Demand 1, of a call of either kind ---------------------------------------------------
 
--- 01, "Refusal numbers", 1 to 7: "Given exactly when"
+-- 01, "Refusal numbers", 1 to 7, and 02's 8: "Given exactly when"
 pub data Fault (c : Call) : Reason → Type 0 where
   ruleTooLong : ruleLimit < length (c .rule) → Fault c RuleTooLong  -- "rule over 1,000 bytes"
   subjectTooLong : subjectLimit < length (c .subject) → Fault c SubjectTooLong  -- "subject over 65,535 bytes"
@@ -56,6 +57,7 @@ pub data Fault (c : Call) : Reason → Type 0 where
   ruleAreaShort : length (c .ruleArea) < ruleAreaNeed → Fault c RuleAreaShort  -- "rule area short"
   workAreaShort : length (c .workArea) < workAreaNeed (c .budget) → Fault c WorkAreaShort  -- "work area short"
   resultAreaShort : length (c .resultArea) < rowLength → Fault c ResultAreaShort  -- "result area under 66 numbers"
+  nameIndexShort : length (c .names) < nameIndexNeed → Fault c NameIndexShort  -- 02: "index under 544 bytes"
 
 abbrev pub Faultless : Call → Type 0
 Faultless c = (why : Reason) → ¬ Fault c why
@@ -67,9 +69,9 @@ pub record FirstFault (c : Call) (why : Reason) : Type 0 where
 
 -- the refusal that 01 names for an input: its place and its reason
 pub data Refuses (c : Call) : ℕ → Reason → Type 0 where
-  -- "For 1 to 7, tested in this order, the place is 0."
+  -- "For 1 to 7, tested in this order, the place is 0." 8 is tested after 7, "and like it in place"
   itself : {why : Reason} → FirstFault c why → Refuses c 0 why
-  -- 10 to 24: "The first met reading left to right is given", which is how `reading` is defined
+  -- from 10 on: "The first met reading left to right is given", which is how `reading` is defined
   itsRule : {place : ℕ} {why : Reason} → Faultless c → reading (c .rule) (c .flags) ≡ refused place why → Refuses c place why
 
 -- none is named, and the rule's tree is r, with so many groups
@@ -94,6 +96,10 @@ pub record Demand1 {A : Type 0} (refusal : ℕ → Reason → A) (c : Call) (x :
   pub no-row-changed : (place : ℕ) (why : Reason) → x .outcome ≡ refusal place why → x .resultArea ≡ c .resultArea
   -- and the areas are left as 01 says": "After refusals 1 to 7 both areas are unchanged;
   pub areas-unchanged : (why : Reason) → Fault c why → (x .ruleArea ≡ c .ruleArea) × (x .workArea ≡ c .workArea)
+  -- 02: "a refused call leaves the index unchanged";
+  pub index-unchanged : (place : ℕ) (why : Reason) → x .outcome ≡ refusal place why → x .names ≡ c .names
+  -- "Each call fills a lent name index, bytes after it unchanged."
+  pub index-filled : (r : Rule) (groups : ℕ) → Accepted c r groups → Written (nameIndex (namesOf (c .rule) (c .flags))) (c .names) (x .names)
   -- after any other return their needed first part is zero and the rest unchanged."
   pub rule-area-zeroed : Faultless c → Written (replicate ruleAreaNeed 0) (c .ruleArea) (x .ruleArea)
   pub work-area-zeroed : Faultless c → Written (replicate (workAreaNeed (c .budget)) 0) (c .workArea) (x .workArea)

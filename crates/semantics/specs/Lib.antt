@@ -8,6 +8,7 @@ pub mod Walk
 pub mod Theorem
 pub mod Runs
 pub mod Answers
+pub mod NameIndex
 pub mod Calls
 pub mod Demands
 pub mod DemandsHold

@@ -6,7 +6,7 @@ use Prim.Native.String.{String}
 use lib.ListN.{length, take, replicate}
 use Rattle.syntax.specs.declared.Reason.{Reason}
 use Rattle.syntax.specs.declared.Reason.the-variants.{UnclosedGroup, RepeatOnRepeat, NoSuchGroup, BadRange}
-use Rattle.syntax.specs.Limits.{ruleAreaNeed, unset, spansLength, rowLength}
+use Rattle.syntax.specs.Limits.{ruleAreaNeed, unset, spansLength, rowLength, nameIndexNeed}
 use Rattle.syntax.specs.Read.{bytes}
 use Rattle.semantics.specs.States.{Row}
 use Rattle.semantics.specs.Calls.{Call, workAreaNeed, Return, MatchOutcome, Matched, NotMatched, Exhausted, Refused, matchCall, ListOutcome, Complete, listCall, joined}
@@ -24,6 +24,7 @@ lending rule flags subject budget rows = record {
   ruleArea = replicate ruleAreaNeed 7;
   workArea = replicate (workAreaNeed budget) 7;
   resultArea = replicate (rows * rowLength) 7;
+  names = replicate nameIndexNeed 7;
 }
 
 -- a row: start, end and the spans of the groups that the rule has

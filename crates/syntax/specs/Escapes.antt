@@ -1,12 +1,12 @@
 -- Escapes. `at` is the backslash's position, and the place of every refusal.
 use mathlib.Core.List.{List, [], _∷_}
-use mathlib.Core.Bool.{Bool, not, _||_}
+use mathlib.Core.Bool.{Bool, not, _&&_, _||_}
 use Prim.Native.Nat.{ℕ, _+_, _-_, _/_, _%_}
 use Prim.Native.Char.{Char}
 use lib.ListN.{length, take}
 use lib.Dec.{leb, eqb}
 use Rattle.syntax.specs.declared.Assertion.the-variants.{TextStart, TextEnd, LastLineEnd, WordBoundary, NoWordBoundary}
-use Rattle.syntax.specs.declared.Reason.the-variants.{TrailingBackslash, UnknownEscape, MalformedEscape}
+use Rattle.syntax.specs.declared.Reason.the-variants.{TrailingBackslash, UnknownEscape, MalformedEscape, BadName}
 use Rattle.syntax.specs.Limits.{groupLimit, byteLimit}
 use Rattle.syntax.specs.Read.{if_then_else_, byte, isEnd, is, between, Read, sound, refused, andThen}
 use Rattle.charset.specs.declared.Named.the-variants.{Digit, Word, Space, Horizontal, Vertical}
@@ -14,6 +14,7 @@ use Rattle.charset.specs.Named.{inNamed}
 use Rattle.syntax.specs.Sets.{Member, single, named, notNamed, only, notNewline}
 use Rattle.syntax.specs.Tree.{Item, byteIn, assert, reference}
 use Rattle.syntax.specs.Numbers.{digits, value, isNone}
+use Rattle.syntax.specs.Names.{Name, Names, nameUpTo, groupCalled}
 
 infix 70 _means_
 -- Escapes for a byte by its number -------------------------------------
@@ -112,7 +113,7 @@ classEscape s at =
     else if between "0" "7" b then octal s at
     else common s at
 
--- Outside a class, where so many groups have been opened; folded or not ----
+-- Outside a class, where so many groups have been opened ------------------
 
 -- the group that N names: no rule has one above the limit, and 0 stands for "no such group"
 unfoldable pub forward : ℕ → ℕ
@@ -141,8 +142,22 @@ groupNumber s opened at =
     then andThen (signed s opened at (at + 3)) (λ n next. if is "}" (byte s next) then sound n (next + 1) else refused at MalformedEscape)
     else signed s opened at (at + 2)
 
-unfoldable pub escape : List ℕ → Bool → ℕ → ℕ → Read Item
-escape s folded opened at =
+-- "`\k{litres}`, `\k<litres>` and `\k'litres'`"; every other form is a name ill-formed
+unfoldable pub called : List ℕ → ℕ → Read Name
+called s at =
+    let b = byte s (at + 2) in
+    if is "{" b then nameUpTo "}" s at (at + 3)
+    else if is "<" b then nameUpTo ">" s at (at + 3)
+    else if is "'" b then nameUpTo "'" s at (at + 3)
+    else refused at BadName
+
+-- "12 spares `\g{` before a letter or underscore"
+unfoldable pub callsByName : List ℕ → ℕ → Bool
+callsByName s at = is "{" (byte s (at + 2)) && inNamed Word (byte s (at + 3)) && not (inNamed Digit (byte s (at + 3)))
+
+-- Folded or not. `known` are the names of the whole rule, since a reference may stand before its group.
+unfoldable pub escape : List ℕ → Bool → Names → ℕ → ℕ → Read Item
+escape s folded known opened at =
     let b = byte s (at + 1) in
     if is "N" b then sound (byteIn folded notNewline) (at + 2)
     else if is "A" b then sound (assert TextStart) (at + 2)
@@ -152,5 +167,7 @@ escape s folded opened at =
     else if is "B" b then sound (assert NoWordBoundary) (at + 2)
     else if is "0" b then andThen (octal s at) (λ m next. sound (byteIn folded (only m)) next)
     else if between "1" "9" b then andThen (decimal s at (at + 1)) (λ n next. sound (reference folded (forward n)) next)
+    else if is "k" b then andThen (called s at) (λ n next. sound (reference folded (groupCalled n known)) next)
+    else if is "g" b && callsByName s at then andThen (nameUpTo "}" s at (at + 3)) (λ n next. sound (reference folded (groupCalled n known)) next)
     else if is "g" b then andThen (groupNumber s opened at) (λ n next. sound (reference folded n) next)
     else andThen (common s at) (λ m next. sound (byteIn folded (only m)) next)

@@ -4,5 +4,6 @@ pub mod Forward
 pub mod Within
 pub mod Fuel
 pub mod Formation
+pub mod Names
 pub mod Places
 pub mod ClassTest

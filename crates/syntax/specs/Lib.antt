@@ -6,6 +6,8 @@ pub mod Read
 pub mod Sets
 pub mod Tree
 pub mod Numbers
+pub mod Flags
+pub mod Names
 pub mod Escapes
 pub mod Classes
 pub mod Quantifiers

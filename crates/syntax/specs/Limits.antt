@@ -73,6 +73,22 @@ rowLength = 2 + spansLength
 unfoldable pub slot : ℕ → ℕ
 slot group = 2 * (group - 1)
 
+-- Names of groups -----------------------------------------------------------------
+
+-- 02, e): "A name is 1 to 16 letters, digits or underscores"
+unfoldable pub nameLimit : ℕ
+nameLimit = 16
+
+-- "for each of 32 groups 17 bytes, the length (0 if none) and the name padded with 00"
+unfoldable pub nameEntry : ℕ
+unfolding nameLimit
+nameEntry = suc nameLimit
+
+-- "index under 544 bytes"
+unfoldable pub nameIndexNeed : ℕ
+unfolding groupLimit nameEntry
+nameIndexNeed = groupLimit * nameEntry
+
 -- Registers -----------------------------------------------------------------------
 
 -- The machine's registers: the captures, and two for each level of groups and repeats, one inside another. Repeats nest one level deeper

@@ -1,18 +1,28 @@
 -- The reading of a rule: its syntax tree and its number of groups, or a refusal with its place.
-use mathlib.Core.List.{List}
+use mathlib.Core.List.{List, []}
 use mathlib.Core.Bool.{not, _||_}
 use mathlib.Core.Option.{Option, none, some}
 use Prim.Native.Nat.{ℕ}
+use lib.ListN.{length}
 use lib.Dec.{leb, eqb}
 use Rattle.syntax.specs.declared.Reason.the-variants.{NoSuchGroup, UnopenedGroup}
 use Rattle.syntax.specs.Limits.{nestingLimit}
 use Rattle.syntax.specs.Read.{if_then_else_, byte, isEnd, Read, sound, refused, andThen}
 use Rattle.syntax.specs.Tree.{Item, byteIn, assert, reference, Rule, empty, item, seq, alt, group, repeat, Branches, one, also}
+use Rattle.syntax.specs.Names.{Names}
 use Rattle.syntax.specs.Grammar.{inside, alternation}
 
 -- The whole rule. Its branches end at the rule's end, or else at a `)` without opening.
-unfoldable pub parsed : List ℕ → ℕ → Read (Rule × ℕ)
-parsed s flags = andThen (alternation s flags (inside nestingLimit s flags) 0 0) (λ r at. if isEnd (byte s at) then sound r at else refused at UnopenedGroup)
+unfoldable pub parsed : List ℕ → ℕ → Names → Read (Rule × Names)
+parsed s flags known = andThen (alternation s flags known (inside nestingLimit s flags known) [] 0) (λ r at. if isEnd (byte s at) then sound r at else refused at UnopenedGroup)
+
+-- the names of a rule's groups, the last group's first; no name needs to be known for that
+unfoldable pub namesRead : Read (Rule × Names) → Names
+namesRead (sound r at) = r .1
+namesRead (refused place why) = []
+
+unfoldable pub namesOf : List ℕ → ℕ → Names
+namesOf s flags = namesRead (parsed s flags [])
 
 -- "13 is tested after the whole rule is otherwise sound, lowest place first." ---
 
@@ -44,5 +54,6 @@ unfoldable pub resolved : Rule × ℕ → ℕ → Option ℕ → Read (Rule × �
 resolved r at none = sound r at
 resolved r at (some place) = refused place NoSuchGroup
 
+-- the tree, and the number of groups. A reference by name may stand before its group: it is read with the names of the whole rule
 unfoldable pub reading : List ℕ → ℕ → Read (Rule × ℕ)
-reading s flags = andThen (parsed s flags) (λ r at. resolved r at (unresolved (r .1) (r .0)))
+reading s flags = andThen (parsed s flags (namesOf s flags)) (λ r at. resolved (r .0, length (r .1)) at (unresolved (length (r .1)) (r .0)))

@@ -1,7 +1,7 @@
--- 01, "Refusal numbers".
+-- 01, "Refusal numbers", and those that 02 adds.
 use Prim.Native.Nat.{ℕ}
 use Rattle.syntax.specs.declared.Reason.{Reason}
-use Rattle.syntax.specs.declared.Reason.the-variants.{RuleTooLong, SubjectTooLong, UnknownFlag, BudgetTooLarge, RuleAreaShort, WorkAreaShort, ResultAreaShort, TrailingBackslash, UnknownEscape, MalformedEscape, NoSuchGroup, UnclosedClass, BadRange, UnknownSet, NothingToRepeat, BadBraces, RepeatOnRepeat, UnclosedGroup, UnopenedGroup, UnknownGroup, TooManyGroups, TooDeep}
+use Rattle.syntax.specs.declared.Reason.the-variants.{RuleTooLong, SubjectTooLong, UnknownFlag, BudgetTooLarge, RuleAreaShort, WorkAreaShort, ResultAreaShort, NameIndexShort, TrailingBackslash, UnknownEscape, MalformedEscape, NoSuchGroup, UnclosedClass, BadRange, UnknownSet, NothingToRepeat, BadBraces, RepeatOnRepeat, UnclosedGroup, UnopenedGroup, UnknownGroup, TooManyGroups, TooDeep, BadName, NameTwice}
 
 abbrev pub numberOf : Reason → ℕ
 -- of a call, before its rule is read
@@ -12,6 +12,7 @@ numberOf BudgetTooLarge = 4
 numberOf RuleAreaShort = 5
 numberOf WorkAreaShort = 6
 numberOf ResultAreaShort = 7
+numberOf NameIndexShort = 8
 -- of a rule
 numberOf TrailingBackslash = 10
 numberOf UnknownEscape = 11
@@ -28,3 +29,5 @@ numberOf UnopenedGroup = 21
 numberOf UnknownGroup = 22
 numberOf TooManyGroups = 23
 numberOf TooDeep = 24
+numberOf BadName = 25
+numberOf NameTwice = 26

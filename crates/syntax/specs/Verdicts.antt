@@ -88,7 +88,7 @@ verdicts =
     ∷ "\\o1" gives 12 at 0
     ∷ "\\gx" gives 12 at 0
     ∷ "\\g{}" gives 12 at 0
-    ∷ "\\g{a}" gives 12 at 0
+    ∷ "\\g{a}" gives 13 at 0
     ∷ "\\g+1" gives 12 at 0
     ∷ "\\g{ 1}" gives 12 at 0
     ∷ "[\\g" gives 11 at 1
@@ -205,6 +205,50 @@ verdicts =
     ∷ "[^]" gives 14 at 0
     ∷ "[^]]" holds 0
     ∷ "[" gives 14 at 0
+    -- 02 E1: of 22 to 26 on one bracket the lowest
+    ∷ "()()()()()()()()()()()()()()()()()()()()()()()()()()()()()()()()(?<1>)" gives 23 at 64
+    ∷ "(?<a>)()()()()()()()()()()()()()()()()()()()()()()()()()()()()()()()(?<a>)" gives 23 at 68
+    ∷ "(((((((((((((((((((((((((?<1>)" gives 24 at 24
+    -- 02 E2, E3: names that are not closed
+    ∷ "(?<" gives 25 at 0
+    ∷ "(?<a" gives 25 at 0
+    ∷ "(?<a>" gives 20 at 0
+    ∷ "(?<a>)(?<a" gives 25 at 6
+    ∷ "(?<a>)(?<a>" gives 26 at 6
+    -- 02 E4: 13 last, for names and numbers together
+    ∷ "\\k<b>(?<a>)(?<a>)" gives 26 at 11
+    ∷ "\\2\\k<z>" gives 13 at 0
+    -- 02 E5: places
+    ∷ "a(?<1>)" gives 25 at 1
+    ∷ "a\\k<1>" gives 25 at 1
+    -- 02 E6: behind `\k`
+    ∷ "\\k" gives 25 at 0
+    ∷ "\\ka" gives 25 at 0
+    ∷ "\\k<1>" gives 25 at 0
+    ∷ "\\k{}" gives 25 at 0
+    ∷ "\\k<a}" gives 25 at 0
+    ∷ "\\k\\" gives 25 at 0
+    ∷ "[\\k]" gives 11 at 1
+    -- 02 E7: behind `\g`
+    ∷ "\\g{a" gives 25 at 0
+    ∷ "\\g{a b}" gives 25 at 0
+    ∷ "\\g{1a}" gives 12 at 0
+    ∷ "\\g{-a}" gives 12 at 0
+    ∷ "\\ga" gives 12 at 0
+    ∷ "\\g<a>" gives 12 at 0
+    -- 02 E8, E9: blanks, and 16 and 17 bytes
+    ∷ "\\k{ a}" gives 25 at 0
+    ∷ "(?<abcdefghijklmnop>)" holds 1
+    ∷ "(?<abcdefghijklmnopq>)" gives 25 at 0
+    ∷ "\\k<abcdefghijklmnopq>" gives 25 at 0
+    -- 02 E11: in two branches, before the group, and other openings
+    ∷ "(?<a>)|(?<a>)" gives 26 at 7
+    ∷ "\\k<a>(?<a>b)" holds 1
+    ∷ "(?<_a1>)\\k{_a1}\\k'_a1'\\g{_a1}\\k<_a1>" holds 1
+    ∷ "(?<=a)" gives 25 at 0
+    ∷ "(?<!a)" gives 25 at 0
+    ∷ "(?'a'b)" gives 22 at 0
+    ∷ "(?P<a>b)" gives 22 at 0
     ∷ []
 
 pub verdicts-hold : map (read 0) verdicts ≡ verdicts
@@ -219,6 +263,8 @@ foldedVerdicts =
     "[a-Z]" gives 15 at 1
     ∷ "[Z-a]" holds 0
     ∷ "[\\x41-\\x5a]" holds 0
+    -- 02 E10: names are compared byte by byte
+    ∷ "(?<a>)\\k<A>" gives 13 at 6
     ∷ []
 
 pub folded-verdicts-hold : map (read 4) foldedVerdicts ≡ foldedVerdicts
@@ -254,6 +300,7 @@ extendedVerdicts =
     ∷ "\\c " gives 12 at 0
     ∷ "\\x4 1" gives 12 at 0
     ∷ "\\g {1}" gives 12 at 0
+    ∷ "\\k {a}" gives 25 at 0
     -- 02 C14: repeats
     ∷ "a* ?" gives 19 at 3
     ∷ "a{2} ?" gives 19 at 5

@@ -11,6 +11,7 @@ pub enum Reason {
     RuleAreaShort,
     WorkAreaShort,
     ResultAreaShort,
+    NameIndexShort,
     TrailingBackslash,
     UnknownEscape,
     MalformedEscape,
@@ -26,6 +27,8 @@ pub enum Reason {
     UnknownGroup,
     TooManyGroups,
     TooDeep,
+    BadName,
+    NameTwice,
 }
 
 // The zero-width assertions. The flag `m` is settled when a rule is read.
@@ -86,6 +89,7 @@ pub fn number(reason: Reason) -> u32
         Reason::RuleAreaShort => 5,
         Reason::WorkAreaShort => 6,
         Reason::ResultAreaShort => 7,
+        Reason::NameIndexShort => 8,
         Reason::TrailingBackslash => 10,
         Reason::UnknownEscape => 11,
         Reason::MalformedEscape => 12,
@@ -101,5 +105,7 @@ pub fn number(reason: Reason) -> u32
         Reason::UnknownGroup => 22,
         Reason::TooManyGroups => 23,
         Reason::TooDeep => 24,
+        Reason::BadName => 25,
+        Reason::NameTwice => 26,
     }
 }

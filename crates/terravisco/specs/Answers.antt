@@ -1,10 +1,12 @@
--- An outcome as the six numbers that `include/terravisco.h` names.
+-- An outcome as the six numbers that `include/terravisco.h` names, and a field as three.
 use mathlib.Core.Path.{_≡_}
 use mathlib.Core.List.{List, [], _∷_}
 use Prim.Native.Nat.{ℕ, _/_, _%_, _^_}
 use Rattle.syntax.specs.declared.Reason.{Reason}
 use Rattle.syntax.specs.Refusals.{numberOf}
 use Rattle.semantics.specs.Calls.{Return, MatchOutcome, Matched, NotMatched, Exhausted, Refused, ListOutcome, Complete, Full, ListExhausted, ListRefused}
+use Rattle.lookup.specs.declared.Found.{Found}
+use Rattle.lookup.specs.declared.Found.the-variants.{Taken, Standing, Nothing}
 
 -- what a number of 32 bits keeps of a larger one, and the rest
 unfoldable pub low : ℕ → ℕ
@@ -36,9 +38,16 @@ listNumbers (Full rows steps) = numbers 1 0 0 steps rows
 listNumbers (ListExhausted start rows steps) = numbers 2 start 0 steps rows
 listNumbers (ListRefused place why) = refusalNumbers place why
 
--- the answer's numbers are those of a return, and the areas are left as it says
-pub record Answered {A : Type 0} (inNumbers : A → List ℕ) (is : Return A) (answer ruleArea workArea resultArea : List ℕ) : Type 0 where
+-- "field: [0] 0 the line or 1 the standing text, [1] from, [2] to", of a standing text with so many bytes
+unfoldable pub fieldNumbers : (standing : ℕ) → Found → List ℕ
+fieldNumbers standing (Taken from to) = 0 ∷ from ∷ to ∷ []
+fieldNumbers standing Standing = 1 ∷ 0 ∷ standing ∷ []
+fieldNumbers standing Nothing = 1 ∷ 0 ∷ 0 ∷ []
+
+-- the answer's numbers are those of a return, and the areas and the name index are left as it says
+pub record Answered {A : Type 0} (inNumbers : A → List ℕ) (is : Return A) (answer ruleArea workArea resultArea names : List ℕ) : Type 0 where
   pub answer-is : answer ≡ inNumbers (is .outcome)
   pub rule-area-is : ruleArea ≡ is .ruleArea
   pub work-area-is : workArea ≡ is .workArea
   pub result-area-is : resultArea ≡ is .resultArea
+  pub names-is : names ≡ is .names

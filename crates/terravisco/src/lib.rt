@@ -1,15 +1,18 @@
-// The C interface: the two calls, with each outcome as six numbers. `include/terravisco.h` is its header.
+// The C interface: the two calls, with each outcome as six numbers, and the field lookup. `include/terravisco.h` is its header.
 use listing::Listing;
+use lookup::Found;
 use matching::Outcome;
 use syntax::Refusal;
 ghost use mathlib.Core.Path.{_≡_};
 ghost use Prim.Native.Nat.{_≤_};
+ghost use lib.ListN.{length};
 ghost use Rattle.syntax.specs.Limits.{ruleLimit};
 ghost use Rattle.semantics.specs.Calls.{matchCall, listCall};
 ghost use Rattle.frame.specs.Inputs.{callOf};
 ghost use Rattle.matching.specs.Outcomes.{outcomeOf};
 ghost use Rattle.listing.specs.Listing.{listingOf};
-ghost use Rattle.terravisco.specs.Answers.{numbers, refusalNumbers, matchNumbers, listNumbers, Answered};
+ghost use Rattle.lookup.specs.Lookup.{lookup};
+ghost use Rattle.terravisco.specs.Answers.{numbers, refusalNumbers, matchNumbers, listNumbers, fieldNumbers, Answered};
 ghost use Rattle.terravisco.specs.Laws.{MatchPlaced, ListPlaced};
 
 // 2^32
@@ -72,11 +75,21 @@ pub extern "C" fn terravisco_match(
     rule_area: &mut [u32],
     work_area: &mut [u32],
     result: &mut [u32],
+    names: &mut [u8],
     answer: &mut [u32; 6],
 )
-    ensures { λ _. ⌜ Answered matchNumbers (matchCall (callOf (now (rule .entry)) flags (now (subject .entry)) budget (now («rule_area» .entry)) (now («work_area» .entry)) (now (result .entry)))) (now (answer .exit)) (now («rule_area» .exit)) (now («work_area» .exit)) (now (result .exit)) ⌝ }
+    ensures { λ _. ⌜ Answered matchNumbers (matchCall (callOf (now (rule .entry)) flags (now (subject .entry)) budget (now («rule_area» .entry)) (now («work_area» .entry)) (now (result .entry)) (now (names .entry)))) (now (answer .exit)) (now («rule_area» .exit)) (now («work_area» .exit)) (now (result .exit)) (now (names .exit)) ⌝ }
 {
-    let outcome = matching::match_line(rule, flags, subject, budget, rule_area, work_area, result);
+    let outcome = matching::match_line(
+        rule,
+        flags,
+        subject,
+        budget,
+        rule_area,
+        work_area,
+        result,
+        names,
+    );
     tell_match(answer, outcome);
 }
 
@@ -90,9 +103,10 @@ pub extern "C" fn terravisco_list(
     rule_area: &mut [u32],
     work_area: &mut [u32],
     result: &mut [u32],
+    names: &mut [u8],
     answer: &mut [u32; 6],
 )
-    ensures { λ _. ⌜ Answered listNumbers (listCall (callOf (now (rule .entry)) flags (now (subject .entry)) budget (now («rule_area» .entry)) (now («work_area» .entry)) (now (result .entry)))) (now (answer .exit)) (now («rule_area» .exit)) (now («work_area» .exit)) (now (result .exit)) ⌝ }
+    ensures { λ _. ⌜ Answered listNumbers (listCall (callOf (now (rule .entry)) flags (now (subject .entry)) budget (now («rule_area» .entry)) (now («work_area» .entry)) (now (result .entry)) (now (names .entry)))) (now (answer .exit)) (now («rule_area» .exit)) (now («work_area» .exit)) (now (result .exit)) (now (names .exit)) ⌝ }
 {
     let outcome = listing::list_readings(
         rule,
@@ -102,6 +116,27 @@ pub extern "C" fn terravisco_list(
         rule_area,
         work_area,
         result,
+        names,
     );
     tell_listing(answer, outcome);
+}
+
+// One field: which text it is a part of, from where and up to where. C cannot be handed a slice of Rattle's, so it gets the numbers.
+#[no_mangle]
+pub extern "C" fn terravisco_field(
+    name: &[u8],
+    names: &[u8],
+    line: &[u8],
+    kind: u32,
+    row: &[u32],
+    standing: &[u8],
+    field: &mut [u64; 3],
+)
+    ensures { λ _. ⌜ now (field .exit) ≡ fieldNumbers (length (now (standing .entry))) (lookup (now (name .entry)) (now (names .entry)) (now (line .entry)) kind (now (row .entry))) ⌝ }
+{
+    match lookup::find(name, names, line, kind, row) {
+        Found::Taken(from, to) => *field = [0, from as u64, to as u64],
+        Found::Standing => *field = [1, 0, standing.len() as u64],
+        Found::Nothing => *field = [1, 0, 0],
+    }
 }

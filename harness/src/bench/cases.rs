@@ -26,6 +26,7 @@ pub fn all() -> Vec<Case> {
         plain_walks(),
         ignoring_case(),
         with_spaces(),
+        with_names(),
         catastrophes(),
         listings(),
     ];
@@ -192,6 +193,17 @@ fn with_spaces() -> Vec<Case> {
     vec![
         one(r"^ (?: ( \d{1,3} , \d{3} ) | ( \d+ , \d+ ) ) \  L $", "1234567,5 L"),
         one(r"^ (\d{4}) - (\d\d) - (\d\d) \  (\w+) = (\d+) $  # the date, what was measured, and the value", "2024-05-17 tank07=1500"),
+    ]
+}
+
+/// Rules of the gateway with names, one that refers by name, and one with as many names as there can be, each of which is compared with all before it.
+fn with_names() -> Vec<Case> {
+    let one = |rule, line: &str| matching("with names", rule, line.as_bytes(), GATEWAY);
+    let most: String = (1..=32).map(|number| format!("(?<of_the_tank_{number:02}>a)")).collect();
+    vec![
+        one(r"^(?<year>\d{4})-(?<month>\d\d)-(?<day>\d\d) (?<what>\w+)=(?<value>\d+)$", "2024-05-17 tank07=1500"),
+        one(r"^(?<tank>\w+) (?<litres>\d+) L \k<tank>$", "tank07 1500 L tank07"),
+        case(Call::Match, "with names: 32 names of 14 bytes, 32 bytes", &most, &[b'a'; 32], GATEWAY, 1),
     ]
 }
 

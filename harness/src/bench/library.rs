@@ -3,18 +3,19 @@
 use std::hint::black_box;
 
 use super::{Case, Reply};
-use crate::independent::{ROW_LENGTH, RULE_AREA, WORK_PER_STEP};
+use crate::independent::{INDEX_LENGTH, ROW_LENGTH, RULE_AREA, WORK_PER_STEP};
 use crate::raw::{self, Areas, Call, Question};
 
-/// An answer's kind when the call is refused, and the reason that is asked for here.
+/// An answer's kind when the call is refused, and the reasons for which a library from before a flag, `\k` or `(?<` refuses one that has it.
 const REFUSED: u32 = 3;
-const UNKNOWN_FLAG: u32 = 3;
+const NOT_HELD: [u32; 3] = [3, 11, 22];
 
 pub struct Library<'c> {
     case: &'c Case,
     rule_area: Vec<u32>,
     work_area: Vec<u32>,
     result: Vec<u32>,
+    names: Vec<u8>,
     answer: [u32; 6],
 }
 
@@ -25,6 +26,7 @@ impl<'c> Library<'c> {
             rule_area: vec![0; RULE_AREA],
             work_area: vec![0; WORK_PER_STEP * case.budget as usize],
             result: vec![0; ROW_LENGTH * case.room],
+            names: vec![0; INDEX_LENGTH],
             answer: [0; 6],
         }
     }
@@ -33,16 +35,16 @@ impl<'c> Library<'c> {
     /// the empty line is taken off that of the walk.
     pub fn call(&mut self, subject: &[u8]) {
         let question = Question { rule: &self.case.rule, flags: self.case.flags, subject, budget: self.case.budget };
-        let areas = Areas { rule: &mut self.rule_area, work: &mut self.work_area, result: &mut self.result };
+        let areas = Areas { rule: &mut self.rule_area, work: &mut self.work_area, result: &mut self.result, names: &mut self.names };
         raw::call(self.case.call, black_box(question), areas, &mut self.answer);
         black_box(&self.answer);
         black_box(&self.result);
     }
 
-    /// Does the library hold the case's flags? One from before a flag came refuses it.
-    pub fn holds_flags(&mut self) -> bool {
+    /// Does the library hold the case's rule and its flags? One from before a flag or names came refuses it.
+    pub fn holds(&mut self) -> bool {
         self.call(b"");
-        self.answer[..2] != [REFUSED, UNKNOWN_FLAG]
+        self.answer[0] != REFUSED || !NOT_HELD.contains(&self.answer[1])
     }
 
     /// What a call answers, and after how many steps.

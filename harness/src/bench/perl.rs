@@ -30,7 +30,7 @@ pub fn run(cases: &[Case]) -> Result<Perl, String> {
 fn replies(cases: &[&Case]) -> Result<Vec<Reply>, String> {
     let questions: Vec<Question> = cases.iter().map(|case| question(case)).collect();
     let reply = |answer| match answer {
-        Answer::Matched(row) => Reply::Rows(row.to_vec()),
+        Answer::Matched(row, _) => Reply::Rows(row.to_vec()),
         Answer::NotMatched => Reply::Rows(Vec::new()),
         Answer::Failed | Answer::Slow => Reply::GaveUp,
     };

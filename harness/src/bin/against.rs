@@ -39,7 +39,7 @@ fn main() -> std::process::ExitCode {
 #[derive(Default)]
 struct Kinds {
     endings: [u64; 5],
-    refusals: [u64; 25],
+    refusals: [u64; 27],
 }
 
 impl Kinds {
@@ -57,7 +57,7 @@ impl Kinds {
     fn told(&self) -> String {
         let [matched, not, complete, full, exhausted] = self.endings;
         let walked = format!("{matched} matched, {not} not, {complete} complete, {full} full, {exhausted} exhausted");
-        let rarest = (1..25).filter(|number| ![8, 9].contains(number)).map(|number| self.refusals[number]).min().unwrap_or(0);
+        let rarest = (1..27).filter(|&number| number != 9).map(|number| self.refusals[number]).min().unwrap_or(0);
         match self.refusals.iter().sum::<u64>() {
             0 => walked,
             refused => format!("{walked}, {refused} refused, each refusal at least {rarest} times"),

@@ -1,11 +1,11 @@
-//! The library's matches and listings against those of PCRE2 on random sound rules. PCRE2 lists the readings from a start by a callout at the
+//! The library's matches and listings against those of PCRE2 on random sound rules, and its name index against PCRE2's name table. PCRE2 lists the readings from a start by a callout at the
 //! rule's end that fails each time. `--independent` puts the independent matcher in the library's place.
 
 use harness::arguments::arguments_and_switch;
 use harness::case::{shown, shown_row, Case};
 use harness::contender::Contender;
 use harness::differences::{Compared, SetAside};
-use harness::independent::{Ending, Row};
+use harness::independent::{self, Answer, Ending, Row};
 use harness::pcre2::{Found, Pattern};
 use harness::random::shared::{self, Shared};
 use harness::raw::Call;
@@ -24,6 +24,7 @@ fn main() -> std::process::ExitCode {
         contender: Contender::new(is_independent),
         aside: SetAside::default(),
         rows: 0,
+        names: 0,
         left_out: 0,
     };
     shared::set_cases().iter().for_each(|case| tester.judge(case));
@@ -31,7 +32,7 @@ fn main() -> std::process::ExitCode {
         (0..arguments.cases).filter_map(|number| shared::case(seed, number)).for_each(|case| tester.judge(&case));
         (0..CLASSES).flat_map(|number| shared::class_cases(seed, number)).for_each(|case| tester.judge(&case));
     }
-    let remark = format!("{} readings; {}; {} left out as too long", tester.rows, tester.aside.told(), tester.left_out);
+    let remark = format!("{} readings; {} names; {}; {} left out as too long", tester.rows, tester.names, tester.aside.told(), tester.left_out);
     tester.group.end(&remark)
 }
 
@@ -40,6 +41,7 @@ struct Tester {
     contender: Contender,
     aside: SetAside,
     rows: usize,
+    names: usize,
     left_out: u64,
 }
 
@@ -47,7 +49,7 @@ impl Tester {
     fn judge(&mut self, case: &Shared) {
         let rows = (case.budget() / STEPS_PER_ROW) as usize;
         let (Some(matched), Some(listed)) = (self.ours(Call::Match, case, 1), self.ours(Call::List, case, rows)) else { return };
-        let ours = Results { matched, listed };
+        let ours = Results { names: names(&listed), matched: matched.rows, listed: listed.rows };
         let compared = Compared { case };
         // The library is held to what PCRE2 answers without what it does beyond document 02.
         match (theirs(case, &compared.plain_rule()), compared.pcre2_class()) {
@@ -55,7 +57,7 @@ impl Tester {
             (Ok(None), _) => self.left_out += 1,
             (Ok(Some(results)), _) if results == ours => self.agreed(case, &compared, &ours),
             (_, Some(class)) => self.aside.count(class),
-            (Ok(Some(results)), None) => self.group.fail(&told(case, &ours.listed, &results.listed)),
+            (Ok(Some(results)), None) => self.group.fail(&told(case, &ours, &results)),
         }
     }
 
@@ -65,6 +67,7 @@ impl Tester {
             Some(class) if theirs(case, &case.rule).ok().flatten().as_ref() != Some(ours) => self.aside.count(class),
             _ => {
                 self.rows += ours.listed.len();
+                self.names += ours.names.len();
                 self.group.pass();
             }
         }
@@ -77,12 +80,12 @@ impl Tester {
         }
     }
 
-    /// The library's rows, or none where the case is too long.
-    fn ours(&mut self, call: Call, case: &Shared, rows: usize) -> Option<Vec<Row>> {
+    /// The library's answer, or none where the case is too long.
+    fn ours(&mut self, call: Call, case: &Shared, rows: usize) -> Option<Answer> {
         let call = Case::new(call, &case.rule, case.flags, &case.subject, case.budget(), rows);
         let answer = self.contender.answer(&call);
         match answer.ending {
-            Ending::Matched | Ending::NotMatched | Ending::Complete => return Some(answer.rows),
+            Ending::Matched | Ending::NotMatched | Ending::Complete => return Some(answer),
             Ending::Full | Ending::Exhausted(_) => self.left_out += 1,
             Ending::Refused(_) => self.group.fail(&format!("{}\nis sound, and the library answers: {}", call.shown(), shown(&answer))),
         }
@@ -90,11 +93,18 @@ impl Tester {
     }
 }
 
-/// The row of a match, if it matched, and all rows of a listing.
+/// The row of a match, if it matched, all rows of a listing, and the groups that have a name.
 #[derive(PartialEq)]
 struct Results {
     matched: Vec<Row>,
     listed: Vec<Row>,
+    names: Vec<(usize, Vec<u8>)>,
+}
+
+/// The groups that have a name by the index that a call filled.
+fn names(answer: &Answer) -> Vec<(usize, Vec<u8>)> {
+    let index = answer.names.as_deref().expect("a call that is not refused fills the index");
+    independent::named(index).into_iter().map(|(group, name)| (group, name.to_vec())).collect()
 }
 
 /// PCRE2's results for a case with this as its rule: none where it gave up, or its error where it refuses the rule.
@@ -108,13 +118,17 @@ fn theirs(case: &Shared, rule: &[u8]) -> Result<Option<Results>, i32> {
         }
     }
     Ok(match pattern.first(&case.subject) {
-        Found::Rows(matched) => Some(Results { matched, listed }),
+        Found::Rows(matched) => Some(Results { matched, listed, names: pattern.names() }),
         Found::Limit => None,
     })
 }
 
-fn told(case: &Shared, ours: &[Row], theirs: &[Row]) -> String {
-    let rows = |rows: &[Row]| rows.iter().map(shown_row).collect::<Vec<_>>().join("; ");
+fn told(case: &Shared, ours: &Results, theirs: &Results) -> String {
+    let name = |(group, name): &(usize, Vec<u8>)| format!("{group}:{}", text::escaped(name));
+    let shown = |results: &Results| {
+        let (rows, names): (Vec<String>, Vec<String>) = (results.listed.iter().map(shown_row).collect(), results.names.iter().map(name).collect());
+        format!("{} names {}", rows.join("; "), names.join(" "))
+    };
     let (rule, subject) = (text::escaped(&case.rule), text::escaped(&case.subject));
-    format!("`{rule}` flags {} on \"{subject}\"\nlibrary: {}\nPCRE2:   {}", case.flags, rows(ours), rows(theirs))
+    format!("`{rule}` flags {} on \"{subject}\"\nlibrary: {}\nPCRE2:   {}", case.flags, shown(ours), shown(theirs))
 }

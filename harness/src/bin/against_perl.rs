@@ -1,4 +1,5 @@
-//! The library's matches against those of Perl on random sound rules: matched or not, start, end and captures. A difference has to have the
+//! The library's matches against those of Perl on random sound rules: matched or not, start, end, captures, and each field by its name against
+//! what Perl's `%+` has of it. A difference has to have the
 //! marks of a known class, and PCRE2 has to side with the library, unless it has a difference of its own there. `--independent` puts the
 //! independent matcher in the library's place: what the library is held against elsewhere is then held against Perl itself.
 
@@ -6,11 +7,11 @@ use harness::arguments::arguments_and_switch;
 use harness::case::{shown, shown_row, Case};
 use harness::contender::Contender;
 use harness::differences::{Class, Compared, SetAside};
-use harness::independent::{Ending, Row};
+use harness::independent::{self, Ending, Row};
 use harness::pcre2::{Found, Pattern};
-use harness::perl::{self, Answer, Charset, Question};
+use harness::perl::{self, Answer, Charset, Fields, Question};
 use harness::random::shared::{self, Shared};
-use harness::raw::Call;
+use harness::raw::{Call, Lookup};
 use harness::report::Group;
 use harness::text;
 
@@ -27,6 +28,7 @@ fn main() -> std::process::ExitCode {
         aside: SetAside::default(),
         confirmed: 0,
         left_out: 0,
+        fields: 0,
     };
     tester.batch(shared::set_cases());
     for seed in arguments.seeds.clone() {
@@ -37,7 +39,8 @@ fn main() -> std::process::ExitCode {
         }
         tester.batch((0..CLASSES).flat_map(|number| shared::class_cases(seed, number)).collect());
     }
-    let remark = format!("{}, {} of them confirmed by PCRE2; {} left out as too long", tester.aside.told(), tester.confirmed, tester.left_out);
+    let aside = format!("{}, {} of them confirmed by PCRE2", tester.aside.told(), tester.confirmed);
+    let remark = format!("{} fields by name; {aside}; {} left out as too long", tester.fields, tester.left_out);
     tester.group.end(&remark)
 }
 
@@ -47,37 +50,48 @@ struct Tester {
     aside: SetAside,
     confirmed: u64,
     left_out: u64,
+    fields: usize,
 }
+
+/// A case with what the library answers: its row, or none where it does not match, and its fields.
+struct Ours {
+    case: Shared,
+    row: Option<Row>,
+    fields: Fields,
+}
+
+/// What stands where a group took nothing: no subject has it, so that it cannot be mistaken for a part of the line.
+const STANDING: &[u8] = b"a text that stands where no line has a field";
 
 impl Tester {
     fn batch(&mut self, cases: Vec<Shared>) {
-        let ours: Vec<(Shared, Option<Row>)> = cases.into_iter().filter_map(|case| self.ours(case)).collect();
+        let ours: Vec<Ours> = cases.into_iter().filter_map(|case| self.ours(case)).collect();
         let (mut usual, mut exceeded) = (Vec::new(), Vec::new());
-        for (case, row) in &ours {
-            match (Compared { case }).perl_excess() {
-                None => usual.push((case, row.as_ref())),
-                Some(class) => exceeded.push((case, row.as_ref(), class)),
+        for ours in &ours {
+            match (Compared { case: &ours.case }).perl_excess() {
+                None => usual.push(ours),
+                Some(class) => exceeded.push((ours, class)),
             }
         }
-        let questions: Vec<Question> = usual.iter().map(|&(case, _)| question(case, &case.rule, Charset::Ascii)).collect();
-        for (&(case, row), answer) in usual.iter().zip(self.answers(&questions)) {
-            self.judge(case, row, &answer);
+        let questions: Vec<Question> = usual.iter().map(|ours| question(&ours.case, &ours.case.rule, Charset::Ascii)).collect();
+        for (ours, answer) in usual.iter().zip(self.answers(&questions)) {
+            self.judge(ours, &answer);
         }
         self.without_excess(&exceeded);
     }
 
     /// Where Perl does more than document 02 says, the library is held to what it answers without that. What it answers with it is asked for too,
     /// and set aside where it differs.
-    fn without_excess(&mut self, cases: &[(&Shared, Option<&Row>, Class)]) {
-        let rules: Vec<Vec<u8>> = cases.iter().map(|&(case, ..)| Compared { case }.plain_rule()).collect();
-        let without: Vec<Question> = cases.iter().zip(&rules).map(|(&(case, ..), rule)| question(case, rule, Charset::Native)).collect();
-        let with: Vec<Question> = cases.iter().map(|&(case, ..)| question(case, &case.rule, Charset::Ascii)).collect();
+    fn without_excess(&mut self, cases: &[(&Ours, Class)]) {
+        let rules: Vec<Vec<u8>> = cases.iter().map(|(ours, _)| Compared { case: &ours.case }.plain_rule()).collect();
+        let without: Vec<Question> = cases.iter().zip(&rules).map(|((ours, _), rule)| question(&ours.case, rule, Charset::Native)).collect();
+        let with: Vec<Question> = cases.iter().map(|(ours, _)| question(&ours.case, &ours.case.rule, Charset::Ascii)).collect();
         let answers = self.answers(&without).into_iter().zip(self.answers(&with));
-        for (&(case, row, class), (without, with)) in cases.iter().zip(answers) {
-            if is_same(row, &without) && !is_same(row, &with) {
-                self.set_aside(case, row, &with, class);
+        for (&(ours, class), (without, with)) in cases.iter().zip(answers) {
+            if ours.is_same(&without) && !ours.is_same(&with) {
+                self.set_aside(ours, &with, class);
             } else {
-                self.judge(case, row, &without);
+                self.judge(ours, &without);
             }
         }
     }
@@ -90,41 +104,65 @@ impl Tester {
         })
     }
 
-    /// The library's row, or no row where it does not match. Cases that are too long are left out.
-    fn ours(&mut self, case: Shared) -> Option<(Shared, Option<Row>)> {
+    /// What the library answers. Cases that are too long are left out.
+    fn ours(&mut self, case: Shared) -> Option<Ours> {
         let call = Case::new(Call::Match, &case.rule, case.flags, &case.subject, case.budget(), 1);
         let answer = self.contender.answer(&call);
         match answer.ending {
-            Ending::Matched | Ending::NotMatched => return Some((case, answer.rows.first().copied())),
+            Ending::Matched | Ending::NotMatched => {
+                let (row, fields) = (answer.rows.first().copied(), self.fields(&case, &answer));
+                return Some(Ours { case, row, fields });
+            }
             Ending::Exhausted(_) => self.left_out += 1,
             _ => self.group.fail(&format!("{}\nis sound, and the library answers: {}", call.shown(), shown(&answer))),
         }
         None
     }
 
-    fn judge(&mut self, case: &Shared, ours: Option<&Row>, answer: &Answer) {
-        let compared = Compared { case };
+    /// Each name that the library's index has, with the part of the line that is looked up by it; none of them where the line does not match. What
+    /// names a rule has is not told here: the index alone says so.
+    fn fields(&mut self, case: &Shared, answer: &independent::Answer) -> Fields {
+        let (Some(names), Some(row)) = (answer.names.as_deref(), answer.rows.first()) else { return Fields::new() };
+        let mut fields = Fields::new();
+        for (_, name) in independent::named(names) {
+            let lookup = Lookup { name, names, line: &case.subject, kind: 0, row, standing: STANDING };
+            let taken = match self.contender.field(lookup) {
+                [0, from, to] => Some(case.subject[from as usize..to as usize].to_vec()),
+                [1, 0, to] if to == STANDING.len() as u64 => None,
+                other => Some(format!("not a field: {other:?}").into_bytes()),
+            };
+            fields.insert(name.to_vec(), taken);
+        }
+        self.fields += fields.len();
+        fields
+    }
+
+    fn judge(&mut self, ours: &Ours, answer: &Answer) {
+        let compared = Compared { case: &ours.case };
+        let row = ours.row.as_ref();
         let class = match answer {
-            _ if is_same(ours, answer) => return self.group.pass(),
+            _ if ours.is_same(answer) => return self.group.pass(),
             Answer::Slow => {
                 self.left_out += 1;
                 return;
             }
             Answer::Failed => compared.perl_failure_class(),
-            Answer::NotMatched => compared.perl_class(ours, None),
-            Answer::Matched(row) => compared.perl_class(ours, Some(row)),
+            Answer::NotMatched => compared.perl_class(row, None),
+            // The same row with other fields is of no class.
+            Answer::Matched(perls, _) if row == Some(&**perls) => None,
+            Answer::Matched(perls, _) => compared.perl_class(row, Some(perls)),
         };
         match class {
-            Some(class) => self.set_aside(case, ours, answer, class),
-            None => self.group.fail(&told(case, ours, answer)),
+            Some(class) => self.set_aside(ours, answer, class),
+            None => self.group.fail(&told(ours, answer)),
         }
     }
 
-    fn set_aside(&mut self, case: &Shared, ours: Option<&Row>, answer: &Answer, class: Class) {
-        if self.pcre2_sides_with(ours, case) {
+    fn set_aside(&mut self, ours: &Ours, answer: &Answer, class: Class) {
+        if self.pcre2_sides_with(ours.row.as_ref(), &ours.case) {
             self.aside.count(class);
         } else {
-            self.group.fail(&format!("{}\nPCRE2 does not side with the library", told(case, ours, answer)));
+            self.group.fail(&format!("{}\nPCRE2 does not side with the library", told(ours, answer)));
         }
     }
 
@@ -148,22 +186,31 @@ fn question<'c>(case: &'c Shared, rule: &'c [u8], charset: Charset) -> Question<
     Question { rule, flags: case.flags, charset, subject: &case.subject, groups: case.tree.groups }
 }
 
-/// Is Perl's answer this row, or "not matched" where there is none?
-fn is_same(ours: Option<&Row>, answer: &Answer) -> bool {
-    match answer {
-        Answer::NotMatched => ours.is_none(),
-        Answer::Matched(row) => ours == Some(&**row),
-        Answer::Failed | Answer::Slow => false,
+impl Ours {
+    /// Is Perl's answer this row with these fields, or "not matched" where there is none?
+    fn is_same(&self, answer: &Answer) -> bool {
+        match answer {
+            Answer::NotMatched => self.row.is_none(),
+            Answer::Matched(row, fields) => self.row.as_ref() == Some(&**row) && self.fields == *fields,
+            Answer::Failed | Answer::Slow => false,
+        }
     }
 }
 
-fn told(case: &Shared, ours: Option<&Row>, answer: &Answer) -> String {
-    let row = |row: Option<&Row>| row.map_or("not matched".to_string(), shown_row);
+fn told(ours: &Ours, answer: &Answer) -> String {
+    let row = |row: &Row, fields: &Fields| format!("{} {}", shown_row(row), shown_fields(fields));
     let perls = match answer {
         Answer::Failed => "failed".to_string(),
         Answer::Slow => "slow".to_string(),
-        Answer::NotMatched => row(None),
-        Answer::Matched(perls) => row(Some(perls)),
+        Answer::NotMatched => "not matched".to_string(),
+        Answer::Matched(perls, fields) => row(perls, fields),
     };
-    format!("`{}` flags {} on \"{}\": library {}, Perl {perls}", text::escaped(&case.rule), case.flags, text::escaped(&case.subject), row(ours))
+    let (rule, subject) = (text::escaped(&ours.case.rule), text::escaped(&ours.case.subject));
+    let library = ours.row.as_ref().map_or("not matched".to_string(), |found| row(found, &ours.fields));
+    format!("`{rule}` flags {} on \"{subject}\": library {library}, Perl {perls}", ours.case.flags)
+}
+
+fn shown_fields(fields: &Fields) -> String {
+    let shown = |taken: &Option<Vec<u8>>| taken.as_ref().map_or("not set".to_string(), |taken| format!("\"{}\"", text::escaped(taken)));
+    fields.iter().map(|(name, taken)| format!("{} {}", text::escaped(name), shown(taken))).collect::<Vec<_>>().join(", ")
 }

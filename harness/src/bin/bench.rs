@@ -22,7 +22,7 @@ fn main() -> ExitCode {
         ["--numbers", words] => print_numbers(words),
         ["--plain", number] => {
             let case = &cases::all()[number.parse::<usize>().expect("a case has a number")];
-            if Library::new(case).holds_flags() {
+            if Library::new(case).holds() {
                 compare::print_plain(case, &measure(case));
             }
         }

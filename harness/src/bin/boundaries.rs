@@ -1,10 +1,12 @@
-//! Calls at the limits of document 01: each of refusals 1 to 7 at its last good and first bad value, all of them together in their order,
-//! subjects of 65,535 bytes, the greatest budget, also within a reference, every flag setting, and rules of 1,000 bytes that `x` mostly skips.
+//! Calls at the limits of documents 01 and 02: each of refusals 1 to 8 at its last good and first bad value, all of them together in their order,
+//! subjects of 65,535 bytes, the greatest budget, also within a reference, every flag setting, rules of 1,000 bytes that `x` mostly skips, the
+//! longest names and the most, and lookups at the edges of an index and of a row.
 
 use harness::case::{shown, Case};
-use harness::independent::{Ending, FLAG_X};
+use harness::independent::{Ending, FLAG_I, FLAG_X, UNSET};
 use harness::lender::Lender;
-use harness::raw::Call;
+use harness::looker::{self, Looker};
+use harness::raw::{Call, Lookup};
 use harness::report::Group;
 
 const CALLS: [Call; 2] = [Call::Match, Call::List];
@@ -21,7 +23,11 @@ fn main() -> std::process::ExitCode {
         rooms(&mut group, &mut lender, call);
         flags(&mut group, &mut lender, call);
         long_rules_with_blanks(&mut group, &mut lender, call);
+        names(&mut group, &mut lender, call);
+        index_lengths(&mut group, &mut lender, call);
     }
+    lookups_by_index(&mut group);
+    lookups_by_row(&mut group);
     group.end("")
 }
 
@@ -32,9 +38,9 @@ fn judge(group: &mut Group, lender: &mut Lender, case: &Case) {
     group.judge(&shown, &faults);
 }
 
-/// All 128 ways to break some of the seven limits by one: the lowest number is given, and nothing is changed.
+/// All 256 ways to break some of the eight limits by one: the lowest number is given, and nothing is changed.
 fn refusals_in_order(group: &mut Group, lender: &mut Lender, call: Call) {
-    for broken in 0u32..128 {
+    for broken in 0u32..256 {
         let breaks = |number: u32| broken >> (number - 1) & 1;
         let budget = if breaks(4) == 1 { 100_001 } else { 100 };
         let case = Case {
@@ -46,10 +52,11 @@ fn refusals_in_order(group: &mut Group, lender: &mut Lender, call: Call) {
             rule_area: 16_384 - breaks(5) as usize,
             work_area: 16 * budget as usize - breaks(6) as usize,
             result_area: 66 - breaks(7) as usize,
+            name_index: 544 - breaks(8) as usize,
         };
         let run = lender.run(&case);
         let mut faults = run.faults;
-        let expected = (1..=7).find(|&number| breaks(number) == 1);
+        let expected = (1..=8).find(|&number| breaks(number) == 1);
         let told = match run.answer.ending {
             Ending::Refused(refusal) => Some(refusal.number),
             _ => None,
@@ -58,7 +65,7 @@ fn refusals_in_order(group: &mut Group, lender: &mut Lender, call: Call) {
         if told != expected || run.answer.steps != steps {
             faults.push(format!("expected refusal {expected:?} and {steps} steps, the library answers {}", shown(&run.answer)));
         }
-        group.judge(&format!("limits broken: {broken:07b}"), &faults);
+        group.judge(&format!("limits broken: {broken:08b}"), &faults);
     }
 }
 
@@ -76,6 +83,7 @@ fn long_rules(group: &mut Group, lender: &mut Lender, call: Call) {
         "a{1,255}?".repeat(111),
         format!("{}{}", "()".repeat(32), "\\1".repeat(468)),
         format!("{}{}{}", "(".repeat(24), "x".repeat(952), ")".repeat(24)),
+        format!("{}{}", (10..42).map(|number| format!("(?<abcdefghijklm_{number}>)")).collect::<String>(), "\\g{abcdefghijklm_41}".repeat(14)),
         format!("{}{}{}", "(?:".repeat(24), "|".repeat(904), ")".repeat(24)),
     ];
     for rule in &rules {
@@ -156,4 +164,126 @@ fn long_rules_with_blanks(group: &mut Group, lender: &mut Lender, call: Call) {
         }
         judge(group, lender, &Case::new(call, &b"a ".repeat(501)[..length], FLAG_X, b"a", 1_000, 3));
     }
+}
+
+/// Names of 16 and 17 bytes in groups and in each form of a reference, and 32 and 33 groups with names, the longest and the shortest.
+fn names(group: &mut Group, lender: &mut Lender, call: Call) {
+    for length in [1, 2, 15, 16, 17, 18, 255, 256, 257, 272, 900] {
+        let name = "_z9".repeat(length)[..length].to_string();
+        for (opening, closing) in [("\\k<", ">"), ("\\k{", "}"), ("\\k'", "'"), ("\\g{", "}")] {
+            let reference = format!("{opening}{name}{closing}");
+            for rule in [reference.clone(), format!("(?<{}>a){reference}", &name[..length.min(16)]), format!("{reference}|(?<n>a)")] {
+                judge(group, lender, &Case::new(call, rule.as_bytes(), 0, b"aa", 100, 2));
+            }
+        }
+        for rule in [format!("(?<{name}>a)"), format!("(?<{name}"), format!("(?<{name}>"), format!("(?<n>a)(?<{name}>a)")] {
+            judge(group, lender, &Case::new(call, rule.as_bytes(), 0, b"aa", 100, 2));
+        }
+    }
+    for groups in 31..=34 {
+        for (before, behind) in [("n", ""), ("a234567890123_", ""), ("_", ")(")] {
+            let rule: String = (0..groups).map(|number| format!("(?<{before}{number:02}>a?{behind})")).collect();
+            judge(group, lender, &Case::new(call, rule.as_bytes(), 0, b"aa", 1_000, 2));
+            // The last name once more: the first of all groups, or one too many.
+            let twice = format!("(?<{before}{:02}>){rule}", groups - 1);
+            judge(group, lender, &Case::new(call, twice.as_bytes(), 0, b"aa", 1_000, 2));
+        }
+    }
+    for flags in [0, FLAG_I, FLAG_X, FLAG_I | FLAG_X] {
+        for rule in [
+            "(?<a>a)(?<A>b)\\k<A>\\g{a}",
+            "(?<a>a)\\k<A>",
+            "(?< a>a)",
+            "( ?<a>a)",
+            "(?<a> a)\\k<a> {1}",
+            "(?<a>)\\k {a}",
+            "(?<a>)\\g{a }",
+            "(?<#>)#\n",
+        ] {
+            judge(group, lender, &Case::new(call, rule.as_bytes(), flags, b"abBA", 100, 2));
+        }
+    }
+}
+
+/// An index under 544 bytes is refused after the result area and before the rule is read; bytes behind 544 stay as they are.
+fn index_lengths(group: &mut Group, lender: &mut Lender, call: Call) {
+    for name_index in [0, 1, 16, 17, 18, 543, 544, 545, 561, 1_088, 5_000] {
+        for rule in ["", "(?<n>a)", "()(?<n>a)|(?<m>b)", "(?<n>a", "(?<n>a)(?<n>b)", "b"] {
+            let case = Case::new(call, rule.as_bytes(), 0, b"a", 100, 1);
+            judge(group, lender, &Case { name_index, result_area: 65, ..case.clone() });
+            judge(group, lender, &Case { name_index, budget: 1, ..case.clone() });
+            judge(group, lender, &Case { name_index, ..case });
+        }
+    }
+}
+
+/// Which entry counts, in indices of every length up to 34 entries: the last whole one among the first 32, and of two that have the name the first.
+fn lookups_by_index(group: &mut Group) {
+    let looker = &mut Looker::default();
+    // Every group has a span of its own.
+    let row: Vec<u32> = [0, 40].into_iter().chain((1..=32).flat_map(|number| [number, number + 1])).collect();
+    let entry = |name: &[u8], padding: u8| {
+        let mut entry = vec![padding; 17];
+        entry[0] = name.len() as u8;
+        entry[1..=name.len()].copy_from_slice(name);
+        entry
+    };
+    for entries in 1..=34 {
+        for padding in [0, b'n', 0xFF] {
+            let mut names = entry(b"m", padding).repeat(entries - 1);
+            names.extend(entry(b"n", padding));
+            for length in [names.len() - 17, names.len() - 16, names.len() - 1, names.len()] {
+                judge_lookup(group, looker, Lookup { names: &names[..length], ..asked(b"n", &row) });
+                judge_lookup(group, looker, Lookup { names: &[&names[..length], &entry(b"n", 0)].concat(), ..asked(b"n", &row) });
+            }
+        }
+    }
+    // A name of each length against each length byte, with the bytes that fit.
+    for byte in (0..=18).chain([31, 32, 33, 127, 128, 254, 255]) {
+        for length in 0..=18 {
+            let names: Vec<u8> = std::iter::once(byte).chain([b'a'; 16]).chain(entry(b"a", 0)).collect();
+            judge_lookup(group, looker, Lookup { names: &names, ..asked(&[b'a'; 18][..length], &row) });
+        }
+    }
+}
+
+/// A line of 40 bytes that matched, and a standing text.
+fn asked<'a>(name: &'a [u8], row: &'a [u32]) -> Lookup<'a> {
+    Lookup { name, names: b"\x01n\0\0\0\0\0\0\0\0\0\0\0\0\0\0\0", line: &[b'x'; 40], kind: 0, row, standing: b"standing" }
+}
+
+/// Each number of a row at each value that tells whether a rule is broken, rows of 64 to 68 numbers, and every kind.
+fn lookups_by_row(group: &mut Group) {
+    let looker = &mut Looker::default();
+    let good: Vec<u32> = [10, 30].into_iter().chain((0..32).flat_map(|pair| if pair % 2 == 0 { [12, 20] } else { [UNSET; 2] })).collect();
+    for kind in (0..=6).chain([256, 65_536, 1 << 31, u32::MAX]) {
+        judge_lookup(group, looker, Lookup { kind, ..asked(b"n", &good) });
+    }
+    for at in 0..66 {
+        for value in [0, 9, 10, 11, 12, 13, 19, 20, 21, 29, 30, 31, 39, 40, 41, 65_535, 1 << 31, UNSET - 1, UNSET] {
+            let mut row = good.clone();
+            row[at] = value;
+            judge_lookup(group, looker, asked(b"n", &row));
+            // The same with the pair's other number: both of them moved, or both unset.
+            row[at ^ 1] = value;
+            judge_lookup(group, looker, asked(b"n", &row));
+        }
+    }
+    for numbers in [0, 1, 2, 3, 4, 64, 65, 66, 67, 68, 132] {
+        for more in [0, 15, UNSET] {
+            let mut row = good.clone();
+            row.resize(numbers, more);
+            judge_lookup(group, looker, asked(b"n", &row));
+        }
+    }
+    // On an empty line only empty spans fit, and only unset ones where there is no span.
+    for (row, line) in [(vec![0; 66], 0), (vec![0; 66], 1), (vec![UNSET; 66], 40), ([vec![0; 2], vec![UNSET; 64]].concat(), 0)] {
+        judge_lookup(group, looker, Lookup { line: &[b'x'; 40][..line], ..asked(b"n", &row) });
+        judge_lookup(group, looker, Lookup { line: &[b'x'; 40][..line], standing: b"", ..asked(b"n", &row) });
+    }
+}
+
+fn judge_lookup(group: &mut Group, looker: &mut Looker, lookup: Lookup) {
+    let faults = looker.compare(&lookup);
+    group.judge(&looker::shown(&lookup), &faults);
 }

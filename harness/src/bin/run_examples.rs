@@ -1,11 +1,14 @@
-//! Runs the examples of `data/`: Perl's documents, document 01 with its open points, and the guide. Both the library and the independent matcher have to
-//! give what was written down by hand.
+//! Runs the examples of `data/`: Perl's documents, documents 01 and 02 with their open points, and the guide. Both the library and the independent
+//! matcher have to give what was written down by hand.
 
 use std::path::Path;
 
 use harness::case::Case;
 use harness::examples::{self, Example};
+use harness::independent::lookup::field;
 use harness::lender::Lender;
+use harness::looker::{self, Looker};
+use harness::lookup_examples;
 use harness::raw::Call;
 use harness::report::Group;
 use harness::text;
@@ -16,7 +19,8 @@ fn main() -> std::process::ExitCode {
         ("checked readings, traps and open points", "checked-readings.txt"),
         ("examples of the guide", "guide-examples.txt"),
     ];
-    if files.map(|(name, file)| run(name, file)).iter().all(|passed| *passed) {
+    let lookups = run_lookups("lookups of fields", "lookups.txt");
+    if files.map(|(name, file)| run(name, file)).iter().all(|passed| *passed) && lookups {
         std::process::ExitCode::SUCCESS
     } else {
         std::process::ExitCode::FAILURE
@@ -26,9 +30,8 @@ fn main() -> std::process::ExitCode {
 /// Runs one file's examples; says whether all of them passed.
 fn run(name: &'static str, file: &str) -> bool {
     let mut group = Group::new(name);
-    let path = Path::new(env!("CARGO_MANIFEST_DIR")).join("data").join(file);
-    match std::fs::read_to_string(&path).map_err(|error| error.to_string()).and_then(|text| examples::read(&text)) {
-        Err(error) => group.fail(&format!("{}: {error}", path.display())),
+    match text_of(file).and_then(|text| examples::read(&text)) {
+        Err(error) => group.fail(&format!("{file}: {error}")),
         Ok(examples) => {
             let mut lender = Lender::default();
             for example in &examples {
@@ -40,6 +43,32 @@ fn run(name: &'static str, file: &str) -> bool {
     let passed = !group.has_failed();
     group.end("");
     passed
+}
+
+/// The same for the lookups.
+fn run_lookups(name: &'static str, file: &str) -> bool {
+    let mut group = Group::new(name);
+    match text_of(file).and_then(|text| lookup_examples::read(&text)) {
+        Err(error) => group.fail(&format!("{file}: {error}")),
+        Ok(examples) => {
+            let mut looker = Looker::default();
+            for example in &examples {
+                let (lookup, expected) = (example.lookup(), example.expected.expect("an example expects something"));
+                let mut faults = looker.compare(&lookup);
+                if field(&lookup) != expected {
+                    faults.push(format!("the independent matcher gives {:?}, expected {expected:?}", field(&lookup)));
+                }
+                group.judge(&format!("line {}: {}\n{}", example.line, example.from, looker::shown(&lookup)), &faults);
+            }
+        }
+    }
+    let passed = !group.has_failed();
+    group.end("");
+    passed
+}
+
+fn text_of(file: &str) -> Result<String, String> {
+    std::fs::read_to_string(Path::new(env!("CARGO_MANIFEST_DIR")).join("data").join(file)).map_err(|error| error.to_string())
 }
 
 fn judge(lender: &mut Lender, example: &Example) -> Vec<String> {

@@ -1,6 +1,6 @@
 //! All short rules against the independent matcher: every escape with every byte, every named set with every byte, with and without `i`, and every
-//! rule of up to four bytes over those that mean something, also over those that mean something under `x`. Where faults hide in the order of
-//! refusals, a short rule shows them.
+//! rule of up to four bytes over those that mean something, also over those that mean something under `x`; every beginning of a name with up to four
+//! bytes behind it, and up to four pieces with names in every order. Where faults hide in the order of refusals, a short rule shows them.
 
 use harness::case::Case;
 use harness::independent::{FLAG_I, FLAG_X};
@@ -12,6 +12,10 @@ const MEANT: &[u8] = b"\\()[]{}|*?^$-:,01ab.gcxd";
 /// What `x` skips is among them, and all beside which it must not stand.
 const MEANT_UNDER_X: &[u8] = b" #\n\\()[]{}|*?:1ac^";
 
+/// What may stand in a name, close it, or come behind it.
+const MEANT_IN_NAMES: &[u8] = b"a_1Z<>{}')\\ =";
+const PIECES: [&str; 14] = ["(?<a>", "(?<b>", "(?<", "\\k<a>", "\\g{b}", "\\k'", "\\1", "(", ")", ")", "|", "*", "[", "a>"];
+
 const NAMES: [&str; 16] =
     ["alpha", "upper", "lower", "alnum", "xdigit", "blank", "cntrl", "ascii", "print", "graph", "punct", "digit", "word", "space", "h", ""];
 
@@ -21,6 +25,11 @@ fn main() -> std::process::ExitCode {
     tester.named_sets();
     tester.rules(MEANT, 0, &mut Vec::new(), 4);
     tester.rules(MEANT_UNDER_X, FLAG_X, &mut Vec::new(), 4);
+    for opening in [&b"(?<"[..], b"\\k", b"\\k<", b"\\g{", b"(?<a>\\g{"] {
+        tester.rules(MEANT_IN_NAMES, 0, &mut opening.to_vec(), 4);
+        tester.rules(MEANT_IN_NAMES, FLAG_X, &mut opening.to_vec(), 2);
+    }
+    tester.pieces(&mut Vec::new(), 4);
     tester.group.end("")
 }
 
@@ -81,6 +90,17 @@ impl Tester {
                 rule.push(byte);
                 self.rules(meant, flag, rule, more - 1);
                 rule.pop();
+            }
+        }
+    }
+    /// Every rule that begins so and goes on with up to so many pieces, under `i`, `x` or neither.
+    fn pieces(&mut self, rule: &mut Vec<u8>, more: usize) {
+        self.judge(&Case::new(Call::Match, rule, [0, FLAG_I, FLAG_X][rule.len() % 3], b"aaa", 60, 1));
+        if more > 0 {
+            for piece in PIECES {
+                rule.extend(piece.bytes());
+                self.pieces(rule, more - 1);
+                rule.truncate(rule.len() - piece.len());
             }
         }
     }

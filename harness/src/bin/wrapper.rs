@@ -1,7 +1,8 @@
-//! The Rust interface: `Matcher` answers as the independent matcher does, on the example that it was made for and on random calls, made from
+//! The Rust interface: `Matcher` answers as the independent matcher does, on the examples that it was made for and on random calls, made from
 //! several threads at once.
 
 use harness::case::{shown, Case};
+use harness::independent::Answer;
 use harness::random::calls;
 use harness::raw::Call;
 use harness::report::Group;
@@ -15,6 +16,7 @@ fn main() -> std::process::ExitCode {
     let mut matcher = Matcher::new(BUDGET, ROWS);
     litres(&mut group, &mut matcher);
     flags(&mut group, &mut matcher);
+    fields(&mut group, &mut matcher);
     let greedy =
         matches!(Matcher::new(u32::MAX, 1).match_line(b"a", 0, b"a"), Outcome::Refused(Refusal { reason: Reason::BudgetTooGreat, place: 0 }));
     group.judge("a budget over its limit", &if greedy { Vec::new() } else { vec!["it is not refused".to_string()] });
@@ -36,7 +38,8 @@ fn random_calls(seed: u64) -> Vec<(String, Vec<String>)> {
         let random = calls::case(seed, number);
         let flags = random.flags & (FLAG_S | FLAG_M | FLAG_I | FLAG_X);
         let case = Case::new(random.call, &random.rule, flags, &random.subject, BUDGET, ROWS);
-        let (ours, expected) = (told(&mut matcher, &case), shown(&case.expected()));
+        // The words have no names: fields are looked up on the examples.
+        let (ours, expected) = (told(&mut matcher, &case), shown(&Answer { names: None, ..case.expected() }));
         judged.push((case.shown(), if ours == expected { Vec::new() } else { vec![format!("matcher: {ours}\nexpected: {expected}")] }));
     }
     judged
@@ -74,6 +77,34 @@ fn flags(group: &mut Group, matcher: &mut Matcher) {
     }
     let refused = matches!(matcher.match_line(b"a", 16, b"a"), Outcome::Refused(Refusal { reason: Reason::UnknownFlag, place: 0 }));
     group.judge("an unknown flag", &if refused { Vec::new() } else { vec!["it is not refused".to_string()] });
+}
+
+/// Fields by name: what a group took, also nothing, what stands for one that is not set, and nothing for an unknown one or a line that does not match.
+fn fields(group: &mut Group, matcher: &mut Matcher) {
+    let rule = br"^tank (?<tank>\w*):(?: (?<litres>\d+) L)?$";
+    for (line, name, expected) in [
+        (&b"tank A1: 820 L"[..], &b"litres"[..], &b"820"[..]),
+        (b"tank A1: 820 L", b"tank", b"A1"),
+        (b"tank A1:", b"litres", b"600"),
+        (b"tank : 1 L", b"tank", b""),
+        (b"tank A1: 820 L", b"Litres", b""),
+        (b"tank A1: 820 L", b"litre", b""),
+        (b"tank A1: 820 L", b"", b""),
+        (b"hall A1: 820 L", b"litres", b""),
+    ] {
+        let field = matcher.match_line(rule, 0, line).field(name, line, b"600");
+        let what = format!("field {} of {}", String::from_utf8_lossy(name), String::from_utf8_lossy(line));
+        group.judge(&what, &if field == expected { Vec::new() } else { vec![String::from_utf8_lossy(field).into_owned()] });
+    }
+    let refused = matcher.match_line(b"(?<a>a)(?<a>b)", 0, b"ab");
+    let is_right =
+        matches!(refused, Outcome::Refused(Refusal { reason: Reason::NameUsedTwice, place: 7 })) && refused.field(b"a", b"ab", b"-").is_empty();
+    group.judge("a name used twice", &if is_right { Vec::new() } else { vec![format!("{refused:?}")] });
+    let litres: Vec<Vec<u8>> = match matcher.list_readings(br"^(?:(?<thousands>\d{1,3},\d{3})|(?<decimal>\d+,\d+)) L$", 0, b"1,500 L") {
+        Listing::Complete { readings, .. } => readings.map(|reading| reading.field(b"decimal", b"1,500 L", b"none").to_vec()).collect(),
+        _ => Vec::new(),
+    };
+    group.judge("a field of each reading", &if litres == [&b"none"[..], b"1,500"] { Vec::new() } else { vec![format!("{litres:?}")] });
 }
 
 /// What the matcher says, in the words of `shown`.

@@ -1,9 +1,10 @@
-//! The two calls: refusals 1 to 7, the starts one after another, rows, and how a call ends.
+//! The two calls: refusals 1 to 8, the starts one after another, rows, the name index, and how a call ends.
 
 use std::collections::HashSet;
 
 use crate::raw::Call;
 
+use super::names::{self, Index, INDEX_LENGTH};
 use super::reader::{self, Refusal, ALL_FLAGS};
 use super::tree::Rule;
 use super::walk::{End, Event, Walk};
@@ -25,6 +26,8 @@ pub struct Inputs<'a> {
     pub rule_area: usize,
     pub work_area: usize,
     pub result_area: usize,
+    /// In bytes.
+    pub name_index: usize,
 }
 
 #[derive(Clone, Copy, PartialEq, Eq, Debug)]
@@ -43,26 +46,33 @@ pub struct Answer {
     pub ending: Ending,
     pub steps: u64,
     pub rows: Vec<Row>,
+    /// "Each call fills a lent name index", and "a refused call leaves the index unchanged".
+    pub names: Option<Box<Index>>,
 }
 
 impl Answer {
-    /// "After refusals 1 to 7 both areas are unchanged; after any other return their needed first part is zero".
+    /// "After refusals 1 to 7 both areas are unchanged; after any other return their needed first part is zero"; 02: "New refusal 8, after 7 and like it
+    /// in place and areas".
     pub fn clears_areas(&self) -> bool {
-        !matches!(self.ending, Ending::Refused(refusal) if refusal.number <= 7)
+        !matches!(self.ending, Ending::Refused(refusal) if refusal.number <= 8)
     }
 }
 
 /// The answer of one call.
 pub fn answer(call: Call, inputs: &Inputs) -> Answer {
-    let refused = |refusal| Answer { ending: Ending::Refused(refusal), steps: 0, rows: Vec::new() };
+    let refused = |refusal| Answer { ending: Ending::Refused(refusal), steps: 0, rows: Vec::new(), names: None };
     if let Some(number) = unacceptable(inputs) {
         return refused(Refusal { number, place: 0 });
     }
-    match (reader::read(inputs.rule, inputs.flags), call) {
-        (Err(refusal), _) => refused(refusal),
-        (Ok(rule), Call::Match) => first_reading(&rule, inputs),
-        (Ok(rule), Call::List) => all_readings(&rule, inputs),
-    }
+    let rule = match reader::read(inputs.rule, inputs.flags) {
+        Err(refusal) => return refused(refusal),
+        Ok(rule) => rule,
+    };
+    let (ending, steps, rows) = match call {
+        Call::Match => first_reading(&rule, inputs),
+        Call::List => all_readings(&rule, inputs),
+    };
+    Answer { ending, steps, rows, names: Some(Box::new(names::index(&rule))) }
 }
 
 /// The steps that a call takes at one start, where its budget allows for so many: those up to the first end in a match, and in a listing those
@@ -82,7 +92,7 @@ fn walked<'r>(call: Call, rule: &'r Rule, subject: &'r [u8], start: usize, budge
     walk
 }
 
-/// The first of refusals 1 to 7 that is due, "tested in this order".
+/// The first of refusals 1 to 8 that is due, "tested in this order".
 fn unacceptable(inputs: &Inputs) -> Option<u32> {
     let tests = [
         inputs.rule.len() > 1_000,
@@ -92,40 +102,40 @@ fn unacceptable(inputs: &Inputs) -> Option<u32> {
         inputs.rule_area < RULE_AREA,
         inputs.work_area < WORK_PER_STEP * inputs.budget as usize,
         inputs.result_area < ROW_LENGTH,
+        inputs.name_index < INDEX_LENGTH,
     ];
     (1..).zip(tests).find(|&(_, due)| due).map(|(number, _)| number)
 }
 
 /// "A match stops at the first end reached". The budget holds afresh at each start.
-fn first_reading(rule: &Rule, inputs: &Inputs) -> Answer {
+fn first_reading(rule: &Rule, inputs: &Inputs) -> (Ending, u64, Vec<Row>) {
     let mut steps = 0;
     for start in 0..=inputs.subject.len() {
         let mut walk = Walk::new(rule, inputs.subject, start, u64::from(inputs.budget));
         let event = walk.next_event();
         steps += walk.steps;
         match event {
-            Event::End(end) => return Answer { ending: Ending::Matched, steps, rows: vec![row(start, &end)] },
-            Event::Exhausted => return Answer { ending: Ending::Exhausted(start), steps, rows: Vec::new() },
+            Event::End(end) => return (Ending::Matched, steps, vec![row(start, &end)]),
+            Event::Exhausted => return (Ending::Exhausted(start), steps, Vec::new()),
             Event::Over => {}
         }
     }
-    Answer { ending: Ending::NotMatched, steps, rows: Vec::new() }
+    (Ending::NotMatched, steps, Vec::new())
 }
 
 /// "a listing goes on, and ends complete, full, or exhausted at a named start, which ends the whole call".
-fn all_readings(rule: &Rule, inputs: &Inputs) -> Answer {
+fn all_readings(rule: &Rule, inputs: &Inputs) -> (Ending, u64, Vec<Row>) {
     let room = inputs.result_area / ROW_LENGTH;
-    let mut answer = Answer { ending: Ending::Complete, steps: 0, rows: Vec::new() };
+    let (mut steps, mut rows) = (0, Vec::new());
     for start in 0..=inputs.subject.len() {
         let mut walk = Walk::new(rule, inputs.subject, start, u64::from(inputs.budget));
-        let cut = list_from(start, &mut walk, room, &mut answer.rows);
-        answer.steps += walk.steps;
+        let cut = list_from(start, &mut walk, room, &mut rows);
+        steps += walk.steps;
         if let Some(ending) = cut {
-            answer.ending = ending;
-            return answer;
+            return (ending, steps, rows);
         }
     }
-    answer
+    (Ending::Complete, steps, rows)
 }
 
 /// Adds a start's new readings to the rows, and says what cut the listing short, if anything did.

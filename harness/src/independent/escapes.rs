@@ -60,6 +60,7 @@ impl Reader<'_> {
                 Ok(Escape::Reference(self.digits(10, usize::MAX)))
             }
             b'g' => self.group_reference(place),
+            b'k' => self.name_reference(place),
             _ => Err(Refusal { number: NOT_HELD, place }),
         }
     }
@@ -133,8 +134,12 @@ impl Reader<'_> {
     }
 
     /// "`\gN`, `\g{N}`, `\g-N`, `\g{-N}`, N a whole run too, are references; -N counts back from the groups opened so far".
+    /// 02: "12 spares `\g{` before a letter or underscore", behind which a name is due.
     fn group_reference(&mut self, place: usize) -> Result<Escape, Refusal> {
         let braces = self.skip(b'{');
+        if braces && self.peek().is_some_and(|byte| byte.is_ascii_alphabetic() || byte == b'_') {
+            return self.named_up_to(b'}', place);
+        }
         let back = self.skip(b'-');
         let Some(number) = self.digits(10, usize::MAX) else { return Err(Refusal { number: BAD_NUMBER, place }) };
         if braces && !self.skip(b'}') {
@@ -143,7 +148,7 @@ impl Reader<'_> {
         if !back {
             return Ok(Escape::Reference(Some(number)));
         }
-        let opened = self.groups as u64;
+        let opened = self.names.len() as u64;
         let group = if number == 0 { None } else { (opened + 1).checked_sub(number) };
         Ok(Escape::Reference(group))
     }

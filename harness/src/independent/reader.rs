@@ -1,4 +1,4 @@
-//! The rule reader: from a rule's bytes to its tree, or to the refusal (10 to 24) that is met first from left to right.
+//! The rule reader: from a rule's bytes to its tree, or to the refusal (10 to 26) that is met first from left to right.
 
 use super::escapes::Escape;
 use super::sets::ByteSet;
@@ -31,13 +31,16 @@ const BRACKET_NOT_OPENED: u32 = 21;
 const OTHER_OPENING: u32 = 22;
 const TOO_MANY_GROUPS: u32 = 23;
 const TOO_DEEP: u32 = 24;
+const NAME_USED_TWICE: u32 = 26;
 
 /// Where the reading of a rule stands.
 pub struct Reader<'r> {
     pub bytes: &'r [u8],
     pub at: usize,
-    /// Capturing groups opened so far.
-    pub groups: usize,
+    /// The names of the capturing groups opened so far; an empty one for a group without a name.
+    pub names: Vec<Vec<u8>>,
+    /// The same of all groups of the rule, once it has been read before.
+    pub known: Vec<Vec<u8>>,
     flags: u32,
     /// Each reference's place and the group it names, if it can name one at all.
     references: Vec<(usize, Option<u64>)>,
@@ -56,18 +59,31 @@ enum Form {
     },
 }
 
-/// Reads a rule, or gives its first refusal.
+/// Reads a rule, or gives its first refusal. A name may stand behind a reference to it, so that the rule is read a second time with all its names
+/// known.
 pub fn read(rule: &[u8], flags: u32) -> Result<Rule, Refusal> {
-    let mut reader = Reader { bytes: rule, at: 0, groups: 0, flags, references: Vec::new() };
-    let whole = reader.alternation(0)?;
-    if reader.peek() == Some(b')') {
-        return Err(Refusal { number: BRACKET_NOT_OPENED, place: reader.at });
-    }
+    let mut first = Reader::new(rule, 0, flags);
+    first.whole()?;
+    let mut reader = Reader { known: first.names, ..Reader::new(rule, 0, flags) };
+    let whole = reader.whole()?;
     reader.references_are_met()?;
-    Ok(Rule { whole, groups: reader.groups, folds: flags & FLAG_I != 0 })
+    Ok(Rule { whole, groups: reader.names.len(), names: reader.names, folds: flags & FLAG_I != 0 })
 }
 
 impl<'r> Reader<'r> {
+    fn new(bytes: &'r [u8], at: usize, flags: u32) -> Reader<'r> {
+        Reader { bytes, at, names: Vec::new(), known: Vec::new(), flags, references: Vec::new() }
+    }
+
+    /// Reads the rule to its end, whatever groups its references name.
+    fn whole(&mut self) -> Result<Alternation, Refusal> {
+        let whole = self.alternation(0)?;
+        if self.peek() == Some(b')') {
+            return Err(Refusal { number: BRACKET_NOT_OPENED, place: self.at });
+        }
+        Ok(whole)
+    }
+
     pub fn peek(&self) -> Option<u8> {
         self.bytes.get(self.at).copied()
     }
@@ -126,7 +142,7 @@ impl<'r> Reader<'r> {
     /// "13 is tested after the whole rule is otherwise sound, lowest place first."
     fn references_are_met(&self) -> Result<(), Refusal> {
         for &(place, group) in &self.references {
-            if !group.is_some_and(|number| (1..=self.groups as u64).contains(&number)) {
+            if !group.is_some_and(|number| (1..=self.names.len() as u64).contains(&number)) {
                 return Err(Refusal { number: NO_SUCH_GROUP, place });
             }
         }
@@ -197,22 +213,28 @@ impl<'r> Reader<'r> {
         })
     }
 
-    /// Reads a group. All three faults of an opening have its place: "on one byte the lower number".
+    /// Reads a group. All five faults of an opening have its place: "on one byte the lower number".
     fn group(&mut self, depth: usize) -> Result<Part, Refusal> {
         let place = self.at;
         self.at += 1;
-        let capturing = !self.skip(b'?');
+        let marked = self.skip(b'?');
+        let named = marked && self.skip(b'<');
+        let capturing = named || !marked;
         if !capturing && !self.skip(b':') {
             return Err(Refusal { number: OTHER_OPENING, place });
         }
-        if capturing && self.groups == MOST_GROUPS {
+        if capturing && self.names.len() == MOST_GROUPS {
             return Err(Refusal { number: TOO_MANY_GROUPS, place });
         }
         if depth == MOST_DEPTH {
             return Err(Refusal { number: TOO_DEEP, place });
         }
-        self.groups += usize::from(capturing);
-        let number = capturing.then_some(self.groups);
+        let name = if named { self.name(b'>', place)? } else { Vec::new() };
+        if named && self.names.contains(&name) {
+            return Err(Refusal { number: NAME_USED_TWICE, place });
+        }
+        let number = capturing.then_some(self.names.len() + 1);
+        self.names.extend(capturing.then_some(name));
         let inside = self.alternation(depth + 1)?;
         if !self.skip(b')') {
             return Err(Refusal { number: BRACKET_NOT_CLOSED, place });
@@ -260,7 +282,7 @@ impl<'r> Reader<'r> {
 
     /// `{n}`, `{n,}` or `{n,m}`, if that is what stands here.
     fn braces_here(&self) -> Option<Form> {
-        let mut ahead = Reader { bytes: self.bytes, at: self.at + 1, groups: 0, flags: 0, references: Vec::new() };
+        let mut ahead = Reader::new(self.bytes, self.at + 1, 0);
         let least = ahead.digits(10, usize::MAX)?;
         let most = if ahead.skip(b',') { ahead.digits(10, usize::MAX) } else { Some(least) };
         ahead.skip(b'}').then_some(Form::Bounds { least, most, length: ahead.at - self.at })

@@ -6,6 +6,8 @@ use super::sets::ByteSet;
 pub struct Rule {
     pub whole: Alternation,
     pub groups: usize,
+    /// The name of each group; an empty one where it has none.
+    pub names: Vec<Vec<u8>>,
     /// Under `i` references take letters of the other case too; the sets of byte items are folded already.
     pub folds: bool,
 }

@@ -14,6 +14,9 @@ pub const NO_START_OPTIMIZE: u32 = 0x0001_0000;
 pub const NEWLINE_LF: u32 = 2;
 pub const NO_MATCH: c_int = -1;
 pub const CONFIG_VERSION: u32 = 11;
+pub const INFO_NAME_COUNT: u32 = 17;
+pub const INFO_NAME_ENTRY_SIZE: u32 = 18;
+pub const INFO_NAME_TABLE: u32 = 19;
 /// What stands in an offset of a group that is not set.
 pub const UNSET_OFFSET: usize = usize::MAX;
 
@@ -40,6 +43,7 @@ extern "C" {
     pub fn pcre2_compile_context_free_8(context: *mut c_void);
     pub fn pcre2_set_newline_8(context: *mut c_void, newline: u32) -> c_int;
     pub fn pcre2_compile_8(pattern: *const u8, length: usize, options: u32, error: *mut c_int, at: *mut usize, context: *mut c_void) -> *mut c_void;
+    pub fn pcre2_pattern_info_8(code: *const c_void, what: u32, place: *mut c_void) -> c_int;
     pub fn pcre2_code_free_8(code: *mut c_void);
     pub fn pcre2_match_context_create_8(general: *mut c_void) -> *mut c_void;
     pub fn pcre2_match_context_free_8(context: *mut c_void);

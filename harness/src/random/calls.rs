@@ -1,9 +1,9 @@
-//! Random calls: a rule of one of the kinds, a subject near it, flags, a budget and areas.
+//! Random calls: a rule of one of the kinds, a subject near it, flags, a budget, areas and a name index.
 
 use super::{damage, rules, subjects, Rng};
 use crate::case::Case;
 use crate::independent::tree::Rule;
-use crate::independent::{self, ROW_LENGTH, RULE_AREA, WORK_PER_STEP};
+use crate::independent::{self, INDEX_LENGTH, ROW_LENGTH, RULE_AREA, WORK_PER_STEP};
 use crate::raw::Call;
 
 /// The case of this seed and number.
@@ -11,13 +11,14 @@ pub fn case(seed: u64, number: u64) -> Case {
     let rng = &mut Rng::new(seed, number);
     let flags = if rng.percent(1) { *rng.pick(&[16, 17, 31, 32, 1 << 20, 0x8000_0000, u32::MAX]) } else { rng.below(16) as u32 };
     let style = rules::any_style(rng, flags);
-    let rule = match rng.weighted(&[56, 16, 12, 3, 6, 7]) {
+    let rule = match rng.weighted(&[52, 16, 12, 3, 6, 7, 4]) {
         0 => rules::rule(rng, style),
         1 => damage::damaged(rng, style),
         2 => damage::jumble(rng),
         3 => damage::noise(rng),
         4 => damage::at_limit(rng),
-        _ => damage::with_odd_blanks(rng, style),
+        5 => damage::with_odd_blanks(rng, style),
+        _ => damage::names(rng),
     };
     let tree = independent::read(&rule, flags).ok();
     let mut subject = subjects::subject(rng, tree.as_ref(), style.alphabet);
@@ -33,7 +34,8 @@ pub fn case(seed: u64, number: u64) -> Case {
         _ => budget(rng),
     };
     let (rule_area, work_area, result_area) = areas(rng, budget);
-    Case { call, rule, flags, subject, budget, rule_area, work_area, result_area }
+    let name_index = if rng.percent(2) { *rng.pick(&[0, 1, 16, 17, 543]) } else { length(rng, INDEX_LENGTH) };
+    Case { call, rule, flags, subject, budget, rule_area, work_area, result_area, name_index }
 }
 
 /// The steps up to a reference that the call tries, or to one of the bytes that it compares; none where no reference is tried. Many compare no

@@ -3,6 +3,7 @@
 pub mod calls;
 pub mod damage;
 pub mod fast;
+pub mod lookups;
 pub mod rules;
 pub mod shared;
 pub mod subjects;

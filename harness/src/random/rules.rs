@@ -1,5 +1,6 @@
 //! Random rules within the held syntax. Weights favour what goes wrong in matchers: nested repeats, empty rounds and branches, references
-//! to groups before and behind, classes with `-` and `]` at odd places; letters in both cases, and under `x` blanks and comments.
+//! to groups before and behind, by number and by name, classes with `-` and `]` at odd places; letters in both cases, and under `x` blanks and
+//! comments.
 
 use super::Rng;
 use crate::independent::FLAG_X;
@@ -26,6 +27,9 @@ pub const ALPHABETS: [&[u8]; 9] =
 const BLANKS: [&str; 16] =
     [" ", " ", "  ", "\t", "\n", "\x0B", "\x0C", "\r", " \r\n", "#\n", "# a \n", "#(\n", "#)*\n", "#\\\n", "#[\r|\n", "\t##\n "];
 
+/// Names for groups: some differ in their case alone, some begin another, one has the greatest length.
+pub const GROUP_NAMES: [&str; 12] = ["a", "A", "b", "_", "_1", "n1", "n12", "litres", "Litres", "litre", "tank_nr", "a23456789_bcdefZ"];
+
 /// The letters of the escapes for sets.
 pub const SETS: &[u8] = b"dDwWsShHvV";
 /// The names of sets.
@@ -45,16 +49,20 @@ pub fn plain_style(rng: &mut Rng, flags: u32) -> Style {
 
 /// A rule of this style. It is nearly always sound; a reference may have no group, and a class range may be bad.
 pub fn rule(rng: &mut Rng, style: Style) -> Vec<u8> {
-    let mut maker = Maker { rng, style, groups: 0, rule: Vec::new() };
+    let mut maker = Maker::new(rng, style);
     maker.alternation(style.depth);
     if maker.rule.is_empty() && maker.rng.percent(90) {
         maker.item(style.depth);
     }
+    maker.keep_promises();
     // Behind all groups a reference mostly finds its group set.
     if maker.groups > 0 && maker.rng.percent(25) {
         let group = maker.rng.between(1, maker.groups);
         maker.blank();
-        maker.write(&format!("\\g{{{group}}}"));
+        match maker.names.iter().find(|(number, _)| *number == group) {
+            Some(&(_, name)) => maker.reference_by(name),
+            None => maker.write(&format!("\\g{{{group}}}")),
+        }
     }
     // What a comment at the rule's end holds is not looked at, and it needs no 0A.
     if style.blanks && maker.rng.percent(15) {
@@ -66,7 +74,7 @@ pub fn rule(rng: &mut Rng, style: Style) -> Vec<u8> {
 
 /// A rule that is one class of this style.
 pub fn class(rng: &mut Rng, style: Style) -> Vec<u8> {
-    let mut maker = Maker { rng, style, groups: 0, rule: Vec::new() };
+    let mut maker = Maker::new(rng, style);
     maker.class();
     maker.rule
 }
@@ -75,10 +83,21 @@ struct Maker<'r> {
     rng: &'r mut Rng,
     style: Style,
     groups: usize,
+    /// The groups with names so far.
+    names: Vec<(usize, &'static str)>,
+    /// Names that were referred to and that no group has yet.
+    promised: Vec<&'static str>,
+    /// Do groups have names in this rule?
+    is_named: bool,
     rule: Vec<u8>,
 }
 
-impl Maker<'_> {
+impl<'r> Maker<'r> {
+    fn new(rng: &'r mut Rng, style: Style) -> Maker<'r> {
+        let is_named = rng.percent(35);
+        Maker { rng, style, groups: 0, names: Vec::new(), promised: Vec::new(), is_named, rule: Vec::new() }
+    }
+
     fn write(&mut self, text: &str) {
         self.rule.extend_from_slice(text.as_bytes());
     }
@@ -123,15 +142,45 @@ impl Maker<'_> {
                 return;
             }
             6 => self.reference(),
-            7 => {
-                self.groups += 1;
-                self.group("(", depth);
-            }
+            7 => self.capturing_group(depth),
             _ => self.group("(?:", depth),
         }
         if self.rng.percent(45) {
             self.blank();
             self.repeat();
+        }
+    }
+
+    fn capturing_group(&mut self, depth: usize) {
+        self.groups += 1;
+        if !self.is_named || self.rng.percent(30) {
+            return self.group("(", depth);
+        }
+        match self.promised.pop().or_else(|| self.new_name()) {
+            Some(name) => self.named_group(name, depth),
+            None => self.group("(", depth),
+        }
+    }
+
+    fn named_group(&mut self, name: &'static str, depth: usize) {
+        self.names.push((self.groups, name));
+        self.group(&format!("(?<{name}>"), depth);
+    }
+
+    /// A name that no group has; seldom, where a refusal does no harm, one that a group has.
+    fn new_name(&mut self) -> Option<&'static str> {
+        let name = *self.rng.pick(&GROUP_NAMES);
+        let is_used = self.promised.contains(&name) || self.names.iter().any(|&(_, used)| used == name);
+        (!is_used || (!self.style.plain && self.rng.percent(10))).then_some(name)
+    }
+
+    /// Groups for the names that were referred to and are still missing; seldom they stay so.
+    fn keep_promises(&mut self) {
+        while let Some(name) = self.promised.pop() {
+            if self.style.plain || self.rng.percent(90) {
+                self.groups += 1;
+                self.named_group(name, 1);
+            }
         }
     }
 
@@ -174,8 +223,27 @@ impl Maker<'_> {
         }
     }
 
+    /// A reference by name, in any of its four forms; seldom, where a refusal does no harm, with letters of the other case.
+    fn reference_by(&mut self, name: &str) {
+        let other = name.chars().map(|letter| if letter.is_lowercase() { letter.to_ascii_uppercase() } else { letter.to_ascii_lowercase() });
+        let name = if !self.style.plain && self.rng.percent(4) { other.collect() } else { name.to_string() };
+        let (opening, closing) = *self.rng.pick(&[("g{", "}"), ("k{", "}"), ("k<", ">"), ("k'", "'")]);
+        self.write(&format!("\\{opening}{name}{closing}"));
+    }
+
     /// A reference to a group before or behind, or, seldom, to none.
     fn reference(&mut self) {
+        if self.is_named && self.rng.percent(60) {
+            let known: Vec<&'static str> = self.names.iter().map(|&(_, name)| name).collect();
+            if !known.is_empty() && self.rng.percent(75) {
+                let name = *self.rng.pick(&known);
+                return self.reference_by(name);
+            }
+            if let Some(name) = self.new_name() {
+                self.promised.extend((!known.contains(&name)).then_some(name));
+                return self.reference_by(name);
+            }
+        }
         if self.groups == 0 && self.rng.percent(80) {
             return self.literal();
         }

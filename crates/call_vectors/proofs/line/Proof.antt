@@ -38,6 +38,9 @@ same-length-2 c = search needs
 same-length-3 : tie.Need-same-length-3
 same-length-3 c = search needs
 
+same-length-4 : tie.Need-same-length-4
+same-length-4 c = search needs
+
 returns : tie.Need-returns
 returns c = search needs
 
@@ -56,14 +59,17 @@ slice-aggregate-call-2 c = search needs
 call-requires-2 : tie.Need-call-requires-2
 call-requires-2 c κs = search needs
 
-same-length-4 : tie.Need-same-length-4
-same-length-4 c = search needs
-
 same-length-5 : tie.Need-same-length-5
 same-length-5 c = search needs
 
 same-length-6 : tie.Need-same-length-6
 same-length-6 c = search needs
+
+same-length-7 : tie.Need-same-length-7
+same-length-7 c = search needs
+
+same-length-8 : tie.Need-same-length-8
+same-length-8 c = search needs
 
 returns-2 : tie.Need-returns-2
 returns-2 c = search needs
@@ -83,13 +89,15 @@ line-spec =
     same-length
     same-length-2
     same-length-3
+    same-length-4
     returns
     slice-aggregate-decode
     decode-requires
     array-share-prefix-sub
     slice-aggregate-call-2
     call-requires-2
-    same-length-4
     same-length-5
     same-length-6
+    same-length-7
+    same-length-8
     returns-2)

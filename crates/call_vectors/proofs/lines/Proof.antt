@@ -5,14 +5,15 @@ use borrow.Author.Needs.{needs}
 use mathlib.Core.Path.{_≡_}
 use Prim.Native.Nat.{_-_}
 use lib.ListN.{length}
+use borrow.Author.Needs.{needs}
 use Rattle.call_vectors.proofs.lines.Statement.{statement}
 use Rattle.call_vectors.proofs.lines.Tie as tie
 
 abbrev Inv-loop : tie.InvT-loop
-Inv-loop input area₀ work₀ results₀ at₀ area work results at = (length area ≡ length area₀) × (length work ≡ length work₀) × (length results ≡ length results₀)
+Inv-loop input area₀ work₀ results₀ names₀ at₀ area work results names at = (length area ≡ length area₀) × (length work ≡ length work₀) × (length results ≡ length results₀) × (length names ≡ length names₀)
 
 abbrev μ-loop : tie.MeasureT-loop
-μ-loop input area₀ work₀ results₀ at₀ area work results at = length input - at
+μ-loop input area₀ work₀ results₀ names₀ at₀ area work results names at = length input - at
 
 loop-holds : tie.Need-loop-holds Inv-loop μ-loop
 loop-holds c = search needs
@@ -21,13 +22,13 @@ line-end-requires : tie.Need-line-end-requires Inv-loop μ-loop
 line-end-requires c κs = search needs
 
 line-requires : tie.Need-line-requires Inv-loop μ-loop
-line-requires c κs = (line-least _ _ _ (c .before .before .before .line-end .ensures), line-within _ _ _ (c .before .before .before .line-end .ensures) (omega arith))
+line-requires c κs = (line-least _ _ _ (c .before .before .before .before .line-end .ensures), line-within _ _ _ (c .before .before .before .before .line-end .ensures) (omega arith))
 
 add-at : tie.Need-add-at Inv-loop μ-loop
-add-at c = omega (arith, line-within _ _ _ (c .before .before .before .before .before .before .before .before .before .before .line-end .ensures) (omega arith))
+add-at c = omega (arith, line-within _ _ _ (c .before .before .before .before .before .before .before .before .before .before .before .before .before .line-end .ensures) (omega arith))
 
 loop-less : tie.Need-loop-less Inv-loop μ-loop
-loop-less c = omega (arith, line-least _ _ _ (c .before .before .before .before .before .before .before .before .before .before .line-end .ensures))
+loop-less c = omega (arith, line-least _ _ _ (c .before .before .before .before .before .before .before .before .before .before .before .before .before .line-end .ensures))
 
 loop-again : tie.Need-loop-again Inv-loop μ-loop
 loop-again c = search needs
@@ -40,6 +41,9 @@ same-length-2 c = search needs
 
 same-length-3 : tie.Need-same-length-3 Inv-loop μ-loop
 same-length-3 c = search needs
+
+same-length-4 : tie.Need-same-length-4 Inv-loop μ-loop
+same-length-4 c = search needs
 
 returns : tie.Need-returns Inv-loop μ-loop
 returns c = search needs
@@ -59,4 +63,5 @@ lines-spec =
     same-length
     same-length-2
     same-length-3
+    same-length-4
     returns)

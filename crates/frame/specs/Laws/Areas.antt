@@ -1,11 +1,11 @@
 -- Areas of which the first numbers are written, as a call leaves them.
 use mathlib.Core.Path.{_≡_, refl, sym, _∙_, ap}
-use mathlib.Core.List.{List, [], _++_, append-assoc}
+use mathlib.Core.List.{List, [], _++_}
 use Prim.Native.Nat.{ℕ, _+_, _≤_}
 use native.Mathlib.Omega.{arith}
 use lib.ListN.{length, take, drop, replicate, length-append, length-drop, length-replicate}
-use lib.Seq.{take-append-seam, drop-append-add, drop-drop}
 use Rattle.semantics.specs.Calls.{over, cleared}
+use Rattle.semantics.specs.Laws.Areas.{over-more}
 
 pub cleared-is : (n : ℕ) (area : List ℕ) → cleared n area ≡ replicate n 0 ++ drop n area
 unfolding cleared over
@@ -22,15 +22,6 @@ over-none area = refl
 pub over-length : (xs area : List ℕ) → length xs ≤ length area → length (over xs area) ≡ length area
 unfolding over
 over-length xs area h = simp (length-append, length-drop) (omega arith)
-
--- numbers written behind those that were written before
-pub over-more : (xs ys area : List ℕ) (base n : ℕ) → length xs ≡ base → length ys ≡ n
-    → take base (over xs area) ++ (ys ++ drop (base + n) (over xs area)) ≡ over (xs ++ ys) area
-unfolding over
-over-more xs ys area base n hb hn =
-    let d : List ℕ = drop (length xs) area in
-    rw (← hb, ← hn, take-append-seam xs d, drop-append-add xs d (length ys), drop-drop (length ys) (length xs) area, length-append xs ys)
-    (sym (append-assoc xs ys (drop (length xs + length ys) area)))
 
 -- numbers written where none were written before
 pub over-first : (ys area : List ℕ) (n : ℕ) → length ys ≡ n → take 0 area ++ (ys ++ drop (0 + n) area) ≡ over ys area

@@ -13,16 +13,16 @@ use Rattle.syntax.specs.Limits.{rowLength}
 use Rattle.syntax.specs.Read.{sound, refused}
 use Rattle.syntax.specs.Tree.{Rule}
 use Rattle.syntax.specs.Reading.{reading}
-use Rattle.semantics.specs.Calls.{Call, Return, unacceptable, untouched, leaving, withReading, unlessRefused, call}
+use Rattle.semantics.specs.Calls.{Call, Return, unacceptable, untouched, declined, withReading, unlessRefused, call}
 use Rattle.frame.specs.declared.refusals.Fitness.{Fitness}
 use Rattle.frame.specs.declared.refusals.Fitness.the-variants.{Fits, Unfit}
 use Rattle.frame.specs.Fitness.{fitnessOf, Sized}
 use Rattle.frame.specs.Inputs.{callOf}
 
 -- the sizes of a call are those of the code's arguments
-pub sized : (rule : List ℕ) (flags : ℕ) (subject : List ℕ) (budget : ℕ) (ruleArea workArea resultArea : List ℕ) {long : ℕ} {short : Bool} → length subject ≡ long → ltb (length resultArea) rowLength ≡ short
-    → Sized (callOf rule flags subject budget ruleArea workArea resultArea) (length rule) flags long budget (length ruleArea) (length workArea) short
-sized rule flags subject budget ruleArea workArea resultArea l s = record { rule-is = refl; flags-is = refl; subject-is = l; budget-is = refl; rule-area-is = refl; work-area-is = refl; short-is = s }
+pub sized : (rule : List ℕ) (flags : ℕ) (subject : List ℕ) (budget : ℕ) (ruleArea workArea resultArea names : List ℕ) {long : ℕ} {short : Bool} → length subject ≡ long → ltb (length resultArea) rowLength ≡ short
+    → Sized (callOf rule flags subject budget ruleArea workArea resultArea names) (length rule) flags long budget (length ruleArea) (length workArea) short (length names)
+sized rule flags subject budget ruleArea workArea resultArea names l s = record { rule-is = refl; flags-is = refl; subject-is = l; budget-is = refl; rule-area-is = refl; work-area-is = refl; short-is = s; names-is = refl }
 
 -- there is a result area that is short, and one that is not
 pub some-results : (short : Bool) → (results : List ℕ) × (ltb (length results) rowLength ≡ short)
@@ -50,7 +50,7 @@ module _ {A : Type 0} (refusal : ℕ → Reason → A) (answered : Call → Rule
 
   -- a rule that is refused, and one that is sound
   pub refused-rule : (place : ℕ) (why : Reason) → reading (c .rule) (c .flags) ≡ refused place why
-      → leaving (refusal place why) [] c ≡ withReading refusal answered c (reading (c .rule) (c .flags))
+      → declined (refusal place why) c ≡ withReading refusal answered c (reading (c .rule) (c .flags))
   unfolding withReading
   refused-rule place why e = rw e
 

@@ -1,19 +1,22 @@
 -- What compiling a rule tells whoever goes on to walk it.
 use mathlib.Core.Path.{_≡_, _∙_, subst}
 use mathlib.Core.List.{List}
-use Prim.Native.Nat.{ℕ, _≤_, _<_}
+use Prim.Native.Nat.{ℕ, _*_, _≤_, _<_}
 use native.Mathlib.Omega.{arith}
-use lib.ListN.{length, take, getD}
+use lib.ListN.{length, take, drop, getD, length-take, length-drop}
 use lib.Seq.{getD-take, length-take-le}
 use Rattle.syntax.specs.declared.Refusal.{Refusal}
-use Rattle.syntax.specs.Limits.{ruleAreaNeed, spansLength}
+use Rattle.syntax.specs.Limits.{ruleAreaNeed, groupLimit, spansLength}
 use Rattle.syntax.specs.Read.{sound, refused}
 use Rattle.syntax.specs.Tree.{Rule}
-use Rattle.syntax.specs.Reading.{reading}
+use Rattle.syntax.specs.Reading.{namesOf, reading}
+use Rattle.syntax.specs.Laws.Names.{namesOf-few}
 use Rattle.reader.specs.declared.compiling.Compilation.{Compilation}
 use Rattle.reader.specs.declared.compiling.Compilation.the-variants.{Sound, Refused}
 use Rattle.reader.specs.Compiles.{Says, Compiles, Stands as Compiled}
+use Rattle.linker.specs.Table.{namesIn, NamesFit, spelled-same, names-fit, names-are}
 use Rattle.linker.proofs.Compiled.{keep}
+use Rattle.reader.specs.Areas.{tableStart}
 use Rattle.machine.specs.Theorem.{Stands}
 
 module _ {s : List ℕ} {flags : ℕ} {old new : List ℕ} {r : Compilation} (h : Compiles s flags old new r) where
@@ -40,3 +43,16 @@ module _ {s : List ℕ} {flags : ℕ} {old new : List ℕ} {r : Compilation} (h 
           compiled = keep new (take ruleAreaNeed new) 1 ruleAreaNeed 1 ruleAreaNeed (omega arith) (omega arith) (λ i a b. front i b) (z .tree) pc 0 spansLength (z .compiled);
         },
       )
+
+  -- the names of its groups, in the table that stands in the needed part of the area
+  pub compile-named : (pc groups : ℕ) → r ≡ Sound pc groups → ruleAreaNeed ≤ length new → NamesFit s (take spansLength (drop tableStart new)) groups × (namesIn s (take spansLength (drop tableStart new)) groups ≡ namesOf s flags)
+  unfolding tableStart ruleAreaNeed spansLength groupLimit
+  compile-named pc groups e l =
+      let z : Compiled s flags new pc groups = subst (λ (x : Compilation). Says s flags new x) e (h .says) in
+      let few = namesOf-few s flags in
+      let rest = drop tableStart new in
+      let table = take spansLength rest in
+      let same : (i : ℕ) → i < 2 * length (namesOf s flags) → getD table i 0 ≡ getD rest i 0 = λ i u. getD-take spansLength rest i 0 (omega arith) in
+      let spelled = spelled-same s (namesOf s flags) rest table same (z .named) in
+      let long : 2 * groups ≤ length table = omega (arith, z .many, length-take spansLength rest, length-drop tableStart new) in
+      (names-fit s (namesOf s flags) table groups (z .many) spelled long, names-are s (namesOf s flags) table groups (z .many) spelled)

@@ -9,24 +9,26 @@ use Rattle.syntax.specs.declared.Reason.{Reason}
 use Rattle.syntax.specs.declared.Refusal.{Refusal}
 use Rattle.syntax.specs.Limits.{ruleAreaNeed, rowLength}
 use Rattle.syntax.specs.Tree.{Rule}
-use Rattle.semantics.specs.Calls.{Call, Return, workAreaNeed, cleared, untouched, leaving, call}
+use Rattle.syntax.specs.Reading.{namesOf}
+use Rattle.semantics.specs.Calls.{Call, Return, workAreaNeed, over, cleared, untouched, declined, call}
+use Rattle.semantics.specs.NameIndex.{nameIndex}
 use Rattle.frame.specs.declared.preparing.Preparation.{Preparation}
 use Rattle.frame.specs.declared.preparing.Preparation.the-variants.{Ready, Refused}
 use Rattle.frame.specs.Inputs.{Returned, Told, Held}
 use Rattle.frame.specs.Preparing.{Denied, unread, unsound, Readied, Prepares}
-use Rattle.frame.specs.Laws.Areas.{over-none, cleared-alike}
+use Rattle.frame.specs.Laws.Areas.{cleared-alike}
 use Rattle.frame.specs.Laws.Refusals.{Acceptable, accepted}
 use Rattle.frame.specs.Laws.Calls.{refused-call, accepted-call, refused-rule, sound-rule}
 
 -- what preparing says, once its answer is known
-module _ {c : Call} {r : Preparation} {ruleArea workArea : List ℕ} (h : Prepares c r ruleArea workArea) where
-  pub is-ready : (entry groups : ℕ) → r ≡ Ready entry groups → Readied c entry groups ruleArea workArea
-  is-ready entry groups e = subst (λ (x : Preparation). Prepares c x ruleArea workArea) e h
+module _ {c : Call} {r : Preparation} {ruleArea workArea names : List ℕ} (h : Prepares c r ruleArea workArea names) where
+  pub is-ready : (entry groups : ℕ) → r ≡ Ready entry groups → Readied c entry groups ruleArea workArea names
+  is-ready entry groups e = subst (λ (x : Preparation). Prepares c x ruleArea workArea names) e h
 
-  pub is-denied : (f : Refusal) → r ≡ Refused f → Denied c f ruleArea workArea
-  is-denied f e = subst (λ (x : Preparation). Prepares c x ruleArea workArea) e h
+  pub is-denied : (f : Refusal) → r ≡ Refused f → Denied c f ruleArea workArea names
+  is-denied f e = subst (λ (x : Preparation). Prepares c x ruleArea workArea names) e h
 
-module _ {c : Call} {entry groups : ℕ} {ruleArea workArea : List ℕ} (h : Readied c entry groups ruleArea workArea) where
+module _ {c : Call} {entry groups : ℕ} {ruleArea workArea names : List ℕ} (h : Readied c entry groups ruleArea workArea names) where
   fit : Acceptable c
   fit = accepted c (h .accepted)
 
@@ -52,28 +54,30 @@ module _ {c : Call} {entry groups : ℕ} {ruleArea workArea : List ℕ} (h : Rea
 
 module _ {A : Type 0} (refusal : ℕ → Reason → A) (answered : Call → Rule → Return A) {c : Call} where
   -- a refused call
-  pub denied-returns : {f : Refusal} {ruleArea workArea : List ℕ} → Denied c f ruleArea workArea → Returned (call refusal answered c) (refusal (f .place) (f .reason)) ruleArea workArea (c .resultArea)
-  unfolding untouched leaving
-  denied-returns {f} {ruleArea} {workArea} (unread p e r w) =
+  pub denied-returns : {f : Refusal} {ruleArea workArea names : List ℕ} → Denied c f ruleArea workArea names → Returned (call refusal answered c) (refusal (f .place) (f .reason)) ruleArea workArea (c .resultArea) names
+  unfolding untouched declined
+  denied-returns {f} {ruleArea} {workArea} {names} (unread p e r w n) =
       rw p
-      (subst (λ (x : Return A). Returned x (refusal 0 (f .reason)) ruleArea workArea (c .resultArea)) (refused-call refusal answered c (f .reason) e)
-      (record { outcome-is = refl; rule-area-is = r; work-area-is = w; result-area-is = refl }))
-  denied-returns {f} {ruleArea} {workArea} (unsound a e r w) =
-      subst (λ (x : Return A). Returned x (refusal (f .place) (f .reason)) ruleArea workArea (c .resultArea)) (refused-rule refusal answered c (f .place) (f .reason) e ∙ accepted-call refusal answered c a)
-      (record { outcome-is = refl; rule-area-is = r; work-area-is = w; result-area-is = sym (over-none (c .resultArea)) })
+      (subst (λ (x : Return A). Returned x (refusal 0 (f .reason)) ruleArea workArea (c .resultArea) names) (refused-call refusal answered c (f .reason) e)
+      (record { outcome-is = refl; rule-area-is = r; work-area-is = w; result-area-is = refl; names-is = n }))
+  denied-returns {f} {ruleArea} {workArea} {names} (unsound a e r w n) =
+      subst (λ (x : Return A). Returned x (refusal (f .place) (f .reason)) ruleArea workArea (c .resultArea) names) (refused-rule refusal answered c (f .place) (f .reason) e ∙ accepted-call refusal answered c a)
+      (record { outcome-is = refl; rule-area-is = r; work-area-is = w; result-area-is = refl; names-is = n })
 
-  -- a call that is answered, where every answer leaves the areas cleared. Its inside wrote `worked` into the work area, and no more than it needs.
-  pub readied-returns : ((x : Rule) → (answered c x .ruleArea ≡ cleared ruleAreaNeed (c .ruleArea)) × (answered c x .workArea ≡ cleared (workAreaNeed (c .budget)) (c .workArea)))
-      → {entry groups : ℕ} {ruled workArea : List ℕ} (h : Readied c entry groups ruled workArea) (worked : List ℕ) → drop (workAreaNeed (c .budget)) worked ≡ drop (workAreaNeed (c .budget)) workArea
+  -- a call that is answered, where every answer leaves the areas cleared and the index filled. Its inside wrote `worked` into the work area, and no
+  -- more than it needs.
+  pub readied-returns : ((x : Rule) → (answered c x .ruleArea ≡ cleared ruleAreaNeed (c .ruleArea)) × (answered c x .workArea ≡ cleared (workAreaNeed (c .budget)) (c .workArea)) × (answered c x .names ≡ over (nameIndex (namesOf (c .rule) (c .flags))) (c .names)))
+      → {entry groups : ℕ} {ruled workArea names : List ℕ} (h : Readied c entry groups ruled workArea names) (worked : List ℕ) → drop (workAreaNeed (c .budget)) worked ≡ drop (workAreaNeed (c .budget)) workArea
       → {told : A} {ruleArea′ workArea′ resultArea : List ℕ} → Told (answered c (h .tree)) told resultArea
       → ruleArea′ ≡ cleared ruleAreaNeed ruled → workArea′ ≡ cleared (workAreaNeed (c .budget)) worked
-      → Returned (call refusal answered c) told ruleArea′ workArea′ resultArea
-  readied-returns clears {entry} {groups} {ruled} {workArea} h worked kept {told} {ruleArea′} {workArea′} {resultArea} t r w =
+      → Returned (call refusal answered c) told ruleArea′ workArea′ resultArea names
+  readied-returns clears {entry} {groups} {ruled} {workArea} {names} h worked kept {told} {ruleArea′} {workArea′} {resultArea} t r w =
       let z = clears (h .tree) in
-      subst (λ (x : Return A). Returned x told ruleArea′ workArea′ resultArea) (sound-rule refusal answered c (h .tree) groups (h .stop) (h .reads) ∙ accepted-call refusal answered c (h .accepted))
+      subst (λ (x : Return A). Returned x told ruleArea′ workArea′ resultArea names) (sound-rule refusal answered c (h .tree) groups (h .stop) (h .reads) ∙ accepted-call refusal answered c (h .accepted))
       (record {
         outcome-is = t .outcome-is;
         rule-area-is = r ∙ cleared-alike ruleAreaNeed _ _ (h .rest) ∙ sym (z .0);
         work-area-is = w ∙ cleared-alike (workAreaNeed (c .budget)) _ _ (kept ∙ rw (h .untouched)) ∙ sym (z .1);
         result-area-is = t .result-area-is;
+        names-is = h .filled ∙ sym (z .2);
       })

@@ -9,8 +9,8 @@ use borrow.Author.Tests.{lt-ltb, le-ltb, le-leb, lt-leb}
 use lib.Dec.{ltb, leb}
 use lib.ListN.{length}
 use Rattle.syntax.specs.declared.Reason.{Reason}
-use Rattle.syntax.specs.declared.Reason.the-variants.{RuleTooLong, SubjectTooLong, UnknownFlag, BudgetTooLarge, RuleAreaShort, WorkAreaShort, ResultAreaShort}
-use Rattle.syntax.specs.Limits.{ruleLimit, subjectLimit, budgetLimit, ruleAreaNeed, flagBits, rowLength}
+use Rattle.syntax.specs.declared.Reason.the-variants.{RuleTooLong, SubjectTooLong, UnknownFlag, BudgetTooLarge, RuleAreaShort, WorkAreaShort, ResultAreaShort, NameIndexShort}
+use Rattle.syntax.specs.Limits.{ruleLimit, subjectLimit, budgetLimit, ruleAreaNeed, flagBits, rowLength, nameIndexNeed}
 use Rattle.semantics.specs.Calls.{Call, workAreaNeed, unacceptable}
 
 module _ (d : Call) where
@@ -66,9 +66,14 @@ module _ (d : Call) where
               unfolding unacceptable
               results-short t₇ = rw (t₁, t₂, t₃, t₄, t₅, t₆, t₇)
 
-              pub acceptable : ltb (length (d .resultArea)) rowLength ≡ false → none ≡ unacceptable d
-              unfolding unacceptable
-              acceptable t₇ = rw (t₁, t₂, t₃, t₄, t₅, t₆, t₇)
+              module _ (t₇ : ltb (length (d .resultArea)) rowLength ≡ false) where
+                pub names-short : length (d .names) < nameIndexNeed → some NameIndexShort ≡ unacceptable d
+                unfolding unacceptable
+                names-short h = rw (t₁, t₂, t₃, t₄, t₅, t₆, t₇, lt-ltb (length (d .names)) nameIndexNeed h)
+
+                pub acceptable : nameIndexNeed ≤ length (d .names) → none ≡ unacceptable d
+                unfolding unacceptable
+                acceptable p₈ = rw (t₁, t₂, t₃, t₄, t₅, t₆, t₇, le-ltb (length (d .names)) nameIndexNeed p₈)
 
 -- what is known of a call that meets no refusal
 pub record Acceptable (d : Call) : Type 0 where
@@ -79,6 +84,7 @@ pub record Acceptable (d : Call) : Type 0 where
   pub rule-area-fits : ruleAreaNeed ≤ length (d .ruleArea)
   pub work-area-fits : workAreaNeed (d .budget) ≤ length (d .workArea)
   pub results-fit : rowLength ≤ length (d .resultArea)
+  pub names-fit : nameIndexNeed ≤ length (d .names)
 
 not-lt : {m n : ℕ} → (m < n → ⊥) → n ≤ m
 not-lt h = le-of-suc-le-suc (lt-of-not-le h)
@@ -92,7 +98,8 @@ accepted d e =
     let p₅ : ruleAreaNeed ≤ length (d .ruleArea) = not-lt (λ h. differ (rule-area-short d p₁ p₂ p₃ p₄ h)) in
     let p₆ : workAreaNeed (d .budget) ≤ length (d .workArea) = not-lt (λ h. differ (work-area-short d p₁ p₂ p₃ p₄ p₅ h)) in
     let p₇ : rowLength ≤ length (d .resultArea) = not-lt (λ h. differ (results-short d p₁ p₂ p₃ p₄ p₅ p₆ (lt-ltb (length (d .resultArea)) rowLength h))) in
-    record { rule-fits = p₁; subject-fits = p₂; flags-fit = p₃; budget-fits = p₄; rule-area-fits = p₅; work-area-fits = p₆; results-fit = p₇ }
+    let p₈ : nameIndexNeed ≤ length (d .names) = not-lt (λ h. differ (names-short d p₁ p₂ p₃ p₄ p₅ p₆ (le-ltb (length (d .resultArea)) rowLength p₇) h)) in
+    record { rule-fits = p₁; subject-fits = p₂; flags-fit = p₃; budget-fits = p₄; rule-area-fits = p₅; work-area-fits = p₆; results-fit = p₇; names-fit = p₈ }
   where
     differ : {why : Reason} → some why ≡ unacceptable d → ⊥
     differ h = let z : _≡_ {A = ℕ} 0 1 = cc in omega arith

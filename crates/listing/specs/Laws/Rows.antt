@@ -10,7 +10,7 @@ use Rattle.syntax.specs.Limits.{rowLength}
 use Rattle.semantics.specs.States.{Row}
 use Rattle.semantics.specs.Calls.{over, joined}
 use Rattle.index.specs.Rows.{rowsAt, Whole}
-use Rattle.frame.specs.Laws.Areas.{over-more}
+use Rattle.semantics.specs.Laws.Areas.{over-more}
 
 pub joined-append : (rows more : List Row) → joined (rows ++ more) ≡ joined rows ++ joined more
 unfolding joined

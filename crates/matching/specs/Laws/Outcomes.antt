@@ -4,22 +4,24 @@ use mathlib.Core.List.{List}
 use Prim.Native.Nat.{ℕ}
 use Rattle.syntax.specs.Limits.{ruleAreaNeed}
 use Rattle.syntax.specs.Tree.{Rule}
+use Rattle.syntax.specs.Reading.{namesOf}
+use Rattle.semantics.specs.NameIndex.{nameIndex}
 use Rattle.semantics.specs.Answers.{Outcome, matched, notMatched, exhausted, Answer, answer}
-use Rattle.semantics.specs.Calls.{Call, workAreaNeed, cleared, leaving, matchReturns, matchRule}
+use Rattle.semantics.specs.Calls.{Call, workAreaNeed, over, cleared, leaving, matchReturns, matchRule}
 use Rattle.matching.specs.declared.Outcome.{Outcome as Answered}
 use Rattle.matching.specs.declared.Outcome.the-variants.{Matched, NotMatched, Exhausted, Refused}
 use Rattle.frame.specs.Inputs.{Told}
 use Rattle.matching.specs.Outcomes.{outcomeOf, Reports}
 use Rattle.frame.specs.Laws.Areas.{over-none}
 
-returns-clear : (c : Call) (o : Outcome) (steps : ℕ) → (matchReturns c o steps .ruleArea ≡ cleared ruleAreaNeed (c .ruleArea)) × (matchReturns c o steps .workArea ≡ cleared (workAreaNeed (c .budget)) (c .workArea))
+returns-clear : (c : Call) (o : Outcome) (steps : ℕ) → (matchReturns c o steps .ruleArea ≡ cleared ruleAreaNeed (c .ruleArea)) × (matchReturns c o steps .workArea ≡ cleared (workAreaNeed (c .budget)) (c .workArea)) × (matchReturns c o steps .names ≡ over (nameIndex (namesOf (c .rule) (c .flags))) (c .names))
 unfolding matchReturns leaving
-returns-clear c (matched start t) steps = (refl, refl)
-returns-clear c notMatched steps = (refl, refl)
-returns-clear c (exhausted start) steps = (refl, refl)
+returns-clear c (matched start t) steps = (refl, refl, refl)
+returns-clear c notMatched steps = (refl, refl, refl)
+returns-clear c (exhausted start) steps = (refl, refl, refl)
 
--- after every answer the areas are clear
-pub match-clears : (c : Call) (x : Rule) → (matchRule c x .ruleArea ≡ cleared ruleAreaNeed (c .ruleArea)) × (matchRule c x .workArea ≡ cleared (workAreaNeed (c .budget)) (c .workArea))
+-- after every answer the areas are clear, and the index is filled
+pub match-clears : (c : Call) (x : Rule) → (matchRule c x .ruleArea ≡ cleared ruleAreaNeed (c .ruleArea)) × (matchRule c x .workArea ≡ cleared (workAreaNeed (c .budget)) (c .workArea)) × (matchRule c x .names ≡ over (nameIndex (namesOf (c .rule) (c .flags))) (c .names))
 unfolding matchRule
 match-clears c x = let a = answer (c .subject) x (c .budget) in returns-clear c (a .outcome) (a .steps)
 

@@ -11,6 +11,9 @@ use borrow.Author.Needs.{needs}
 use Rattle.readings.proofs.run.Statement.{statement}
 use Rattle.readings.proofs.run.Tie as tie
 
+slice-aggregate-prepare : tie.Need-slice-aggregate-prepare
+slice-aggregate-prepare c = search needs
+
 prepare-requires : tie.Need-prepare-requires
 prepare-requires c κs = search needs
 
@@ -30,7 +33,7 @@ report-lines-requires : tie.Need-report-lines-requires
 unfolding ruleAreaNeed
 report-lines-requires c κs =
     let results = some-results false in
-    readied-holds (is-ready (c .before .before .before .before .before .before .before .before .before .prepare .ensures [] (results .0) refl (results .1)) _ _ (c .before .before .before .before .before .before .before .entry .given .1)) (omega arith)
+    readied-holds (is-ready (c .before .before .before .before .before .before .before .before .before .before .prepare .ensures [] (results .0) refl (results .1)) _ _ (c .before .before .before .before .before .before .before .entry .given .1)) (omega arith)
 
 returns : tie.Need-returns
 returns c = search needs
@@ -45,6 +48,7 @@ pub run-spec : {M : Type 1} → statement M
 run-spec =
     tie.close
     (tie.spec
+    slice-aggregate-prepare
     prepare-requires
     enum-known-f
     say-refusal-requires

@@ -1,13 +1,15 @@
--- Areas: numbers written over their first ones, and how many rows they hold.
+-- Areas: numbers written over their first ones, how long the name index is, and how many rows an area holds.
 use mathlib.Core.Path.{_≡_, refl, sym, _∙_}
-use mathlib.Core.List.{List, [], _∷_, append-assoc}
+use mathlib.Core.List.{List, [], _∷_, _++_, append-assoc}
 use mathlib.Core.Logic.{inl, inr}
-use Prim.Native.Nat.{ℕ, _*_, _≤_, _<_}
+use Prim.Native.Nat.{ℕ, zero, suc, _+_, _*_, _≤_, _<_}
 use native.Mathlib.Omega.{arith}
-use native.Mathlib.Nat.{le-div-iff-mul-le}
-use lib.ListN.{length, take, drop, replicate, take-append-drop, length-append, length-replicate}
-use lib.Seq.{take-append-seam, drop-append-seam, take-at}
-use Rattle.syntax.specs.Limits.{groupLimit, spansLength, rowLength}
+use native.Mathlib.Nat.{le-div-iff-mul-le, zero-mul, suc-mul}
+use lib.ListN.{length, take, drop, replicate, take-append-drop, length-take, length-append, length-replicate}
+use lib.Seq.{take-append-seam, drop-append-seam, drop-append-add, drop-drop, take-at}
+use Rattle.syntax.specs.Limits.{groupLimit, spansLength, rowLength, nameEntry, nameIndexNeed}
+use Rattle.syntax.specs.Names.{Name, Names}
+use Rattle.semantics.specs.NameIndex.{nameOf, entry, entries, nameIndex}
 use Rattle.semantics.specs.States.{Row}
 use Rattle.semantics.specs.Calls.{over, cleared, joined, room}
 use Rattle.semantics.specs.Demands.{In, Written}
@@ -28,6 +30,30 @@ written-over numbers before after w = sym (take-append-drop (length numbers) aft
 pub zeroed : (need : ℕ) (area : List ℕ) → need ≤ length area → Written (replicate need 0) area (cleared need area)
 unfolding cleared
 zeroed need area h = written (replicate need 0) area (rw (length-replicate {A = ℕ} need 0) h)
+
+-- numbers written behind those that were written before
+pub over-more : (xs ys area : List ℕ) (base n : ℕ) → length xs ≡ base → length ys ≡ n
+    → take base (over xs area) ++ (ys ++ drop (base + n) (over xs area)) ≡ over (xs ++ ys) area
+unfolding over
+over-more xs ys area base n hb hn =
+    let d : List ℕ = drop (length xs) area in
+    rw (← hb, ← hn, take-append-seam xs d, drop-append-add xs d (length ys), drop-drop (length ys) (length xs) area, length-append xs ys)
+    (sym (append-assoc xs ys (drop (length xs + length ys) area)))
+
+-- The name index ----------------------------------------------------------------
+
+pub entry-long : (n : Name) → length (entry n) ≡ nameEntry
+unfolding entry
+entry-long n = omega (arith, length-take nameEntry (length n ∷ (n ++ replicate nameEntry 0)), length-append n (replicate nameEntry 0), length-replicate {A = ℕ} nameEntry 0)
+
+pub entries-long : (many : ℕ) (names : Names) (group : ℕ) → length (entries many names group) ≡ many * nameEntry
+unfolding entries
+entries-long zero names group = sym (zero-mul nameEntry)
+entries-long (suc many) names group = length-append (entry (nameOf names group)) (entries many names (suc group)) ∙ omega (arith, entry-long (nameOf names group), entries-long many names (suc group), suc-mul many nameEntry)
+
+pub index-long : (names : Names) → length (nameIndex names) ≡ nameIndexNeed
+unfolding nameIndex nameIndexNeed
+index-long names = entries-long groupLimit names 1
 
 -- Rows --------------------------------------------------------------------------
 

@@ -1,6 +1,5 @@
 -- The calls, case by case: refused for themselves, refused for their rule, or answered. Demand 1 follows for both kinds at once.
 use mathlib.Core.Path.{_≡_, refl, ap, sym, _∙_}
-use mathlib.Core.List.{[]}
 use mathlib.Core.Logic.{_⊎_, inl, inr, _↔_}
 use mathlib.Core.Option.{none, some}
 use Prim.Native.Nat.{ℕ}
@@ -8,11 +7,12 @@ use Rattle.syntax.specs.declared.Reason.{Reason}
 use Rattle.syntax.specs.Limits.{ruleAreaNeed}
 use Rattle.syntax.specs.Read.{Read, sound, refused}
 use Rattle.syntax.specs.Tree.{Rule}
-use Rattle.syntax.specs.Reading.{reading}
-use Rattle.semantics.specs.Calls.{Call, workAreaNeed, unacceptable, Return, cleared, untouched, leaving, withReading, unlessRefused, call}
-use Rattle.semantics.specs.Demands.{Fault, Faultless, Refuses, itself, itsRule, Accepted, Demand1}
-use Rattle.semantics.specs.Laws.Refusals.{found, none-exactly, some-exactly, rule-area-enough, work-area-enough}
-use Rattle.semantics.specs.Laws.Areas.{over-nothing, zeroed}
+use Rattle.syntax.specs.Reading.{namesOf, reading}
+use Rattle.semantics.specs.NameIndex.{nameIndex}
+use Rattle.semantics.specs.Calls.{Call, workAreaNeed, unacceptable, Return, over, cleared, untouched, declined, withReading, unlessRefused, call}
+use Rattle.semantics.specs.Demands.{Fault, Faultless, Refuses, itself, itsRule, Accepted, Written, Demand1}
+use Rattle.semantics.specs.Laws.Refusals.{found, none-exactly, some-exactly, rule-area-enough, work-area-enough, index-enough}
+use Rattle.semantics.specs.Laws.Areas.{written, zeroed, index-long}
 
 -- every input has a refusal or is accepted
 pub verdict : (c : Call) → ((r : Rule) × (groups : ℕ) × Accepted c r groups) ⊎ ((place : ℕ) × (why : Reason) × Refuses c place why)
@@ -35,7 +35,7 @@ module _ {A : Type 0} (refusal : ℕ → Reason → A) (answered : Call → Rule
   unfolding call unlessRefused
   call-refused c why e = rw e
 
-  call-rule-refused : (c : Call) (place : ℕ) (why : Reason) → Faultless c → reading (c .rule) (c .flags) ≡ refused place why → call refusal answered c ≡ leaving (refusal place why) [] c
+  call-rule-refused : (c : Call) (place : ℕ) (why : Reason) → Faultless c → reading (c .rule) (c .flags) ≡ refused place why → call refusal answered c ≡ declined (refusal place why) c
   unfolding call unlessRefused withReading
   call-rule-refused c place why f e = let n = none-exactly c .1 f in rw (n, e)
 
@@ -43,15 +43,15 @@ module _ {A : Type 0} (refusal : ℕ → Reason → A) (answered : Call → Rule
   unfolding call unlessRefused withReading
   call-answered c r groups a = let n = none-exactly c .1 (a .faultless) in rw (n, a .reads)
 
-  call-refuses : (c : Call) (place : ℕ) (why : Reason) → Refuses c place why → (call refusal answered c .outcome ≡ refusal place why) × (call refusal answered c .resultArea ≡ c .resultArea)
-  unfolding untouched leaving
-  call-refuses c place why (itself f) = rw (call-refused c why (some-exactly c why .1 f)) (refl, refl)
-  call-refuses c place why (itsRule f e) = rw (call-rule-refused c place why f e) (refl, over-nothing (c .resultArea))
+  call-refuses : (c : Call) (place : ℕ) (why : Reason) → Refuses c place why → (call refusal answered c .outcome ≡ refusal place why) × (call refusal answered c .resultArea ≡ c .resultArea) × (call refusal answered c .names ≡ c .names)
+  unfolding untouched declined
+  call-refuses c place why (itself f) = rw (call-refused c why (some-exactly c why .1 f)) (refl, refl, refl)
+  call-refuses c place why (itsRule f e) = rw (call-rule-refused c place why f e) (refl, refl, refl)
 
-  -- what both kinds of calls have: refusals that tell their place and reason, answers that are none, and areas cleared
+  -- what both kinds of calls have: refusals that tell their place and reason, answers that are none, areas cleared, and the index filled
   module _ (tells : (p q : ℕ) (v w : Reason) → refusal p v ≡ refusal q w → (p ≡ q) × (v ≡ w))
       (never : (c : Call) (r : Rule) (p : ℕ) (w : Reason) → ¬ (answered c r .outcome ≡ refusal p w))
-      (clears : (c : Call) (r : Rule) → (answered c r .ruleArea ≡ cleared ruleAreaNeed (c .ruleArea)) × (answered c r .workArea ≡ cleared (workAreaNeed (c .budget)) (c .workArea))) where
+      (clears : (c : Call) (r : Rule) → (answered c r .ruleArea ≡ cleared ruleAreaNeed (c .ruleArea)) × (answered c r .workArea ≡ cleared (workAreaNeed (c .budget)) (c .workArea)) × (answered c r .names ≡ over (nameIndex (namesOf (c .rule) (c .flags))) (c .names))) where
     refused-as-named : (c : Call) (place : ℕ) (why : Reason) → call refusal answered c .outcome ≡ refusal place why → Refuses c place why
     refused-as-named c place why e = elim (verdict c) [
       | inl x ↦ absurd (never c (x .0) place why (ap (λ (y : Return A). y .outcome) (sym (call-answered c (x .0) (x .1) (x .2))) ∙ e))
@@ -59,22 +59,29 @@ module _ {A : Type 0} (refusal : ℕ → Reason → A) (answered : Call → Rule
     ]
 
     areas-cleared : (c : Call) → Faultless c → (call refusal answered c .ruleArea ≡ cleared ruleAreaNeed (c .ruleArea)) × (call refusal answered c .workArea ≡ cleared (workAreaNeed (c .budget)) (c .workArea))
-    unfolding leaving
+    unfolding declined
     areas-cleared c f = go (reading (c .rule) (c .flags)) refl
       where
         go : (x : Read (Rule × ℕ)) → reading (c .rule) (c .flags) ≡ x → (call refusal answered c .ruleArea ≡ cleared ruleAreaNeed (c .ruleArea)) × (call refusal answered c .workArea ≡ cleared (workAreaNeed (c .budget)) (c .workArea))
-        go (sound r stop) e = rw (call-answered c (r .0) (r .1) (record { faultless = f; stop = stop; reads = e })) (clears c (r .0))
+        go (sound r stop) e = rw (call-answered c (r .0) (r .1) (record { faultless = f; stop = stop; reads = e })) (clears c (r .0) .0, clears c (r .0) .1)
         go (refused place why) e = rw (call-rule-refused c place why f e) (refl, refl)
 
     areas-kept : (c : Call) (why : Reason) → Fault c why → (call refusal answered c .ruleArea ≡ c .ruleArea) × (call refusal answered c .workArea ≡ c .workArea)
     unfolding untouched
     areas-kept c why f = elim (found c) [ inl x ↦ absurd (x .1 why f) | inr x ↦ rw (call-refused c (x .0) (x .1)) (refl, refl) ]
 
+    filled : (c : Call) (r : Rule) (groups : ℕ) → Accepted c r groups → Written (nameIndex (namesOf (c .rule) (c .flags))) (c .names) (call refusal answered c .names)
+    filled c r groups a =
+        let n = namesOf (c .rule) (c .flags) in
+        rw (call-answered c r groups a, clears c r .2) (written (nameIndex n) (c .names) (rw (index-long n) (index-enough c (a .faultless))))
+
     pub demand-1 : (c : Call) → Demand1 refusal c (call refusal answered c)
     demand-1 c = record {
       answers-or-refuses = verdict c;
       refused-exactly = λ place why. (refused-as-named c place why, λ x. call-refuses c place why x .0);
       no-row-changed = λ place why e. call-refuses c place why (refused-as-named c place why e) .1;
+      index-unchanged = λ place why e. call-refuses c place why (refused-as-named c place why e) .2;
+      index-filled = filled c;
       areas-unchanged = areas-kept c;
       rule-area-zeroed = λ f. rw (areas-cleared c f .0) (zeroed ruleAreaNeed (c .ruleArea) (rule-area-enough c f));
       work-area-zeroed = λ f. rw (areas-cleared c f .1) (zeroed (workAreaNeed (c .budget)) (c .workArea) (work-area-enough c f));

@@ -28,7 +28,7 @@ never (exhaustedAt n) rows steps p w e = clash (cc)
 
 pub list-demand-1 : (c : Call) → Demand1 ListRefused c (listCall c)
 unfolding listCall listRule leaving
-list-demand-1 c = demand-1 ListRefused listRule (λ p q v w e. (cc, cc)) (λ d r p w. never _ _ _ p w) (λ d r. (refl, refl)) c
+list-demand-1 c = demand-1 ListRefused listRule (λ p q v w e. (cc, cc)) (λ d r p w. never _ _ _ p w) (λ d r. (refl, refl, refl)) c
 
 -- each row is a reading
 module _ (sub : List ℕ) (r : Rule) (budget limit : ℕ) where

@@ -5,10 +5,12 @@ use Rattle.syntax.specs.declared.Reason.{Reason}
 use Rattle.syntax.specs.Limits.{ruleAreaNeed}
 use Rattle.syntax.specs.Tree.{Rule}
 use Rattle.syntax.specs.WellFormed.{WellFormed}
+use Rattle.syntax.specs.Reading.{namesOf}
 use Rattle.syntax.specs.Laws.Formation.{well-formed}
 use Rattle.semantics.specs.States.{State, row}
+use Rattle.semantics.specs.NameIndex.{nameIndex}
 use Rattle.semantics.specs.Answers.{Outcome, matched, notMatched, exhausted, Answer, answer}
-use Rattle.semantics.specs.Calls.{Call, workAreaNeed, cleared, leaving, Matched, NotMatched, Exhausted, Refused, matchReturns, matchRule, matchCall}
+use Rattle.semantics.specs.Calls.{Call, workAreaNeed, over, cleared, leaving, Matched, NotMatched, Exhausted, Refused, matchReturns, matchRule, matchCall}
 use Rattle.semantics.specs.Demands.{Accepted, Written, RowFacts, MatchAnswers, Demand1}
 use Rattle.semantics.specs.Laws.Cases.{clash}
 use Rattle.semantics.specs.Laws.Matches.{demand-2}
@@ -28,11 +30,11 @@ never c (matched n t) steps p w e = clash (cc)
 never c notMatched steps p w e = clash (cc)
 never c (exhausted n) steps p w e = clash (cc)
 
-clears : (c : Call) (o : Outcome) (steps : ℕ) → (matchReturns c o steps .ruleArea ≡ cleared ruleAreaNeed (c .ruleArea)) × (matchReturns c o steps .workArea ≡ cleared (workAreaNeed (c .budget)) (c .workArea))
+clears : (c : Call) (o : Outcome) (steps : ℕ) → (matchReturns c o steps .ruleArea ≡ cleared ruleAreaNeed (c .ruleArea)) × (matchReturns c o steps .workArea ≡ cleared (workAreaNeed (c .budget)) (c .workArea)) × (matchReturns c o steps .names ≡ over (nameIndex (namesOf (c .rule) (c .flags))) (c .names))
 unfolding matchReturns leaving
-clears c (matched n t) steps = (refl, refl)
-clears c notMatched steps = (refl, refl)
-clears c (exhausted n) steps = (refl, refl)
+clears c (matched n t) steps = (refl, refl, refl)
+clears c notMatched steps = (refl, refl, refl)
+clears c (exhausted n) steps = (refl, refl, refl)
 
 pub match-demand-1 : (c : Call) → Demand1 Refused c (matchCall c)
 unfolding matchCall matchRule

@@ -1,4 +1,4 @@
--- Refusals 1 to 7: one test after another, so that the first fault in 01's order is given, and none where there is no fault.
+-- Refusals 1 to 8: one test after another, so that the first fault in 01's order is given, and none where there is no fault.
 use mathlib.Core.Path.{_≡_, refl, ap, sym, _∙_}
 use mathlib.Core.Logic.{_⊎_, inl, inr, _↔_}
 use mathlib.Core.Option.{Option, none, some}
@@ -9,15 +9,15 @@ use lib.ListN.{length}
 use lib.Dec.{ltb, leb, eqb}
 use borrow.Author.Tests.{ltb-true, ltb-false, leb-true, leb-false}
 use Rattle.syntax.specs.declared.Reason.{Reason}
-use Rattle.syntax.specs.declared.Reason.the-variants.{RuleTooLong, SubjectTooLong, UnknownFlag, BudgetTooLarge, RuleAreaShort, WorkAreaShort, ResultAreaShort}
-use Rattle.syntax.specs.Limits.{ruleLimit, subjectLimit, budgetLimit, ruleAreaNeed, flagBits, rowLength}
+use Rattle.syntax.specs.declared.Reason.the-variants.{RuleTooLong, SubjectTooLong, UnknownFlag, BudgetTooLarge, RuleAreaShort, WorkAreaShort, ResultAreaShort, NameIndexShort}
+use Rattle.syntax.specs.Limits.{ruleLimit, subjectLimit, budgetLimit, ruleAreaNeed, flagBits, rowLength, nameIndexNeed}
 use Rattle.syntax.specs.Refusals.{numberOf}
 use Rattle.syntax.specs.Read.{if_then_else_}
 use Rattle.semantics.specs.Calls.{Call, workAreaNeed, unacceptable}
-use Rattle.semantics.specs.Demands.{Fault, ruleTooLong, subjectTooLong, unknownFlag, budgetTooLarge, ruleAreaShort, workAreaShort, resultAreaShort, Faultless, FirstFault}
+use Rattle.semantics.specs.Demands.{Fault, ruleTooLong, subjectTooLong, unknownFlag, budgetTooLarge, ruleAreaShort, workAreaShort, resultAreaShort, nameIndexShort, Faultless, FirstFault}
 use Rattle.semantics.specs.Laws.Cases.{clash, le-or}
 
--- the reason of a number from 1 to 7
+-- the reason of a number from 1 to 8
 unfoldable reasonOf : ℕ → Reason
 reasonOf n =
     if eqb n 1 then RuleTooLong
@@ -26,7 +26,8 @@ reasonOf n =
     else if eqb n 4 then BudgetTooLarge
     else if eqb n 5 then RuleAreaShort
     else if eqb n 6 then WorkAreaShort
-    else ResultAreaShort
+    else if eqb n 7 then ResultAreaShort
+    else NameIndexShort
 
 module _ (c : Call) where
   reason-of : {why : Reason} → Fault c why → reasonOf (numberOf why) ≡ why
@@ -38,6 +39,7 @@ module _ (c : Call) where
   reason-of (ruleAreaShort h) = refl
   reason-of (workAreaShort h) = refl
   reason-of (resultAreaShort h) = refl
+  reason-of (nameIndexShort h) = refl
 
   -- no fault has a number below k
   abbrev NoneBelow : ℕ → Type 0
@@ -51,6 +53,7 @@ module _ (c : Call) where
   from-1 other (ruleAreaShort h) = omega arith
   from-1 other (workAreaShort h) = omega arith
   from-1 other (resultAreaShort h) = omega arith
+  from-1 other (nameIndexShort h) = omega arith
 
   from-next : (k : ℕ) → NoneBelow k → ¬ Fault c (reasonOf k) → NoneBelow (suc k)
   from-next k low none-here other f = elim (le-or (suc k) (numberOf other)) [
@@ -79,14 +82,18 @@ module _ (c : Call) where
   result-area-fits : ltb (length (c .resultArea)) rowLength ≡ false → ¬ Fault c ResultAreaShort
   result-area-fits e (resultAreaShort h) = omega (arith, ltb-false (length (c .resultArea)) rowLength e)
 
-  none-from-8 : (why : Reason) → Fault c why → ¬ (8 ≤ numberOf why)
-  none-from-8 why (ruleTooLong h) l = omega arith
-  none-from-8 why (subjectTooLong h) l = omega arith
-  none-from-8 why (unknownFlag h) l = omega arith
-  none-from-8 why (budgetTooLarge h) l = omega arith
-  none-from-8 why (ruleAreaShort h) l = omega arith
-  none-from-8 why (workAreaShort h) l = omega arith
-  none-from-8 why (resultAreaShort h) l = omega arith
+  names-fit : ltb (length (c .names)) nameIndexNeed ≡ false → ¬ Fault c NameIndexShort
+  names-fit e (nameIndexShort h) = omega (arith, ltb-false (length (c .names)) nameIndexNeed e)
+
+  none-from-9 : (why : Reason) → Fault c why → ¬ (9 ≤ numberOf why)
+  none-from-9 why (ruleTooLong h) l = omega arith
+  none-from-9 why (subjectTooLong h) l = omega arith
+  none-from-9 why (unknownFlag h) l = omega arith
+  none-from-9 why (budgetTooLarge h) l = omega arith
+  none-from-9 why (ruleAreaShort h) l = omega arith
+  none-from-9 why (workAreaShort h) l = omega arith
+  none-from-9 why (resultAreaShort h) l = omega arith
+  none-from-9 why (nameIndexShort h) l = omega arith
 
   -- tests find no fault, or the first one
   abbrev pub Finds : Option Reason → Type 0
@@ -108,7 +115,8 @@ module _ (c : Call) where
       one-test 5 refl low5 _ _ (λ e. ruleAreaShort (ltb-true _ _ e)) rule-area-fits (λ low6.
       one-test 6 refl low6 _ _ (λ e. workAreaShort (ltb-true _ _ e)) work-area-fits (λ low7.
       one-test 7 refl low7 _ _ (λ e. resultAreaShort (ltb-true _ _ e)) result-area-fits (λ low8.
-      inl (refl, λ why f. none-from-8 why f (low8 why f)))))))))
+      one-test 8 refl low8 _ _ (λ e. nameIndexShort (ltb-true _ _ e)) names-fit (λ low9.
+      inl (refl, λ why f. none-from-9 why f (low9 why f))))))))))
 
   pub none-exactly : (unacceptable c ≡ none) ↔ Faultless c
   none-exactly = elim found [
@@ -136,3 +144,6 @@ module _ (c : Call) where
 
   pub result-area-enough : Faultless c → rowLength ≤ length (c .resultArea)
   result-area-enough f = elim (le-or rowLength (length (c .resultArea))) [ inl h ↦ h | inr h ↦ absurd (f ResultAreaShort (resultAreaShort h)) ]
+
+  pub index-enough : Faultless c → nameIndexNeed ≤ length (c .names)
+  index-enough f = elim (le-or nameIndexNeed (length (c .names))) [ inl h ↦ h | inr h ↦ absurd (f NameIndexShort (nameIndexShort h)) ]

@@ -1,4 +1,4 @@
--- The demands settle a call: of two returns that meet them, outcome, rows and areas are the same.
+-- The demands settle a call: of two returns that meet them, outcome, rows, index and areas are the same.
 use mathlib.Core.Path.{_≡_, refl, ap, sym, _∙_}
 use mathlib.Core.List.{List}
 use mathlib.Core.Logic.{inl, inr}
@@ -7,6 +7,8 @@ use lib.ListN.{replicate}
 use Rattle.syntax.specs.declared.Reason.{Reason}
 use Rattle.syntax.specs.Limits.{ruleAreaNeed}
 use Rattle.syntax.specs.Tree.{Rule}
+use Rattle.syntax.specs.Reading.{namesOf}
+use Rattle.semantics.specs.NameIndex.{nameIndex}
 use Rattle.semantics.specs.States.{row}
 use Rattle.semantics.specs.Answers.{Outcome, matched, notMatched, exhausted, Answer, Ending, complete, full, exhaustedAt, Listing}
 use Rattle.semantics.specs.Calls.{Call, workAreaNeed, Return, MatchOutcome, Refused, ListOutcome, ListRefused, joined, room}
@@ -23,8 +25,8 @@ module _ {A : Type 0} where
   abbrev Told : Return A → Return A → Type 0
   Told x y = (x .outcome ≡ y .outcome) × (x .resultArea ≡ y .resultArea)
 
-  all-four : (x y : Return A) → x .ruleArea ≡ y .ruleArea → x .workArea ≡ y .workArea → Told x y → x ≡ y
-  all-four x y e f t = rw (e, f, t .0, t .1)
+  all-five : (x y : Return A) → x .ruleArea ≡ y .ruleArea → x .workArea ≡ y .workArea → x .names ≡ y .names → Told x y → x ≡ y
+  all-five x y e f g t = rw (e, f, g, t .0, t .1)
 
   module _ (refusal : ℕ → Reason → A) (c : Call) (x y : Return A) (v : Demand1 refusal c x) (w : Demand1 refusal c y) where
     areas-same : (x .ruleArea ≡ y .ruleArea) × (x .workArea ≡ y .workArea)
@@ -34,6 +36,12 @@ module _ {A : Type 0} where
           let p = v .areas-unchanged (z .0) (z .2 .fault) in
           let q = w .areas-unchanged (z .0) (z .2 .fault) in
           (p .0 ∙ sym (q .0), p .1 ∙ sym (q .1)))
+    ]
+
+    index-same : x .names ≡ y .names
+    index-same = elim (v .answers-or-refuses) [
+      | inl z ↦ written-once (nameIndex (namesOf (c .rule) (c .flags))) (c .names) (x .names) (y .names) (v .index-filled (z .0) (z .1) (z .2)) (w .index-filled (z .0) (z .1) (z .2))
+      | inr z ↦ v .index-unchanged (z .0) (z .1) (v .refused-exactly (z .0) (z .1) .1 (z .2)) ∙ sym (w .index-unchanged (z .0) (z .1) (w .refused-exactly (z .0) (z .1) .1 (z .2)))
     ]
 
     -- it is enough that accepted calls are told alike
@@ -47,7 +55,7 @@ module _ {A : Type 0} where
               let q = w .refused-exactly (z .0) (z .1) .1 (z .2) in
               (p ∙ sym q, v .no-row-changed (z .0) (z .1) p ∙ sym (w .no-row-changed (z .0) (z .1) q)))
         ] in
-        all-four x y (s .0) (s .1) t
+        all-five x y (s .0) (s .1) index-same t
 
 module _ (c : Call) (r : Rule) (groups : ℕ) where
   match-told : (x y : Return MatchOutcome) → MatchAnswers c r groups x → MatchAnswers c r groups y → Told x y

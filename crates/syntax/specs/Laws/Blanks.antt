@@ -9,7 +9,8 @@ use lib.Dec.{eqb}
 use Rattle.charset.specs.declared.Named.the-variants.{Space}
 use Rattle.charset.specs.Named.{inNamed}
 use Rattle.syntax.specs.Read.{if_then_else_, is}
-use Rattle.syntax.specs.Grammar.{extended, skipped, behindBlanks}
+use Rattle.syntax.specs.Flags.{extended}
+use Rattle.syntax.specs.Grammar.{skipped, behindBlanks}
 
 if-most : (b : Bool) (x y n : ℕ) → x ≤ n → y ≤ n → (if b then x else y) ≤ n
 if-most true x y n h k = h

@@ -1,6 +1,6 @@
 -- A sound reading's tree is well formed.
 use mathlib.Core.Path.{_≡_, refl}
-use mathlib.Core.List.{List}
+use mathlib.Core.List.{List, [], _∷_}
 use mathlib.Core.Bool.{Bool, true, false, not, _||_}
 use mathlib.Core.Option.{Option, none, some}
 use Prim.Native.Nat.{ℕ, zero, suc, _+_, _≤_, _<_}
@@ -13,13 +13,14 @@ use Rattle.syntax.specs.declared.Most.{Most}
 use Rattle.syntax.specs.declared.Quantifier.{Quantifier}
 use Rattle.syntax.specs.declared.Quantifier.the-variants.{Absent, Stray, Unfit, Times}
 use Rattle.syntax.specs.Limits.{groupLimit, nestingLimit}
-use Rattle.syntax.specs.Read.{if_then_else_, byte, isEnd, is, Read, sound, refused}
+use Rattle.syntax.specs.Read.{if_then_else_, byte, isEnd, is, Read, sound, andThen}
 use Rattle.syntax.specs.Tree.{Item, byteIn, assert, reference, Rule, empty, item, seq, alt, group, repeat, Branches, one, also, alternatives}
 use Rattle.syntax.specs.Quantifiers.{quantifier}
+use Rattle.syntax.specs.Names.{Name, Names}
 use Rattle.syntax.specs.Grammar.{behindBlanks, atom, Inner, closing, capturing, grouped, Sequence, unrepeatable, repeatable, repeated, whole, withItem, unfitFor, repeating, nextItem, part, ends, sequence, branch, further, alternation, inside}
-use Rattle.syntax.specs.Reading.{parsed, firstOf, dangling, unresolved, unresolvedIn, resolved, reading}
+use Rattle.syntax.specs.Reading.{namesOf, parsed, firstOf, dangling, unresolved, unresolvedIn, resolved, reading}
 use Rattle.syntax.specs.WellFormed.{BoundsFit, Proper, Propers, Refers, Resolved, ResolvedIn, groupDepth, groupDepths, repeatDepth, repeatDepths, WellFormed}
-use Rattle.syntax.specs.Laws.Forward.{Given, if-given, test-given, then-given, given-less, Holding, Bounded, quantifier-on}
+use Rattle.syntax.specs.Laws.Forward.{Given, any-given, if-given, test-given, then-given, given-less, Holding, Bounded, quantifier-on}
 
 -- Trees among so many groups, in which groups and repeats nest so deep ---------
 
@@ -100,34 +101,44 @@ whole-fits g d (repeated t) f = f
 abbrev Grown : ℕ → ℕ → Type 0
 Grown old new = (old ≤ new) × (new ≤ groupLimit)
 
-abbrev Good : ℕ → ℕ → ℕ → (Rule × ℕ) → ℕ → Type 0
-Good old d e r p = Grown old (r .1) × Fits (r .1) d e (r .0)
+abbrev Good : ℕ → ℕ → ℕ → (Rule × Names) → ℕ → Type 0
+Good old d e r p = Grown old (length (r .1)) × Fits (length (r .1)) d e (r .0)
 
-abbrev GoodIn : ℕ → ℕ → (Sequence × ℕ) → ℕ → Type 0
-GoodIn old d r p = Grown old (r .1) × FitsIn (r .1) d (r .0)
+abbrev GoodIn : ℕ → ℕ → (Sequence × Names) → ℕ → Type 0
+GoodIn old d r p = Grown old (length (r .1)) × FitsIn (length (r .1)) d (r .0)
 
 -- the inside of a group whose own nesting counts
-abbrev GoodInside : ℕ → ℕ → (Rule × ℕ) → ℕ → Type 0
-GoodInside old d r p = Grown old (r .1) × Fits (r .1) d d (r .0) × (suc (groupDepth (r .0)) ≤ d)
+abbrev GoodInside : ℕ → ℕ → (Rule × Names) → ℕ → Type 0
+GoodInside old d r p = Grown old (length (r .1)) × Fits (length (r .1)) d d (r .0) × (suc (groupDepth (r .0)) ≤ d)
+
+-- the head of a group leaves so many groups opened
+abbrev Heads : ℕ → Names → ℕ → Type 0
+Heads opened names at = length names ≡ opened
 
 unfoldable InnerFits : ℕ → Inner → Type 0
-InnerFits d inner = (opening at opened : ℕ) → opened ≤ groupLimit → Given (inner opening at opened) (GoodInside opened d)
+InnerFits d inner = (opening opened : ℕ) (head : Read Names) → opened ≤ groupLimit → Given head (Heads opened) → Given (inner opening head) (GoodInside opened d)
 
-closing-fits : (s : List ℕ) (opening : ℕ) (t : Rule) (old new at d e : ℕ) → Grown old new → Fits new d e t → Given (closing s opening t new at) (Good old d e)
+closing-fits : (s : List ℕ) (opening : ℕ) (t : Rule) (old : ℕ) (new : Names) (at d e : ℕ) → Grown old (length new) → Fits (length new) d e t → Given (closing s opening t new at) (Good old d e)
 unfolding closing
 closing-fits s opening t old new at d e g f = if-given _ _ _ (is ")" (byte s at)) (g, f) tt
 
-grouped-fits : (s : List ℕ) (inner : Inner) (at opened d : ℕ) → InnerFits d inner → opened ≤ groupLimit → Given (grouped s inner at opened) (Good opened d d)
-unfolding grouped capturing InnerFits
+capturing-fits : (s : List ℕ) (inner : Inner) (at : ℕ) (opened : Names) (name : Read Name) (d : ℕ) → InnerFits d inner → Given (capturing s inner at opened name) (Good (length opened) d d)
+unfolding capturing InnerFits
+capturing-fits s inner at opened name d h =
+    let n = suc (length opened) in
+    test-given _ _ _ (ltb (length opened) groupLimit) (λ e. let k : length opened < groupLimit = ltb-true (length opened) groupLimit e in
+    then-given (GoodInside n d) (Good (length opened) d d) (inner at (andThen name (λ x p. sound (x ∷ opened) p))) _
+    (h at n _ (omega arith) (then-given (λ x p. Unit) (Heads n) name _ (any-given name) (λ x p u. refl))) (λ r p f.
+    closing-fits s at (group n (r .0)) (length opened) (r .1) p d d (omega (arith, f .0 .0), f .0 .1) (fits-group (length (r .1)) d d n (r .0) (omega arith) (f .0 .0) (f .2) (f .1))))
+    (λ e. tt)
+
+grouped-fits : (s : List ℕ) (inner : Inner) (at : ℕ) (opened : Names) (d : ℕ) → InnerFits d inner → length opened ≤ groupLimit → Given (grouped s inner at opened) (Good (length opened) d d)
+unfolding grouped InnerFits
 grouped-fits s inner at opened d h l =
-    if-given _ _ _ (not (is "?" (byte s (at + 1))))
-    (test-given _ _ _ (ltb opened groupLimit) (λ e. let k : opened < groupLimit = ltb-true opened groupLimit e in
-    then-given (GoodInside (opened + 1) d) (Good opened d d) (inner at (at + 1) (opened + 1)) _ (h at (at + 1) (opened + 1) (omega arith)) (λ r p f.
-    closing-fits s at (group (opened + 1) (r .0)) opened (r .1) p d d (omega (arith, f .0 .0), f .0 .1) (fits-group (r .1) d d (opened + 1) (r .0) (omega arith) (f .0 .0) (f .2) (f .1))))
-    (λ e. tt))
+    if-given _ _ _ (not (is "?" (byte s (at + 1)))) (capturing-fits s inner at opened _ d (unfold InnerFits in h))
     (if-given _ _ _ (is ":" (byte s (at + 2)))
-    (then-given (GoodInside opened d) (Good opened d d) (inner at (at + 3) opened) _ (h at (at + 3) opened l) (λ r p f. closing-fits s at (r .0) opened (r .1) p d d (f .0) (f .1)))
-    tt)
+    (then-given (GoodInside (length opened) d) (Good (length opened) d d) (inner at (sound opened (at + 3))) _ (h at (length opened) (sound opened (at + 3)) l refl) (λ r p f. closing-fits s at (r .0) (length opened) (r .1) p d d (f .0) (f .1)))
+    (if-given _ _ _ (is "<" (byte s (at + 2))) (capturing-fits s inner at opened _ d (unfold InnerFits in h)) tt))
 
 withItem-fits : (g d : ℕ) (q : Sequence) (at : ℕ) (i : Item) → FitsIn g d q → FitsIn g d (withItem q at i)
 unfolding withItem
@@ -135,16 +146,12 @@ withItem-fits g d q at (byteIn folded c) f = (whole-fits g d q f, fits-item g d 
 withItem-fits g d q at (assert a) f = fits-seq g d (suc d) (whole q) (item at (assert a)) (whole-fits g d q f) (fits-item g d (suc d) at (assert a))
 withItem-fits g d q at (reference folded n) f = (whole-fits g d q f, fits-item g d d at (reference folded n))
 
-nextItem-fits : (s : List ℕ) (flags : ℕ) (inner : Inner) (q : Sequence) (opened at d : ℕ) → InnerFits d inner → opened ≤ groupLimit → FitsIn opened d q → Given (nextItem s flags inner q opened at) (GoodIn opened d)
+nextItem-fits : (s : List ℕ) (flags : ℕ) (known : Names) (inner : Inner) (q : Sequence) (opened : Names) (at d : ℕ) → InnerFits d inner → length opened ≤ groupLimit → FitsIn (length opened) d q → Given (nextItem s flags known inner q opened at) (GoodIn (length opened) d)
 unfolding nextItem
-nextItem-fits s flags inner q opened at d h l f = if-given _ _ _ (is "(" (byte s at))
-    (then-given (Good opened d d) (GoodIn opened d) (grouped s inner at opened) _ (grouped-fits s inner at opened d h l) (λ r p k.
-    (k .0, (fits-more (whole q) opened (r .1) d (suc d) (k .0 .0) (whole-fits opened d q f), k .1))))
-    (then-given (λ i p. Unit) (GoodIn opened d) (atom s flags opened at) _ (any-given (atom s flags opened at)) (λ i p k. ((omega arith, l), withItem-fits opened d q at i f)))
-  where
-    any-given : {A : Type 0} (a : Read A) → Given a (λ x n. Unit)
-    any-given (sound a n) = tt
-    any-given (refused p r) = tt
+nextItem-fits s flags known inner q opened at d h l f = if-given _ _ _ (is "(" (byte s at))
+    (then-given (Good (length opened) d d) (GoodIn (length opened) d) (grouped s inner at opened) _ (grouped-fits s inner at opened d h l) (λ r p k.
+    (k .0, (fits-more (whole q) (length opened) (length (r .1)) d (suc d) (k .0 .0) (whole-fits (length opened) d q f), k .1))))
+    (then-given (λ i p. Unit) (GoodIn (length opened) d) (atom s flags known (length opened) at) _ (any-given (atom s flags known (length opened) at)) (λ i p k. ((omega arith, l), withItem-fits (length opened) d q at i f)))
 
 unfitFor-fits : (q : Sequence) (at opened d : ℕ) → Given (unfitFor q at) (GoodIn opened d)
 unfolding unfitFor
@@ -152,53 +159,54 @@ unfitFor-fits (unrepeatable t) at opened d = tt
 unfitFor-fits (repeatable b l) at opened d = tt
 unfitFor-fits (repeated t) at opened d = tt
 
-repeating-fits : (q : Sequence) (at n : ℕ) (m : Most) (x : Greed) (opened next d : ℕ) → opened ≤ groupLimit → BoundsFit n m → FitsIn opened d q → Given (repeating q at n m x opened next) (GoodIn opened d)
+repeating-fits : (q : Sequence) (at n : ℕ) (m : Most) (x : Greed) (opened : Names) (next d : ℕ) → length opened ≤ groupLimit → BoundsFit n m → FitsIn (length opened) d q → Given (repeating q at n m x opened next) (GoodIn (length opened) d)
 unfolding repeating
 repeating-fits (unrepeatable t) at n m x opened next d l b f = tt
 repeating-fits (repeatable before last) at n m x opened next d l b f =
-    ((omega arith, l), fits-seq opened d (suc d) before (repeat at n m x last) (f .0) (fits-repeat opened d d at n m x last b (f .1)))
+    ((omega arith, l), fits-seq (length opened) d (suc d) before (repeat at n m x last) (f .0) (fits-repeat (length opened) d d at n m x last b (f .1)))
 repeating-fits (repeated t) at n m x opened next d l b f = tt
 
-part-fits : (s : List ℕ) (flags : ℕ) (inner : Inner) (q : Sequence) (opened at d : ℕ) (x : Quantifier) → InnerFits d inner → opened ≤ groupLimit → FitsIn opened d q → Holding x (Bounded (at + 1))
-    → Given (part s flags inner q opened at x) (GoodIn opened d)
+part-fits : (s : List ℕ) (flags : ℕ) (known : Names) (inner : Inner) (q : Sequence) (opened : Names) (at d : ℕ) (x : Quantifier) → InnerFits d inner → length opened ≤ groupLimit → FitsIn (length opened) d q → Holding x (Bounded (at + 1))
+    → Given (part s flags known inner q opened at x) (GoodIn (length opened) d)
 unfolding part
-part-fits s flags inner q opened at d Absent h l f b = nextItem-fits s flags inner q opened at d h l f
-part-fits s flags inner q opened at d Stray h l f b = tt
-part-fits s flags inner q opened at d Unfit h l f b = unfitFor-fits q at opened d
-part-fits s flags inner q opened at d (Times n m x next) h l f b = repeating-fits q at n m x opened next d l (b .0) f
+part-fits s flags known inner q opened at d Absent h l f b = nextItem-fits s flags known inner q opened at d h l f
+part-fits s flags known inner q opened at d Stray h l f b = tt
+part-fits s flags known inner q opened at d Unfit h l f b = unfitFor-fits q at (length opened) d
+part-fits s flags known inner q opened at d (Times n m x next) h l f b = repeating-fits q at n m x opened next d l (b .0) f
 
-sequence-fits : (k : ℕ) (s : List ℕ) (flags : ℕ) (inner : Inner) (q : Sequence) (old opened at d : ℕ) → InnerFits d inner → Grown old opened → FitsIn opened d q → Given (sequence k s flags inner q opened at) (Good old d (suc d))
+sequence-fits : (k : ℕ) (s : List ℕ) (flags : ℕ) (known : Names) (inner : Inner) (q : Sequence) (old : ℕ) (opened : Names) (at d : ℕ) → InnerFits d inner → Grown old (length opened) → FitsIn (length opened) d q → Given (sequence k s flags known inner q opened at) (Good old d (suc d))
 unfolding sequence
-sequence-fits zero s flags inner q old opened at d h l f = (l, whole-fits opened d q f)
-sequence-fits (suc k) s flags inner q old opened start d h l f =
+sequence-fits zero s flags known inner q old opened at d h l f = (l, whole-fits (length opened) d q f)
+sequence-fits (suc k) s flags known inner q old opened start d h l f =
     let at = behindBlanks s flags start in
-    if-given _ _ _ (ends (byte s at)) (l, whole-fits opened d q f)
-    (then-given (GoodIn opened d) (Good old d (suc d)) (part s flags inner q opened at (quantifier s at)) _ (part-fits s flags inner q opened at d (quantifier s at) h (l .1) f (quantifier-on s at))
-    (λ r p g. sequence-fits k s flags inner (r .0) old (r .1) p d h (omega (arith, l .0, g .0 .0), g .0 .1) (g .1)))
+    if-given _ _ _ (ends (byte s at)) (l, whole-fits (length opened) d q f)
+    (then-given (GoodIn (length opened) d) (Good old d (suc d)) (part s flags known inner q opened at (quantifier s at)) _ (part-fits s flags known inner q opened at d (quantifier s at) h (l .1) f (quantifier-on s at))
+    (λ r p g. sequence-fits k s flags known inner (r .0) old (r .1) p d h (omega (arith, l .0, g .0 .0), g .0 .1) (g .1)))
 
-branch-fits : (s : List ℕ) (flags : ℕ) (inner : Inner) (old opened at d : ℕ) → InnerFits d inner → Grown old opened → Given (branch s flags inner opened at) (Good old d (suc d))
+branch-fits : (s : List ℕ) (flags : ℕ) (known : Names) (inner : Inner) (old : ℕ) (opened : Names) (at d : ℕ) → InnerFits d inner → Grown old (length opened) → Given (branch s flags known inner opened at) (Good old d (suc d))
 unfolding branch
-branch-fits s flags inner old opened at d h l = sequence-fits (length s) s flags inner (unrepeatable empty) old opened at d h l (fits-empty opened d (suc d))
+branch-fits s flags known inner old opened at d h l = sequence-fits (length s) s flags known inner (unrepeatable empty) old opened at d h l (fits-empty (length opened) d (suc d))
 
-further-fits : (k : ℕ) (s : List ℕ) (flags : ℕ) (inner : Inner) (bs : Branches) (old opened at d : ℕ) → InnerFits d inner → Grown old opened → AllFit opened d (suc d) bs → Given (further k s flags inner bs opened at) (Good old d (suc d))
+further-fits : (k : ℕ) (s : List ℕ) (flags : ℕ) (known : Names) (inner : Inner) (bs : Branches) (old : ℕ) (opened : Names) (at d : ℕ) → InnerFits d inner → Grown old (length opened) → AllFit (length opened) d (suc d) bs → Given (further k s flags known inner bs opened at) (Good old d (suc d))
 unfolding further
-further-fits zero s flags inner bs old opened at d h l f = (l, alternatives-fit opened d (suc d) bs f)
-further-fits (suc k) s flags inner bs old opened at d h l f = if-given _ _ _ (is "|" (byte s at))
-    (then-given (Good opened d (suc d)) (Good old d (suc d)) (branch s flags inner opened (at + 1)) _ (branch-fits s flags inner opened opened (at + 1) d h (omega arith, l .1)) (λ r p g.
-    further-fits k s flags inner (also bs (r .0)) old (r .1) p d h (omega (arith, l .0, g .0 .0), g .0 .1) (all-also (r .1) d (suc d) bs (r .0) (all-more bs opened (r .1) d (suc d) (g .0 .0) f) (g .1))))
-    (l, alternatives-fit opened d (suc d) bs f)
+further-fits zero s flags known inner bs old opened at d h l f = (l, alternatives-fit (length opened) d (suc d) bs f)
+further-fits (suc k) s flags known inner bs old opened at d h l f = if-given _ _ _ (is "|" (byte s at))
+    (then-given (Good (length opened) d (suc d)) (Good old d (suc d)) (branch s flags known inner opened (at + 1)) _ (branch-fits s flags known inner (length opened) opened (at + 1) d h (omega arith, l .1)) (λ r p g.
+    further-fits k s flags known inner (also bs (r .0)) old (r .1) p d h (omega (arith, l .0, g .0 .0), g .0 .1) (all-also (length (r .1)) d (suc d) bs (r .0) (all-more bs (length opened) (length (r .1)) d (suc d) (g .0 .0) f) (g .1))))
+    (l, alternatives-fit (length opened) d (suc d) bs f)
 
-alternation-fits : (s : List ℕ) (flags : ℕ) (inner : Inner) (opened at d : ℕ) → InnerFits d inner → opened ≤ groupLimit → Given (alternation s flags inner opened at) (Good opened d (suc d))
+alternation-fits : (s : List ℕ) (flags : ℕ) (known : Names) (inner : Inner) (opened : Names) (at d : ℕ) → InnerFits d inner → length opened ≤ groupLimit → Given (alternation s flags known inner opened at) (Good (length opened) d (suc d))
 unfolding alternation
-alternation-fits s flags inner opened at d h l = then-given (Good opened d (suc d)) (Good opened d (suc d)) (branch s flags inner opened at) _ (branch-fits s flags inner opened opened at d h (omega arith, l)) (λ r p g.
-    further-fits (length s) s flags inner (one (r .0)) opened (r .1) p d h (g .0) (all-one (r .1) d (suc d) (r .0) (g .1)))
+alternation-fits s flags known inner opened at d h l = then-given (Good (length opened) d (suc d)) (Good (length opened) d (suc d)) (branch s flags known inner opened at) _ (branch-fits s flags known inner (length opened) opened at d h (omega arith, l)) (λ r p g.
+    further-fits (length s) s flags known inner (one (r .0)) (length opened) (r .1) p d h (g .0) (all-one (length (r .1)) d (suc d) (r .0) (g .1)))
 
-inside-fits : (d : ℕ) (s : List ℕ) (flags : ℕ) → InnerFits d (inside d s flags)
+inside-fits : (d : ℕ) (s : List ℕ) (flags : ℕ) (known : Names) → InnerFits d (inside d s flags known)
 unfolding inside InnerFits
-inside-fits zero s flags opening at opened l = tt
-inside-fits (suc d) s flags opening at opened l = given-less (Good opened d (suc d)) (GoodInside opened (suc d)) (alternation s flags (inside d s flags) opened at)
-    (alternation-fits s flags (inside d s flags) opened at d (inside-fits d s flags) l)
-    (λ r p g. (g .0, record { proper = g .1 .proper; groups = omega (arith, g .1 .groups); repeats = g .1 .repeats }, omega (arith, g .1 .groups)))
+inside-fits zero s flags known opening opened head l g = tt
+inside-fits (suc d) s flags known opening opened head l g = then-given (Heads opened) (GoodInside opened (suc d)) head _ g (λ names at e.
+    given-less (Good (length names) d (suc d)) (GoodInside opened (suc d)) (alternation s flags known (inside d s flags known) names at)
+    (alternation-fits s flags known (inside d s flags known) names at d (inside-fits d s flags known) (omega (arith, e)))
+    (λ r p f. ((omega (arith, e, f .0 .0), f .0 .1), record { proper = f .1 .proper; groups = omega (arith, f .1 .groups); repeats = f .1 .repeats }, omega (arith, f .1 .groups))))
 
 -- References -----------------------------------------------------------------
 
@@ -251,20 +259,20 @@ mutual
 
 -- The whole rule -------------------------------------------------------------
 
-parsed-fits : (s : List ℕ) (flags : ℕ) → Given (parsed s flags) (Good 0 nestingLimit (suc nestingLimit))
+parsed-fits : (s : List ℕ) (flags : ℕ) (known : Names) → Given (parsed s flags known) (Good 0 nestingLimit (suc nestingLimit))
 unfolding parsed
-parsed-fits s flags = then-given (Good 0 nestingLimit (suc nestingLimit)) (Good 0 nestingLimit (suc nestingLimit)) (alternation s flags (inside nestingLimit s flags) 0 0) _
-    (alternation-fits s flags (inside nestingLimit s flags) 0 0 nestingLimit (inside-fits nestingLimit s flags) (omega arith)) (λ r p g. if-given _ _ _ (isEnd (byte s p)) g tt)
+parsed-fits s flags known = then-given (Good 0 nestingLimit (suc nestingLimit)) (Good 0 nestingLimit (suc nestingLimit)) (alternation s flags known (inside nestingLimit s flags known) [] 0) _
+    (alternation-fits s flags known (inside nestingLimit s flags known) [] 0 nestingLimit (inside-fits nestingLimit s flags known) (omega arith)) (λ r p g. if-given _ _ _ (isEnd (byte s p)) g tt)
 
 -- the same of a rule whose references are not resolved yet
-pub parsed-formed : (s : List ℕ) (flags : ℕ) → Given (parsed s flags) (λ r at. (r .1 ≤ groupLimit) × Proper (r .1) (r .0) × (groupDepth (r .0) ≤ nestingLimit) × (repeatDepth (r .0) ≤ suc nestingLimit))
-parsed-formed s flags = given-less (Good 0 nestingLimit (suc nestingLimit)) _ (parsed s flags) (parsed-fits s flags) (λ r p g. (g .0 .1, g .1 .proper, g .1 .groups, g .1 .repeats))
+pub parsed-formed : (s : List ℕ) (flags : ℕ) (known : Names) → Given (parsed s flags known) (λ r at. (length (r .1) ≤ groupLimit) × Proper (length (r .1)) (r .0) × (groupDepth (r .0) ≤ nestingLimit) × (repeatDepth (r .0) ≤ suc nestingLimit))
+parsed-formed s flags known = given-less (Good 0 nestingLimit (suc nestingLimit)) _ (parsed s flags known) (parsed-fits s flags known) (λ r p g. (g .0 .1, g .1 .proper, g .1 .groups, g .1 .repeats))
 
-resolved-fits : (r : Rule × ℕ) (at : ℕ) (o : Option ℕ) → unresolved (r .1) (r .0) ≡ o → Good 0 nestingLimit (suc nestingLimit) r at → Given (resolved r at o) (λ x p. WellFormed (x .1) (x .0))
+resolved-fits : (r : Rule) (names : Names) (at : ℕ) (o : Option ℕ) → unresolved (length names) r ≡ o → Good 0 nestingLimit (suc nestingLimit) (r, names) at → Given (resolved (r, length names) at o) (λ x p. WellFormed (x .1) (x .0))
 unfolding resolved
-resolved-fits r at none e g = record { few = g .0 .1; proper = g .1 .proper; resolved = resolves (r .1) (r .0) e; groupsNest = g .1 .groups; repeatsNest = g .1 .repeats }
-resolved-fits r at (some place) e g = tt
+resolved-fits r names at none e g = record { few = g .0 .1; proper = g .1 .proper; resolved = resolves (length names) r e; groupsNest = g .1 .groups; repeatsNest = g .1 .repeats }
+resolved-fits r names at (some place) e g = tt
 
 pub well-formed : (s : List ℕ) (flags : ℕ) → Given (reading s flags) (λ r at. WellFormed (r .1) (r .0))
 unfolding reading
-well-formed s flags = then-given (Good 0 nestingLimit (suc nestingLimit)) _ (parsed s flags) _ (parsed-fits s flags) (λ r at g. resolved-fits r at (unresolved (r .1) (r .0)) refl g)
+well-formed s flags = then-given (Good 0 nestingLimit (suc nestingLimit)) _ (parsed s flags (namesOf s flags)) _ (parsed-fits s flags (namesOf s flags)) (λ r at g. resolved-fits (r .0) (r .1) at (unresolved (length (r .1)) (r .0)) refl g)

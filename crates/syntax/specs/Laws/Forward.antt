@@ -3,6 +3,7 @@ use mathlib.Core.Path.{_≡_, refl}
 use mathlib.Core.List.{List, [], _∷_}
 use mathlib.Core.Bool.{Bool, true, false, not, _&&_, _||_}
 use mathlib.Core.Option.{Option, none, some}
+use Prim.Native.Char.{Char}
 use Prim.Native.Nat.{ℕ, zero, suc, _+_, _-_, _≤_}
 use native.Mathlib.Omega.{arith}
 use lib.ListN.{length, take}
@@ -21,10 +22,12 @@ use Rattle.charset.specs.Named.{inNamed}
 use Rattle.syntax.specs.Sets.{setNamed, Member}
 use Rattle.syntax.specs.Tree.{Rule, empty, Branches, group, one, also}
 use Rattle.syntax.specs.Numbers.{digits, value, isNone}
-use Rattle.syntax.specs.Escapes.{Meaning, _means_, meanings, byteOf, braced, hex, bracedOctal, octal, control, letter, common, classEscape, decimal, signed, groupNumber, escape}
+use Rattle.syntax.specs.Names.{Name, Names, wordAt, isName, nameUpTo, isUsed, fresh}
+use Rattle.syntax.specs.Flags.{ignoreCase}
+use Rattle.syntax.specs.Escapes.{called, callsByName, Meaning, _means_, meanings, byteOf, braced, hex, bracedOctal, octal, control, letter, common, classEscape, decimal, signed, groupNumber, escape}
 use Rattle.syntax.specs.Classes.{letters, posixMember, posixName, posix, element, rangeEnd, rangeOf, makesRange, member, members, class}
 use Rattle.syntax.specs.Quantifiers.{withGreed, atLeast, fromTo, upper, braces, quantifier}
-use Rattle.syntax.specs.Grammar.{ignoreCase, behindBlanks, atom, Inner, closing, capturing, grouped, Sequence, unrepeatable, repeatable, repeated, unfitFor, repeating, nextItem, part, ends, sequence, branch, further, alternation, inside}
+use Rattle.syntax.specs.Grammar.{behindBlanks, atom, Inner, closing, capturing, grouped, Sequence, unrepeatable, repeatable, repeated, unfitFor, repeating, nextItem, part, ends, sequence, branch, further, alternation, inside}
 use Rattle.syntax.specs.WellFormed.{BoundsFit}
 use Rattle.syntax.specs.Laws.Blanks.{blanks-on}
 
@@ -32,6 +35,10 @@ use Rattle.syntax.specs.Laws.Blanks.{blanks-on}
 abbrev pub Given : {A : Type 0} → Read A → (A → ℕ → Type 0) → Type 0
 Given (sound a at) P = P a at
 Given (refused p r) P = Unit
+
+pub any-given : {A : Type 0} (a : Read A) → Given a (λ x n. Unit)
+any-given (sound a n) = tt
+any-given (refused p r) = tt
 
 pub if-given : {A : Type 0} (P : A → ℕ → Type 0) (x y : Read A) (b : Bool) → Given x P → Given y P → Given (if b then x else y) P
 if-given P x y true g h = g
@@ -134,16 +141,30 @@ groupNumber-on s opened at = if-given _ _ _ (is "{" (byte s (at + 2)))
     (then-given (Past (at + 1)) (Past (at + 1)) (signed s opened at (at + 3)) _ (signed-on s opened at (at + 3) (at + 1) (omega arith)) (λ v p l. if-given _ _ _ (is "}" (byte s p)) (omega arith) tt))
     (signed-on s opened at (at + 2) (at + 1) (omega arith))
 
-escape-on : (s : List ℕ) (folded : Bool) (opened at : ℕ) → Given (escape s folded opened at) (Past (at + 1))
+nameUpTo-on : (closer : Char) (s : List ℕ) (place at n : ℕ) → n ≤ at → Given (nameUpTo closer s place at) (Past n)
+unfolding nameUpTo
+nameUpTo-on closer s place at n h = let w = wordAt s at in if-given _ _ _ (isName w && is closer (byte s (at + length w))) (omega arith) tt
+
+called-on : (s : List ℕ) (at : ℕ) → Given (called s at) (Past (at + 1))
+unfolding called
+called-on s at =
+    let b = byte s (at + 2) in
+    if-given _ _ _ (is "{" b) (nameUpTo-on "}" s at (at + 3) (at + 1) (omega arith))
+    (if-given _ _ _ (is "<" b) (nameUpTo-on ">" s at (at + 3) (at + 1) (omega arith))
+    (if-given _ _ _ (is "'" b) (nameUpTo-on "'" s at (at + 3) (at + 1) (omega arith)) tt))
+
+escape-on : (s : List ℕ) (folded : Bool) (known : Names) (opened at : ℕ) → Given (escape s folded known opened at) (Past (at + 1))
 unfolding escape
-escape-on s folded opened at =
+escape-on s folded known opened at =
     let b = byte s (at + 1) in
     let h : at + 1 ≤ at + 2 = omega arith in
     if-given _ _ _ (is "N" b) h (if-given _ _ _ (is "A" b) h (if-given _ _ _ (is "z" b) h (if-given _ _ _ (is "Z" b) h (if-given _ _ _ (is "b" b) h (if-given _ _ _ (is "B" b) h
     (if-given _ _ _ (is "0" b) (then-given (Past (at + 1)) (Past (at + 1)) (octal s at) _ (octal-on s at) (λ m p l. l))
     (if-given _ _ _ (between "1" "9" b) (then-given (Past (at + 1)) (Past (at + 1)) (decimal s at (at + 1)) _ (decimal-on s at (at + 1) (at + 1) (omega arith)) (λ m p l. l))
+    (if-given _ _ _ (is "k" b) (then-given (Past (at + 1)) (Past (at + 1)) (called s at) _ (called-on s at) (λ m p l. l))
+    (if-given _ _ _ (is "g" b && callsByName s at) (then-given (Past (at + 1)) (Past (at + 1)) (nameUpTo "}" s at (at + 3)) _ (nameUpTo-on "}" s at (at + 3) (at + 1) (omega arith)) (λ m p l. l))
     (if-given _ _ _ (is "g" b) (then-given (Past (at + 1)) (Past (at + 1)) (groupNumber s opened at) _ (groupNumber-on s opened at) (λ m p l. l))
-    (then-given (Past (at + 1)) (Past (at + 1)) (common s at) _ (common-on s at) (λ m p l. l))))))))))
+    (then-given (Past (at + 1)) (Past (at + 1)) (common s at) _ (common-on s at) (λ m p l. l))))))))))))
 
 -- Classes --------------------------------------------------------------------
 
@@ -254,37 +275,45 @@ quantifier-on s at =
 -- Items, sequences and groups ------------------------------------------------
 
 unfoldable pub Forward : Inner → Type 0
-Forward inner = (opening at opened : ℕ) → Given (inner opening at opened) (Past at)
+Forward inner = (opening n : ℕ) (head : Read Names) → Given head (Past n) → Given (inner opening head) (Past n)
 
-pub atom-on : (s : List ℕ) (flags opened at : ℕ) → Given (atom s flags opened at) (Past (at + 1))
+pub atom-on : (s : List ℕ) (flags : ℕ) (known : Names) (opened at : ℕ) → Given (atom s flags known opened at) (Past (at + 1))
 unfolding atom
-atom-on s flags opened at =
+atom-on s flags known opened at =
     let b = byte s at in
     let h : at + 1 ≤ at + 1 = omega arith in
-    if-given _ _ _ (is "\\" b) (escape-on s (ignoreCase flags) opened at)
+    if-given _ _ _ (is "\\" b) (escape-on s (ignoreCase flags) known opened at)
     (if-given _ _ _ (is "[" b) (then-given (Past (at + 1)) (Past (at + 1)) (class s at) _ (class-on s at) (λ c p l. l))
     (if-given _ _ _ (is "." b) h (if-given _ _ _ (is "^" b) h (if-given _ _ _ (is "$" b) h h))))
 
-closing-on : (s : List ℕ) (opening : ℕ) (t : Rule) (opened at n : ℕ) → n ≤ at → Given (closing s opening t opened at) (Past n)
+closing-on : (s : List ℕ) (opening : ℕ) (t : Rule) (opened : Names) (at n : ℕ) → n ≤ at → Given (closing s opening t opened at) (Past n)
 unfolding closing
 closing-on s opening t opened at n h = if-given _ _ _ (is ")" (byte s at)) (omega arith) tt
 
-grouped-on : (s : List ℕ) (inner : Inner) (at opened : ℕ) → Forward inner → Given (grouped s inner at opened) (Past (at + 1))
-unfolding grouped capturing Forward
-grouped-on s inner at opened h =
-    if-given _ _ _ (not (is "?" (byte s (at + 1))))
-    (if-given _ _ _ (ltb opened groupLimit)
-    (then-given (Past (at + 1)) (Past (at + 1)) (inner at (at + 1) (opened + 1)) _ (h at (at + 1) (opened + 1)) (λ r p l. closing-on s at (group (opened + 1) (r .0)) (r .1) p (at + 1) l))
-    tt)
-    (if-given _ _ _ (is ":" (byte s (at + 2)))
-    (then-given (Past (at + 3)) (Past (at + 1)) (inner at (at + 3) opened) _ (h at (at + 3) opened) (λ r p l. closing-on s at (r .0) (r .1) p (at + 1) (omega arith)))
-    tt)
+fresh-on : (place : ℕ) (opened : Names) (name : Read Name) (n : ℕ) → Given name (Past n) → Given (fresh place opened name) (Past n)
+unfolding fresh
+fresh-on place opened name n h = then-given (Past n) (Past n) name _ h (λ x p l. if-given _ _ _ (isUsed x opened) tt l)
 
-nextItem-on : (s : List ℕ) (flags : ℕ) (inner : Inner) (q : Sequence) (opened at : ℕ) → Forward inner → Given (nextItem s flags inner q opened at) (Past (at + 1))
+capturing-on : (s : List ℕ) (inner : Inner) (at : ℕ) (opened : Names) (name : Read Name) → Forward inner → Given name (Past (at + 1)) → Given (capturing s inner at opened name) (Past (at + 1))
+unfolding capturing Forward
+capturing-on s inner at opened name h g = if-given _ _ _ (ltb (length opened) groupLimit)
+    (then-given (Past (at + 1)) (Past (at + 1)) (inner at (andThen name (λ n p. sound (n ∷ opened) p))) _ (h at (at + 1) _ (then-given (Past (at + 1)) (Past (at + 1)) name _ g (λ n p l. l)))
+    (λ r p l. closing-on s at (group (suc (length opened)) (r .0)) (r .1) p (at + 1) l))
+    tt
+
+grouped-on : (s : List ℕ) (inner : Inner) (at : ℕ) (opened : Names) → Forward inner → Given (grouped s inner at opened) (Past (at + 1))
+unfolding grouped Forward
+grouped-on s inner at opened h =
+    if-given _ _ _ (not (is "?" (byte s (at + 1)))) (capturing-on s inner at opened _ (unfold Forward in h) (omega arith))
+    (if-given _ _ _ (is ":" (byte s (at + 2)))
+    (then-given (Past (at + 3)) (Past (at + 1)) (inner at (sound opened (at + 3))) _ (h at (at + 3) (sound opened (at + 3)) (omega arith)) (λ r p l. closing-on s at (r .0) (r .1) p (at + 1) (omega arith)))
+    (if-given _ _ _ (is "<" (byte s (at + 2))) (capturing-on s inner at opened _ (unfold Forward in h) (fresh-on at opened _ (at + 1) (nameUpTo-on ">" s at (at + 3) (at + 1) (omega arith)))) tt))
+
+nextItem-on : (s : List ℕ) (flags : ℕ) (known : Names) (inner : Inner) (q : Sequence) (opened : Names) (at : ℕ) → Forward inner → Given (nextItem s flags known inner q opened at) (Past (at + 1))
 unfolding nextItem
-nextItem-on s flags inner q opened at h = if-given _ _ _ (is "(" (byte s at))
+nextItem-on s flags known inner q opened at h = if-given _ _ _ (is "(" (byte s at))
     (then-given (Past (at + 1)) (Past (at + 1)) (grouped s inner at opened) _ (grouped-on s inner at opened h) (λ r p l. l))
-    (then-given (Past (at + 1)) (Past (at + 1)) (atom s flags opened at) _ (atom-on s flags opened at) (λ i p l. l))
+    (then-given (Past (at + 1)) (Past (at + 1)) (atom s flags known (length opened) at) _ (atom-on s flags known (length opened) at) (λ i p l. l))
 
 unfitFor-on : (q : Sequence) (at n : ℕ) → Given (unfitFor q at) (Past n)
 unfolding unfitFor
@@ -292,48 +321,49 @@ unfitFor-on (unrepeatable t) at n = tt
 unfitFor-on (repeatable b l) at n = tt
 unfitFor-on (repeated t) at n = tt
 
-repeating-on : (q : Sequence) (at n : ℕ) (m : Most) (g : Greed) (opened next p : ℕ) → p ≤ next → Given (repeating q at n m g opened next) (Past p)
+repeating-on : (q : Sequence) (at n : ℕ) (m : Most) (g : Greed) (opened : Names) (next p : ℕ) → p ≤ next → Given (repeating q at n m g opened next) (Past p)
 unfolding repeating
 repeating-on (unrepeatable t) at n m g opened next p h = tt
 repeating-on (repeatable b l) at n m g opened next p h = h
 repeating-on (repeated t) at n m g opened next p h = tt
 
-part-by : (s : List ℕ) (flags : ℕ) (inner : Inner) (q : Sequence) (opened at : ℕ) (x : Quantifier) → Forward inner → Holding x (Bounded (at + 1)) → Given (part s flags inner q opened at x) (Past (at + 1))
+part-by : (s : List ℕ) (flags : ℕ) (known : Names) (inner : Inner) (q : Sequence) (opened : Names) (at : ℕ) (x : Quantifier) → Forward inner → Holding x (Bounded (at + 1)) → Given (part s flags known inner q opened at x) (Past (at + 1))
 unfolding part
-part-by s flags inner q opened at Absent h k = nextItem-on s flags inner q opened at h
-part-by s flags inner q opened at Stray h k = tt
-part-by s flags inner q opened at Unfit h k = unfitFor-on q at (at + 1)
-part-by s flags inner q opened at (Times n m g next) h k = repeating-on q at n m g opened next (at + 1) (k .1)
+part-by s flags known inner q opened at Absent h k = nextItem-on s flags known inner q opened at h
+part-by s flags known inner q opened at Stray h k = tt
+part-by s flags known inner q opened at Unfit h k = unfitFor-on q at (at + 1)
+part-by s flags known inner q opened at (Times n m g next) h k = repeating-on q at n m g opened next (at + 1) (k .1)
 
-pub part-on : (s : List ℕ) (flags : ℕ) (inner : Inner) (q : Sequence) (opened at : ℕ) → Forward inner → Given (part s flags inner q opened at (quantifier s at)) (Past (at + 1))
-part-on s flags inner q opened at h = part-by s flags inner q opened at (quantifier s at) h (quantifier-on s at)
+pub part-on : (s : List ℕ) (flags : ℕ) (known : Names) (inner : Inner) (q : Sequence) (opened : Names) (at : ℕ) → Forward inner → Given (part s flags known inner q opened at (quantifier s at)) (Past (at + 1))
+part-on s flags known inner q opened at h = part-by s flags known inner q opened at (quantifier s at) h (quantifier-on s at)
 
-pub sequence-on : (f : ℕ) (s : List ℕ) (flags : ℕ) (inner : Inner) (q : Sequence) (opened at n : ℕ) → Forward inner → n ≤ at → Given (sequence f s flags inner q opened at) (Past n)
+pub sequence-on : (f : ℕ) (s : List ℕ) (flags : ℕ) (known : Names) (inner : Inner) (q : Sequence) (opened : Names) (at n : ℕ) → Forward inner → n ≤ at → Given (sequence f s flags known inner q opened at) (Past n)
 unfolding sequence
-sequence-on zero s flags inner q opened at n h l = l
-sequence-on (suc f) s flags inner q opened start n h l =
+sequence-on zero s flags known inner q opened at n h l = l
+sequence-on (suc f) s flags known inner q opened start n h l =
     let at = behindBlanks s flags start in
     let on : n ≤ at = omega (arith, blanks-on s flags start) in
     if-given _ _ _ (ends (byte s at)) on
-    (then-given (Past (at + 1)) (Past n) (part s flags inner q opened at (quantifier s at)) _ (part-on s flags inner q opened at h) (λ r p k. sequence-on f s flags inner (r .0) (r .1) p n h (omega arith)))
+    (then-given (Past (at + 1)) (Past n) (part s flags known inner q opened at (quantifier s at)) _ (part-on s flags known inner q opened at h) (λ r p k. sequence-on f s flags known inner (r .0) (r .1) p n h (omega arith)))
 
-pub branch-on : (s : List ℕ) (flags : ℕ) (inner : Inner) (opened at : ℕ) → Forward inner → Given (branch s flags inner opened at) (Past at)
+pub branch-on : (s : List ℕ) (flags : ℕ) (known : Names) (inner : Inner) (opened : Names) (at : ℕ) → Forward inner → Given (branch s flags known inner opened at) (Past at)
 unfolding branch
-branch-on s flags inner opened at h = sequence-on (length s) s flags inner (unrepeatable empty) opened at at h (omega arith)
+branch-on s flags known inner opened at h = sequence-on (length s) s flags known inner (unrepeatable empty) opened at at h (omega arith)
 
-further-on : (f : ℕ) (s : List ℕ) (flags : ℕ) (inner : Inner) (bs : Branches) (opened at n : ℕ) → Forward inner → n ≤ at → Given (further f s flags inner bs opened at) (Past n)
+further-on : (f : ℕ) (s : List ℕ) (flags : ℕ) (known : Names) (inner : Inner) (bs : Branches) (opened : Names) (at n : ℕ) → Forward inner → n ≤ at → Given (further f s flags known inner bs opened at) (Past n)
 unfolding further
-further-on zero s flags inner bs opened at n h l = l
-further-on (suc f) s flags inner bs opened at n h l = if-given _ _ _ (is "|" (byte s at))
-    (then-given (Past (at + 1)) (Past n) (branch s flags inner opened (at + 1)) _ (branch-on s flags inner opened (at + 1) h) (λ r p k. further-on f s flags inner (also bs (r .0)) (r .1) p n h (omega arith)))
+further-on zero s flags known inner bs opened at n h l = l
+further-on (suc f) s flags known inner bs opened at n h l = if-given _ _ _ (is "|" (byte s at))
+    (then-given (Past (at + 1)) (Past n) (branch s flags known inner opened (at + 1)) _ (branch-on s flags known inner opened (at + 1) h) (λ r p k. further-on f s flags known inner (also bs (r .0)) (r .1) p n h (omega arith)))
     l
 
-alternation-on : (s : List ℕ) (flags : ℕ) (inner : Inner) (opened at : ℕ) → Forward inner → Given (alternation s flags inner opened at) (Past at)
+alternation-on : (s : List ℕ) (flags : ℕ) (known : Names) (inner : Inner) (opened : Names) (at : ℕ) → Forward inner → Given (alternation s flags known inner opened at) (Past at)
 unfolding alternation
-alternation-on s flags inner opened at h = then-given (Past at) (Past at) (branch s flags inner opened at) _ (branch-on s flags inner opened at h) (λ r p l. further-on (length s) s flags inner (one (r .0)) (r .1) p at h l)
+alternation-on s flags known inner opened at h = then-given (Past at) (Past at) (branch s flags known inner opened at) _ (branch-on s flags known inner opened at h) (λ r p l. further-on (length s) s flags known inner (one (r .0)) (r .1) p at h l)
 
 -- the inside of a group ends behind its beginning
-pub inside-on : (d : ℕ) (s : List ℕ) (flags : ℕ) → Forward (inside d s flags)
+pub inside-on : (d : ℕ) (s : List ℕ) (flags : ℕ) (known : Names) → Forward (inside d s flags known)
 unfolding inside Forward
-inside-on zero s flags opening at opened = tt
-inside-on (suc d) s flags opening at opened = alternation-on s flags (inside d s flags) opened at (inside-on d s flags)
+inside-on zero s flags known opening n head g = tt
+inside-on (suc d) s flags known opening n head g = then-given (Past n) (Past n) head _ g (λ opened at l.
+    given-less (Past at) (Past n) (alternation s flags known (inside d s flags known) opened at) (alternation-on s flags known (inside d s flags known) opened at (inside-on d s flags known)) (λ r p k. omega arith))

@@ -12,6 +12,7 @@ use Rattle.syntax.specs.Sets.{Member}
 use Rattle.syntax.specs.Tree.{Branches, also, alternatives}
 use Rattle.syntax.specs.Classes.{element, member, members}
 use Rattle.syntax.specs.Quantifiers.{quantifier}
+use Rattle.syntax.specs.Names.{Names}
 use Rattle.syntax.specs.Grammar.{behindBlanks, Inner, Sequence, whole, part, ends, sequence, branch, further}
 use Rattle.syntax.specs.Laws.Blanks.{blanks-on, blanks-past}
 use Rattle.syntax.specs.Laws.Forward.{Given, Past, Forward, member-on, part-on, branch-on}
@@ -60,40 +61,40 @@ members-fuel (suc f) (suc k) s from first before at l m =
 
 -- Sequences ------------------------------------------------------------------
 
-sequence-past : (f : ℕ) (s : List ℕ) (flags : ℕ) (inner : Inner) (q : Sequence) (opened at : ℕ) → length s ≤ at → sequence f s flags inner q opened at ≡ sound (whole q, opened) at
+sequence-past : (f : ℕ) (s : List ℕ) (flags : ℕ) (known : Names) (inner : Inner) (q : Sequence) (opened : Names) (at : ℕ) → length s ≤ at → sequence f s flags known inner q opened at ≡ sound (whole q, opened) at
 unfolding sequence ends isEnd
-sequence-past zero s flags inner q opened at h = refl
-sequence-past (suc f) s flags inner q opened at h = rw (blanks-past s flags at h, byte-past s at h)
+sequence-past zero s flags known inner q opened at h = refl
+sequence-past (suc f) s flags known inner q opened at h = rw (blanks-past s flags at h, byte-past s at h)
 
-pub sequence-fuel : (f k : ℕ) (s : List ℕ) (flags : ℕ) (inner : Inner) (q : Sequence) (opened at : ℕ) → Forward inner → length s - at ≤ f → length s - at ≤ k
-    → sequence f s flags inner q opened at ≡ sequence k s flags inner q opened at
+pub sequence-fuel : (f k : ℕ) (s : List ℕ) (flags : ℕ) (known : Names) (inner : Inner) (q : Sequence) (opened : Names) (at : ℕ) → Forward inner → length s - at ≤ f → length s - at ≤ k
+    → sequence f s flags known inner q opened at ≡ sequence k s flags known inner q opened at
 unfolding sequence
-sequence-fuel zero k s flags inner q opened at h l m = sym (sequence-past k s flags inner q opened at (omega arith))
-sequence-fuel (suc f) zero s flags inner q opened at h l m = sequence-past (suc f) s flags inner q opened at (omega arith)
-sequence-fuel (suc f) (suc k) s flags inner q opened start h l m =
+sequence-fuel zero k s flags known inner q opened at h l m = sym (sequence-past k s flags known inner q opened at (omega arith))
+sequence-fuel (suc f) zero s flags known inner q opened at h l m = sequence-past (suc f) s flags known inner q opened at (omega arith)
+sequence-fuel (suc f) (suc k) s flags known inner q opened start h l m =
     let at = behindBlanks s flags start in
     let on = blanks-on s flags start in
     else-same (ends (byte s at)) _ _ _
-    (then-same (Past (at + 1)) (part s flags inner q opened at (quantifier s at)) _ _ (part-on s flags inner q opened at h) (λ r p n. sequence-fuel f k s flags inner (r .0) (r .1) p h (omega arith) (omega arith)))
+    (then-same (Past (at + 1)) (part s flags known inner q opened at (quantifier s at)) _ _ (part-on s flags known inner q opened at h) (λ r p n. sequence-fuel f k s flags known inner (r .0) (r .1) p h (omega arith) (omega arith)))
 
 -- Alternations ---------------------------------------------------------------
 
-further-past : (f : ℕ) (s : List ℕ) (flags : ℕ) (inner : Inner) (bs : Branches) (opened at : ℕ) → length s ≤ at → further f s flags inner bs opened at ≡ sound (alternatives bs, opened) at
+further-past : (f : ℕ) (s : List ℕ) (flags : ℕ) (known : Names) (inner : Inner) (bs : Branches) (opened : Names) (at : ℕ) → length s ≤ at → further f s flags known inner bs opened at ≡ sound (alternatives bs, opened) at
 unfolding further
-further-past zero s flags inner bs opened at h = refl
-further-past (suc f) s flags inner bs opened at h = rw (byte-past s at h)
+further-past zero s flags known inner bs opened at h = refl
+further-past (suc f) s flags known inner bs opened at h = rw (byte-past s at h)
 
 bar-in : (s : List ℕ) (at : ℕ) → is "|" (byte s at) ≡ true → at < length s
 bar-in s at e = let h : byte s at ≡ 124 = eqb-true (byte s at) 124 e in byte-in s at (omega arith)
 
-pub further-fuel : (f k : ℕ) (s : List ℕ) (flags : ℕ) (inner : Inner) (bs : Branches) (opened at : ℕ) → Forward inner → length s - at ≤ f → length s - at ≤ k
-    → further f s flags inner bs opened at ≡ further k s flags inner bs opened at
+pub further-fuel : (f k : ℕ) (s : List ℕ) (flags : ℕ) (known : Names) (inner : Inner) (bs : Branches) (opened : Names) (at : ℕ) → Forward inner → length s - at ≤ f → length s - at ≤ k
+    → further f s flags known inner bs opened at ≡ further k s flags known inner bs opened at
 unfolding further
-further-fuel zero k s flags inner bs opened at h l m = sym (further-past k s flags inner bs opened at (omega arith))
-further-fuel (suc f) zero s flags inner bs opened at h l m = further-past (suc f) s flags inner bs opened at (omega arith)
-further-fuel (suc f) (suc k) s flags inner bs opened at h l m =
+further-fuel zero k s flags known inner bs opened at h l m = sym (further-past k s flags known inner bs opened at (omega arith))
+further-fuel (suc f) zero s flags known inner bs opened at h l m = further-past (suc f) s flags known inner bs opened at (omega arith)
+further-fuel (suc f) (suc k) s flags known inner bs opened at h l m =
     if-same (is "|" (byte s at)) _ _ _ (λ e. let i = bar-in s at e in
-    then-same (Past (at + 1)) (branch s flags inner opened (at + 1)) _ _ (branch-on s flags inner opened (at + 1) h) (λ r p n. further-fuel f k s flags inner (also bs (r .0)) (r .1) p h (omega arith) (omega arith)))
+    then-same (Past (at + 1)) (branch s flags known inner opened (at + 1)) _ _ (branch-on s flags known inner opened (at + 1) h) (λ r p n. further-fuel f k s flags known inner (also bs (r .0)) (r .1) p h (omega arith) (omega arith)))
 
 -- The loops' equations, with no number that falls ---------------------------------
 
@@ -102,14 +103,14 @@ pub members-turn : (s : List ℕ) (from : ℕ) (first : Bool) (before : List Mem
 unfolding members
 members-turn s from first before at = members-fuel (length s) (suc (length s)) s from first before at (omega arith) (omega arith)
 
-pub sequence-turn : (s : List ℕ) (flags : ℕ) (inner : Inner) (q : Sequence) (opened start : ℕ) → Forward inner →
+pub sequence-turn : (s : List ℕ) (flags : ℕ) (known : Names) (inner : Inner) (q : Sequence) (opened : Names) (start : ℕ) → Forward inner →
     let at = behindBlanks s flags start in
-    sequence (length s) s flags inner q opened start
-    ≡ (if ends (byte s at) then sound (whole q, opened) at else andThen (part s flags inner q opened at (quantifier s at)) (λ r next. sequence (length s) s flags inner (r .0) (r .1) next))
+    sequence (length s) s flags known inner q opened start
+    ≡ (if ends (byte s at) then sound (whole q, opened) at else andThen (part s flags known inner q opened at (quantifier s at)) (λ r next. sequence (length s) s flags known inner (r .0) (r .1) next))
 unfolding sequence
-sequence-turn s flags inner q opened start h = sequence-fuel (length s) (suc (length s)) s flags inner q opened start h (omega arith) (omega arith)
+sequence-turn s flags known inner q opened start h = sequence-fuel (length s) (suc (length s)) s flags known inner q opened start h (omega arith) (omega arith)
 
-pub further-turn : (s : List ℕ) (flags : ℕ) (inner : Inner) (bs : Branches) (opened at : ℕ) → Forward inner → further (length s) s flags inner bs opened at
-    ≡ (if is "|" (byte s at) then andThen (branch s flags inner opened (at + 1)) (λ r next. further (length s) s flags inner (also bs (r .0)) (r .1) next) else sound (alternatives bs, opened) at)
+pub further-turn : (s : List ℕ) (flags : ℕ) (known : Names) (inner : Inner) (bs : Branches) (opened : Names) (at : ℕ) → Forward inner → further (length s) s flags known inner bs opened at
+    ≡ (if is "|" (byte s at) then andThen (branch s flags known inner opened (at + 1)) (λ r next. further (length s) s flags known inner (also bs (r .0)) (r .1) next) else sound (alternatives bs, opened) at)
 unfolding further
-further-turn s flags inner bs opened at h = further-fuel (length s) (suc (length s)) s flags inner bs opened at h (omega arith) (omega arith)
+further-turn s flags known inner bs opened at h = further-fuel (length s) (suc (length s)) s flags known inner bs opened at h (omega arith) (omega arith)

@@ -4,6 +4,7 @@ use mathlib.Core.Path.{_≡_, refl, sym}
 use mathlib.Core.List.{List, [], _∷_}
 use mathlib.Core.Bool.{Bool, true, false, not, _&&_, _||_}
 use mathlib.Core.Option.{Option, none, some}
+use Prim.Native.Char.{Char}
 use Prim.Native.Nat.{ℕ, zero, suc, _+_, _≤_, _<_}
 use native.Mathlib.Omega.{arith}
 use lib.ListN.{length, take}
@@ -21,13 +22,15 @@ use Rattle.syntax.specs.Read.{if_then_else_, byte, isEnd, is, between, R
 use Rattle.syntax.specs.Sets.{setNamed, Member, single}
 use Rattle.syntax.specs.Tree.{Item, byteIn, assert, reference, Rule, empty, item, seq, alt, group, repeat, Branches, one, also, alternatives}
 use Rattle.syntax.specs.Numbers.{digits, value, isNone}
-use Rattle.syntax.specs.Escapes.{Meaning, _means_, meanings, byteOf, braced, hex, bracedOctal, octal, control, letter, common, classEscape, decimal, signed, groupNumber, escape}
+use Rattle.syntax.specs.Names.{Name, Names, wordAt, isName, nameUpTo, isUsed, fresh}
+use Rattle.syntax.specs.Flags.{ignoreCase}
+use Rattle.syntax.specs.Escapes.{called, callsByName, Meaning, _means_, meanings, byteOf, braced, hex, bracedOctal, octal, control, letter, common, classEscape, decimal, signed, groupNumber, escape}
 use Rattle.syntax.specs.Classes.{letters, posixMember, posixName, posix, element, rangeEnd, rangeOf, makesRange, member, members, class}
 use Rattle.syntax.specs.Quantifiers.{quantifier}
-use Rattle.syntax.specs.Grammar.{ignoreCase, behindBlanks, atom, Inner, closing, capturing, grouped, Sequence, unrepeatable, repeatable, repeated, whole, withItem, unfitFor, repeating, nextItem, part, ends, sequence, branch, further, alternation, inside}
-use Rattle.syntax.specs.Reading.{parsed, firstOf, dangling, unresolved, unresolvedIn, resolved, reading}
+use Rattle.syntax.specs.Grammar.{behindBlanks, atom, Inner, closing, capturing, grouped, Sequence, unrepeatable, repeatable, repeated, whole, withItem, unfitFor, repeating, nextItem, part, ends, sequence, branch, further, alternation, inside}
+use Rattle.syntax.specs.Reading.{parsed, namesOf, firstOf, dangling, unresolved, unresolvedIn, resolved, reading}
 use Rattle.syntax.specs.Laws.Forward.{Given, if-given, test-given, then-given}
-use Rattle.syntax.specs.Laws.Within.{Upto, Inward, not-end, is-in, quantifier-in, part-by, ends-false, branch-in, alternation-in, inside-in}
+use Rattle.syntax.specs.Laws.Within.{nameUpTo-in, Upto, Inward, not-end, is-in, quantifier-in, part-by, ends-false, branch-in, alternation-in, inside-in}
 
 -- if a reading is refused, its place is n at most
 abbrev pub Placed : {A : Type 0} → ℕ → Read A → Type 0
@@ -122,9 +125,19 @@ module _ (n at : ℕ) (h : at ≤ n) where
       (on-placed n (signed s opened at (at + 3)) _ (signed-placed s opened (at + 3)) (λ x p. if-placed n _ _ (is "}" (byte s p)) tt h))
       (signed-placed s opened (at + 2))
 
-  escape-placed : (s : List ℕ) (folded : Bool) (opened : ℕ) → Placed n (escape s folded opened at)
+  nameUpTo-placed : (closer : Char) (s : List ℕ) (start : ℕ) → Placed n (nameUpTo closer s at start)
+  unfolding nameUpTo
+  nameUpTo-placed closer s start = let w = wordAt s start in if-placed n _ _ (isName w && is closer (byte s (start + length w))) tt h
+
+  called-placed : (s : List ℕ) → Placed n (called s at)
+  unfolding called
+  called-placed s =
+      let b = byte s (at + 2) in
+      if-placed n _ _ (is "{" b) (nameUpTo-placed "}" s (at + 3)) (if-placed n _ _ (is "<" b) (nameUpTo-placed ">" s (at + 3)) (if-placed n _ _ (is "'" b) (nameUpTo-placed "'" s (at + 3)) h))
+
+  escape-placed : (s : List ℕ) (folded : Bool) (known : Names) (opened : ℕ) → Placed n (escape s folded known opened at)
   unfolding escape
-  escape-placed s folded opened =
+  escape-placed s folded known opened =
       let b = byte s (at + 1) in
       if-placed n _ _ (is "N" b) tt
       (if-placed n _ _ (is "A" b) tt
@@ -134,8 +147,10 @@ module _ (n at : ℕ) (h : at ≤ n) where
       (if-placed n _ _ (is "B" b) tt
       (if-placed n _ _ (is "0" b) (on-placed n (octal s at) _ (octal-placed s) (λ x p. tt))
       (if-placed n _ _ (between "1" "9" b) (on-placed n (decimal s at (at + 1)) _ (decimal-placed s (at + 1)) (λ x p. tt))
+      (if-placed n _ _ (is "k" b) (on-placed n (called s at) _ (called-placed s) (λ x p. tt))
+      (if-placed n _ _ (is "g" b && callsByName s at) (on-placed n (nameUpTo "}" s at (at + 3)) _ (nameUpTo-placed "}" s (at + 3)) (λ x p. tt))
       (if-placed n _ _ (is "g" b) (on-placed n (groupNumber s opened at) _ (groupNumber-placed s opened) (λ x p. tt))
-      (on-placed n (common s at) _ (common-placed s) (λ x p. tt))))))))))
+      (on-placed n (common s at) _ (common-placed s) (λ x p. tt))))))))))))
 
   posixMember-placed : (negated : Bool) (o : Option Named) (next : ℕ) → Placed n (posixMember at negated o next)
   unfolding posixMember
@@ -212,7 +227,7 @@ abbrev mutual
   BranchesIn n (also bs b) = BranchesIn n bs × ItemsIn n b
 
 -- what the grammar's parts give: a tree with its items in place, or a sequence of such
-abbrev Treed : ℕ → Rule × ℕ → ℕ → Type 0
+abbrev Treed : ℕ → Rule × Names → ℕ → Type 0
 Treed n r p = ItemsIn n (r .0)
 
 unfoldable SequenceIn : ℕ → Sequence → Type 0
@@ -220,7 +235,7 @@ SequenceIn n (unrepeatable t) = ItemsIn n t
 SequenceIn n (repeatable t l) = ItemsIn n t × ItemsIn n l
 SequenceIn n (repeated t) = ItemsIn n t
 
-abbrev Sequenced : ℕ → Sequence × ℕ → ℕ → Type 0
+abbrev Sequenced : ℕ → Sequence × Names → ℕ → Type 0
 Sequenced n r p = SequenceIn n (r .0)
 
 whole-in : (n : ℕ) (q : Sequence) → SequenceIn n q → ItemsIn n (whole q)
@@ -263,41 +278,52 @@ well-on n P R a k g h = well-then n P P R a k g (g .1) (λ x p f e. h x p f)
 
 module _ (s : List ℕ) where
   unfoldable InnerWell : Inner → Type 0
-  InnerWell inner = (opening at opened : ℕ) → opening ≤ length s → at ≤ length s → Well (length s) (Treed (length s)) (inner opening at opened)
+  InnerWell inner = (opening : ℕ) (head : Read Names) → opening ≤ length s → Well (length s) (Upto s) head → Well (length s) (Treed (length s)) (inner opening head)
 
-  atom-placed : (flags opened at : ℕ) → at ≤ length s → Placed (length s) (atom s flags opened at)
+  atom-placed : (flags : ℕ) (known : Names) (opened at : ℕ) → at ≤ length s → Placed (length s) (atom s flags known opened at)
   unfolding atom
-  atom-placed flags opened at h =
+  atom-placed flags known opened at h =
       let b = byte s at in
-      if-placed (length s) _ _ (is "\\" b) (escape-placed (length s) at h s (ignoreCase flags) opened)
+      if-placed (length s) _ _ (is "\\" b) (escape-placed (length s) at h s (ignoreCase flags) known opened)
       (if-placed (length s) _ _ (is "[" b) (on-placed (length s) (class s at) _ (class-placed s at h) (λ c p. tt))
       (if-placed (length s) _ _ (is "." b) tt (if-placed (length s) _ _ (is "^" b) tt (if-placed (length s) _ _ (is "$" b) tt tt))))
 
-  closing-well : (opening : ℕ) (t : Rule) (opened at : ℕ) → opening ≤ length s → ItemsIn (length s) t → Well (length s) (Treed (length s)) (closing s opening t opened at)
+  closing-well : (opening : ℕ) (t : Rule) (opened : Names) (at : ℕ) → opening ≤ length s → ItemsIn (length s) t → Well (length s) (Treed (length s)) (closing s opening t opened at)
   unfolding closing
   closing-well opening t opened at h l = well-if (length s) _ _ _ (is ")" (byte s at)) (tt, l) (h, tt)
 
-  grouped-well : (inner : Inner) (at opened : ℕ) → InnerWell inner → at < length s → Well (length s) (Treed (length s)) (grouped s inner at opened)
-  unfolding grouped capturing InnerWell
+  -- the reading of a name, whose refusals have the opening's place
+  fresh-well : (opening : ℕ) (opened : Names) → opening ≤ length s → Well (length s) (Upto s) (fresh opening opened (nameUpTo ">" s opening (opening + 3)))
+  unfolding fresh
+  fresh-well opening opened h = well-on (length s) (Upto s) (Upto s) (nameUpTo ">" s opening (opening + 3)) _ (nameUpTo-placed (length s) opening h ">" s (opening + 3), nameUpTo-in ">" s opening (opening + 3) (omega arith))
+      (λ n p l. well-if (length s) _ _ _ (isUsed n opened) (h, tt) (tt, l))
+
+  capturing-well : (inner : Inner) (at : ℕ) (opened : Names) (name : Read Name) → InnerWell inner → at ≤ length s → Well (length s) (Upto s) name → Well (length s) (Treed (length s)) (capturing s inner at opened name)
+  unfolding capturing InnerWell
+  capturing-well inner at opened name h k g =
+      let n = length s in
+      well-if n _ _ _ (ltb (length opened) groupLimit)
+      (well-on n (Treed n) (Treed n) (inner at (andThen name (λ x p. sound (x ∷ opened) p))) _ (h at _ k (well-on n (Upto s) (Upto s) name _ g (λ x p l. (tt, l)))) (λ r p t. closing-well at (group (suc (length opened)) (r .0)) (r .1) p k t))
+      (k, tt)
+
+  grouped-well : (inner : Inner) (at : ℕ) (opened : Names) → InnerWell inner → at < length s → Well (length s) (Treed (length s)) (grouped s inner at opened)
+  unfolding grouped InnerWell
   grouped-well inner at opened h l =
       let n = length s in
       let k : at ≤ length s = omega arith in
-      well-if n _ _ _ (not (is "?" (byte s (at + 1))))
-      (well-if n _ _ _ (ltb opened groupLimit)
-      (well-on n (Treed n) (Treed n) (inner at (at + 1) (opened + 1)) _ (h at (at + 1) (opened + 1) k (omega arith)) (λ r p t. closing-well at (group (opened + 1) (r .0)) (r .1) p k t))
-      (k, tt))
+      well-if n _ _ _ (not (is "?" (byte s (at + 1)))) (capturing-well inner at opened (sound [] (at + 1)) (unfold InnerWell in h) k (tt, omega arith))
       (well-test n _ _ _ (is ":" (byte s (at + 2)))
-      (λ e. let i = is-in s (at + 2) 58 (omega arith) e in well-on n (Treed n) (Treed n) (inner at (at + 3) opened) _ (h at (at + 3) opened k (omega arith)) (λ r p t. closing-well at (r .0) (r .1) p k t))
-      (λ e. (k, tt)))
+      (λ e. let i = is-in s (at + 2) 58 (omega arith) e in well-on n (Treed n) (Treed n) (inner at (sound opened (at + 3))) _ (h at (sound opened (at + 3)) k (tt, omega arith)) (λ r p t. closing-well at (r .0) (r .1) p k t))
+      (λ e. well-if n _ _ _ (is "<" (byte s (at + 2))) (capturing-well inner at opened _ (unfold InnerWell in h) k (fresh-well at opened k)) (k, tt)))
 
-  nextItem-well : (flags : ℕ) (inner : Inner) (q : Sequence) (opened at : ℕ) → InnerWell inner → at < length s → SequenceIn (length s) q → Well (length s) (Sequenced (length s)) (nextItem s flags inner q opened at)
+  nextItem-well : (flags : ℕ) (known : Names) (inner : Inner) (q : Sequence) (opened : Names) (at : ℕ) → InnerWell inner → at < length s → SequenceIn (length s) q → Well (length s) (Sequenced (length s)) (nextItem s flags known inner q opened at)
   unfolding nextItem SequenceIn
-  nextItem-well flags inner q opened at h l g =
+  nextItem-well flags known inner q opened at h l g =
       let n = length s in
       let k : at ≤ length s = omega arith in
       well-if n _ _ _ (is "(" (byte s at))
       (well-on n (Treed n) (Sequenced n) (grouped s inner at opened) _ (grouped-well inner at opened h l) (λ r p t. (tt, (whole-in n q g, t))))
-      (well-on n (λ i p. Unit) (Sequenced n) (atom s flags opened at) _ (atom-placed flags opened at k, any-given (atom s flags opened at) Unit tt) (λ i p u. (tt, withItem-in n q at i g k)))
+      (well-on n (λ i p. Unit) (Sequenced n) (atom s flags known (length opened) at) _ (atom-placed flags known (length opened) at k, any-given (atom s flags known (length opened) at) Unit tt) (λ i p u. (tt, withItem-in n q at i g k)))
 
   unfitFor-placed : (q : Sequence) (at : ℕ) → at ≤ length s → Well (length s) (Sequenced (length s)) (unfitFor q at)
   unfolding unfitFor
@@ -305,57 +331,57 @@ module _ (s : List ℕ) where
   unfitFor-placed (repeatable b l) at h = (h, tt)
   unfitFor-placed (repeated t) at h = (h, tt)
 
-  repeating-well : (q : Sequence) (at n : ℕ) (m : Most) (g : Greed) (opened next : ℕ) → at ≤ length s → SequenceIn (length s) q → Well (length s) (Sequenced (length s)) (repeating q at n m g opened next)
+  repeating-well : (q : Sequence) (at n : ℕ) (m : Most) (g : Greed) (opened : Names) (next : ℕ) → at ≤ length s → SequenceIn (length s) q → Well (length s) (Sequenced (length s)) (repeating q at n m g opened next)
   unfolding repeating SequenceIn
   repeating-well (unrepeatable t) at n m g opened next h k = (h, tt)
   repeating-well (repeatable b l) at n m g opened next h k = (tt, k)
   repeating-well (repeated t) at n m g opened next h k = (h, tt)
 
-  part-well : (flags : ℕ) (inner : Inner) (q : Sequence) (opened at : ℕ) (x : Quantifier) → InnerWell inner → at < length s → SequenceIn (length s) q → Well (length s) (Sequenced (length s)) (part s flags inner q opened at x)
+  part-well : (flags : ℕ) (known : Names) (inner : Inner) (q : Sequence) (opened : Names) (at : ℕ) (x : Quantifier) → InnerWell inner → at < length s → SequenceIn (length s) q → Well (length s) (Sequenced (length s)) (part s flags known inner q opened at x)
   unfolding part
-  part-well flags inner q opened at Absent h l g = nextItem-well flags inner q opened at h l g
-  part-well flags inner q opened at Stray h l g = (omega arith, tt)
-  part-well flags inner q opened at Unfit h l g = unfitFor-placed q at (omega arith)
-  part-well flags inner q opened at (Times n m d next) h l g = repeating-well q at n m d opened next (omega arith) g
+  part-well flags known inner q opened at Absent h l g = nextItem-well flags known inner q opened at h l g
+  part-well flags known inner q opened at Stray h l g = (omega arith, tt)
+  part-well flags known inner q opened at Unfit h l g = unfitFor-placed q at (omega arith)
+  part-well flags known inner q opened at (Times n m d next) h l g = repeating-well q at n m d opened next (omega arith) g
 
-  sequence-well : (f flags : ℕ) (inner : Inner) (q : Sequence) (opened at : ℕ) → InnerWell inner → Inward s inner → at ≤ length s → SequenceIn (length s) q → Well (length s) (Treed (length s)) (sequence f s flags inner q opened at)
+  sequence-well : (f flags : ℕ) (known : Names) (inner : Inner) (q : Sequence) (opened : Names) (at : ℕ) → InnerWell inner → Inward s inner → at ≤ length s → SequenceIn (length s) q → Well (length s) (Treed (length s)) (sequence f s flags known inner q opened at)
   unfolding sequence
-  sequence-well zero flags inner q opened at h i l g = (tt, whole-in (length s) q g)
-  sequence-well (suc f) flags inner q opened start h i l g =
+  sequence-well zero flags known inner q opened at h i l g = (tt, whole-in (length s) q g)
+  sequence-well (suc f) flags known inner q opened start h i l g =
       let at = behindBlanks s flags start in
       well-test (length s) _ _ _ (ends (byte s at)) (λ e. (tt, whole-in (length s) q g)) (λ e.
       let k = ends-false s at e in
-      well-then (length s) (Sequenced (length s)) (Upto s) (Treed (length s)) (part s flags inner q opened at (quantifier s at)) _ (part-well flags inner q opened at (quantifier s at) h k g) (part-by s flags inner q opened at (quantifier s at) i k (quantifier-in s at))
-      (λ r p t u. sequence-well f flags inner (r .0) (r .1) p h i u t))
+      well-then (length s) (Sequenced (length s)) (Upto s) (Treed (length s)) (part s flags known inner q opened at (quantifier s at)) _ (part-well flags known inner q opened at (quantifier s at) h k g) (part-by s flags known inner q opened at (quantifier s at) i k (quantifier-in s at))
+      (λ r p t u. sequence-well f flags known inner (r .0) (r .1) p h i u t))
 
-  branch-well : (flags : ℕ) (inner : Inner) (opened at : ℕ) → InnerWell inner → Inward s inner → at ≤ length s → Well (length s) (Treed (length s)) (branch s flags inner opened at)
+  branch-well : (flags : ℕ) (known : Names) (inner : Inner) (opened : Names) (at : ℕ) → InnerWell inner → Inward s inner → at ≤ length s → Well (length s) (Treed (length s)) (branch s flags known inner opened at)
   unfolding branch SequenceIn
-  branch-well flags inner opened at h i l = sequence-well (length s) flags inner (unrepeatable empty) opened at h i l tt
+  branch-well flags known inner opened at h i l = sequence-well (length s) flags known inner (unrepeatable empty) opened at h i l tt
 
-  further-well : (f flags : ℕ) (inner : Inner) (bs : Branches) (opened at : ℕ) → InnerWell inner → Inward s inner → BranchesIn (length s) bs → Well (length s) (Treed (length s)) (further f s flags inner bs opened at)
+  further-well : (f flags : ℕ) (known : Names) (inner : Inner) (bs : Branches) (opened : Names) (at : ℕ) → InnerWell inner → Inward s inner → BranchesIn (length s) bs → Well (length s) (Treed (length s)) (further f s flags known inner bs opened at)
   unfolding further
-  further-well zero flags inner bs opened at h i g = (tt, alternatives-in (length s) bs g)
-  further-well (suc f) flags inner bs opened at h i g = well-test (length s) _ _ _ (is "|" (byte s at))
+  further-well zero flags known inner bs opened at h i g = (tt, alternatives-in (length s) bs g)
+  further-well (suc f) flags known inner bs opened at h i g = well-test (length s) _ _ _ (is "|" (byte s at))
       (λ e. let k = is-in s at 124 (omega arith) e in
-      well-on (length s) (Treed (length s)) (Treed (length s)) (branch s flags inner opened (at + 1)) _ (branch-well flags inner opened (at + 1) h i (omega arith)) (λ r p t. further-well f flags inner (also bs (r .0)) (r .1) p h i (g, t)))
+      well-on (length s) (Treed (length s)) (Treed (length s)) (branch s flags known inner opened (at + 1)) _ (branch-well flags known inner opened (at + 1) h i (omega arith)) (λ r p t. further-well f flags known inner (also bs (r .0)) (r .1) p h i (g, t)))
       (λ e. (tt, alternatives-in (length s) bs g))
 
-  alternation-well : (flags : ℕ) (inner : Inner) (opened at : ℕ) → InnerWell inner → Inward s inner → at ≤ length s → Well (length s) (Treed (length s)) (alternation s flags inner opened at)
+  alternation-well : (flags : ℕ) (known : Names) (inner : Inner) (opened : Names) (at : ℕ) → InnerWell inner → Inward s inner → at ≤ length s → Well (length s) (Treed (length s)) (alternation s flags known inner opened at)
   unfolding alternation
-  alternation-well flags inner opened at h i l = well-on (length s) (Treed (length s)) (Treed (length s)) (branch s flags inner opened at) _ (branch-well flags inner opened at h i l) (λ r p t. further-well (length s) flags inner (one (r .0)) (r .1) p h i t)
+  alternation-well flags known inner opened at h i l = well-on (length s) (Treed (length s)) (Treed (length s)) (branch s flags known inner opened at) _ (branch-well flags known inner opened at h i l) (λ r p t. further-well (length s) flags known inner (one (r .0)) (r .1) p h i t)
 
-  inside-well : (d flags : ℕ) → InnerWell (inside d s flags)
+  inside-well : (d flags : ℕ) (known : Names) → InnerWell (inside d s flags known)
   unfolding inside InnerWell
-  inside-well zero flags opening at opened h l = (h, tt)
-  inside-well (suc d) flags opening at opened h l = alternation-well flags (inside d s flags) opened at (inside-well d flags) (inside-in d s flags) l
+  inside-well zero flags known opening head h g = (h, tt)
+  inside-well (suc d) flags known opening head h g = well-on (length s) (Upto s) (Treed (length s)) head _ g (λ opened at l. alternation-well flags known (inside d s flags known) opened at (inside-well d flags known) (inside-in d s flags known) l)
 
   -- The whole rule -----------------------------------------------------------------------
 
-  parsed-well : (flags : ℕ) → Well (length s) (Treed (length s)) (parsed s flags)
+  parsed-well : (flags : ℕ) (known : Names) → Well (length s) (Treed (length s)) (parsed s flags known)
   unfolding parsed
-  parsed-well flags =
-      let inner = inside nestingLimit s flags in
-      well-then (length s) (Treed (length s)) (Upto s) (Treed (length s)) (alternation s flags inner 0 0) _ (alternation-well flags inner 0 0 (inside-well nestingLimit flags) (inside-in nestingLimit s flags) (omega arith)) (alternation-in s flags inner 0 0 (inside-in nestingLimit s flags) (omega arith)) (λ r p t u. well-if (length s) _ _ _ (isEnd (byte s p)) (tt, t) (u, tt))
+  parsed-well flags known =
+      let inner = inside nestingLimit s flags known in
+      well-then (length s) (Treed (length s)) (Upto s) (Treed (length s)) (alternation s flags known inner [] 0) _ (alternation-well flags known inner [] 0 (inside-well nestingLimit flags known) (inside-in nestingLimit s flags known) (omega arith)) (alternation-in s flags known inner [] 0 (inside-in nestingLimit s flags known) (omega arith)) (λ r p t u. well-if (length s) _ _ _ (isEnd (byte s p)) (tt, t) (u, tt))
 
 -- a place that is found is n at most
 abbrev Found : ℕ → Option ℕ → Type 0
@@ -400,4 +426,5 @@ resolved-placed n r at (some p) h = h
 -- a refused rule's place is within the rule
 pub reading-placed : (s : List ℕ) (flags : ℕ) → Placed (length s) (reading s flags)
 unfolding reading
-reading-placed s flags = then-placed (length s) (Treed (length s)) (parsed s flags) _ (parsed-well s flags .0) (parsed-well s flags .1) (λ r p t. resolved-placed (length s) r p (unresolved (r .1) (r .0)) (unresolved-found (length s) (r .1) (r .0) t))
+reading-placed s flags = then-placed (length s) (Treed (length s)) (parsed s flags (namesOf s flags)) _ (parsed-well s flags (namesOf s flags) .0) (parsed-well s flags (namesOf s flags) .1)
+    (λ r p t. resolved-placed (length s) (r .0, length (r .1)) p (unresolved (length (r .1)) (r .0)) (unresolved-found (length s) (length (r .1)) (r .0) t))

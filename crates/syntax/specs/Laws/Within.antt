@@ -3,6 +3,7 @@ use mathlib.Core.Path.{_≡_, sym, _∙_}
 use mathlib.Core.List.{List, [], _∷_}
 use mathlib.Core.Bool.{Bool, true, false, not, _&&_, _||_}
 use mathlib.Core.Option.{Option, none, some}
+use Prim.Native.Char.{Char, code}
 use Prim.Native.Nat.{ℕ, zero, suc, _+_, _-_, _≤_, _<_}
 use native.Mathlib.Omega.{arith}
 use native.Mathlib.Decide.{decLt}
@@ -15,17 +16,19 @@ use Rattle.syntax.specs.declared.Most.the-variants.{AtMost, Unlimited}
 use Rattle.syntax.specs.declared.Quantifier.{Quantifier}
 use Rattle.syntax.specs.declared.Quantifier.the-variants.{Absent, Stray, Unfit, Times}
 use Rattle.syntax.specs.Limits.{groupLimit, boundLimit, byteLimit}
-use Rattle.syntax.specs.Read.{if_then_else_, byte, isEnd, is, between}
+use Rattle.syntax.specs.Read.{if_then_else_, byte, isEnd, is, between, Read, sound, andThen}
 use Rattle.charset.specs.declared.Named.{Named}
 use Rattle.charset.specs.declared.Named.the-variants.{Word}
 use Rattle.charset.specs.Named.{inNamed}
 use Rattle.syntax.specs.Sets.{setNamed, Member}
 use Rattle.syntax.specs.Tree.{Rule, empty, Branches, group, one, also}
 use Rattle.syntax.specs.Numbers.{run, isDigit, digits, value, isNone}
-use Rattle.syntax.specs.Escapes.{Meaning, _means_, meanings, byteOf, braced, hex, bracedOctal, octal, control, letter, common, classEscape, decimal, signed, groupNumber, escape}
+use Rattle.syntax.specs.Names.{Name, Names, wordAt, isName, nameUpTo, isUsed, fresh}
+use Rattle.syntax.specs.Flags.{ignoreCase}
+use Rattle.syntax.specs.Escapes.{called, callsByName, Meaning, _means_, meanings, byteOf, braced, hex, bracedOctal, octal, control, letter, common, classEscape, decimal, signed, groupNumber, escape}
 use Rattle.syntax.specs.Classes.{letters, posixMember, posixName, posix, element, rangeEnd, rangeOf, makesRange, member, members, class}
 use Rattle.syntax.specs.Quantifiers.{withGreed, atLeast, fromTo, upper, braces, quantifier}
-use Rattle.syntax.specs.Grammar.{ignoreCase, behindBlanks, atom, Inner, closing, capturing, grouped, Sequence, unrepeatable, repeatable, repeated, nextItem, unfitFor, repeating, part, ends, sequence, branch, further, alternation, inside}
+use Rattle.syntax.specs.Grammar.{behindBlanks, atom, Inner, closing, capturing, grouped, Sequence, unrepeatable, repeatable, repeated, nextItem, unfitFor, repeating, part, ends, sequence, branch, further, alternation, inside}
 use Rattle.syntax.specs.Laws.Blanks.{blanks-in}
 use Rattle.syntax.specs.Laws.Forward.{Given, if-given, test-given, then-given, Holding, if-holding, and-left, and-right}
 use Rattle.syntax.specs.Laws.Fuel.{byte-past, byte-in}
@@ -159,9 +162,24 @@ groupNumber-in s opened at h = test-given _ _ _ (is "{" (byte s (at + 2)))
     test-given _ _ _ (is "}" (byte s p)) (λ f. let j = is-in s p 125 (omega arith) f in omega arith) (λ f. tt)))
     (λ e. signed-in s opened at (at + 2) h)
 
-escape-in : (s : List ℕ) (folded : Bool) (opened at : ℕ) → at < length s → Given (escape s folded opened at) (Upto s)
+-- a name that is closed ends within the rule
+pub nameUpTo-in : (closer : Char) (s : List ℕ) (place at : ℕ) → code closer < 256 → Given (nameUpTo closer s place at) (Upto s)
+unfolding nameUpTo
+nameUpTo-in closer s place at l =
+    let n = wordAt s at in
+    test-given _ _ _ (isName n && is closer (byte s (at + length n)))
+    (λ e. let i = is-in s (at + length n) (code closer) l (and-right (isName n) (is closer (byte s (at + length n))) e) in omega arith) (λ e. tt)
+
+called-in : (s : List ℕ) (at : ℕ) → Given (called s at) (Upto s)
+unfolding called
+called-in s at =
+    let b = byte s (at + 2) in
+    if-given _ _ _ (is "{" b) (nameUpTo-in "}" s at (at + 3) (omega arith))
+    (if-given _ _ _ (is "<" b) (nameUpTo-in ">" s at (at + 3) (omega arith)) (if-given _ _ _ (is "'" b) (nameUpTo-in "'" s at (at + 3) (omega arith)) tt))
+
+escape-in : (s : List ℕ) (folded : Bool) (known : Names) (opened at : ℕ) → at < length s → Given (escape s folded known opened at) (Upto s)
 unfolding escape
-escape-in s folded opened at h =
+escape-in s folded known opened at h =
     let b = byte s (at + 1) in
     test-given _ _ _ (is "N" b) (λ e. let i = is-in s (at + 1) 78 (omega arith) e in omega arith) (λ e.
     test-given _ _ _ (is "A" b) (λ e. let i = is-in s (at + 1) 65 (omega arith) e in omega arith) (λ e.
@@ -171,8 +189,10 @@ escape-in s folded opened at h =
     test-given _ _ _ (is "B" b) (λ e. let i = is-in s (at + 1) 66 (omega arith) e in omega arith) (λ e.
     if-given _ _ _ (is "0" b) (then-given (Upto s) (Upto s) (octal s at) _ (octal-in s at h) (λ m p l. l))
     (if-given _ _ _ (between "1" "9" b) (then-given (Upto s) (Upto s) (decimal s at (at + 1)) _ (decimal-in s at (at + 1) (omega arith)) (λ m p l. l))
+    (if-given _ _ _ (is "k" b) (then-given (Upto s) (Upto s) (called s at) _ (called-in s at) (λ m p l. l))
+    (if-given _ _ _ (is "g" b && callsByName s at) (then-given (Upto s) (Upto s) (nameUpTo "}" s at (at + 3)) _ (nameUpTo-in "}" s at (at + 3) (omega arith)) (λ m p l. l))
     (test-given _ _ _ (is "g" b) (λ e. let i = is-in s (at + 1) 103 (omega arith) e in then-given (Upto s) (Upto s) (groupNumber s opened at) _ (groupNumber-in s opened at (omega arith)) (λ m p l. l)) (λ e.
-    then-given (Upto s) (Upto s) (common s at) _ (common-in s at) (λ m p l. l))))))))))
+    then-given (Upto s) (Upto s) (common s at) _ (common-in s at) (λ m p l. l))))))))))))
 
 -- Classes -------------------------------------------------------------------------
 
@@ -270,37 +290,45 @@ quantifier-in s at =
 -- Items, sequences and groups --------------------------------------------------------
 
 unfoldable pub Inward : List ℕ → Inner → Type 0
-Inward s inner = (opening at opened : ℕ) → at ≤ length s → Given (inner opening at opened) (Upto s)
+Inward s inner = (opening : ℕ) (head : Read Names) → Given head (Upto s) → Given (inner opening head) (Upto s)
 
-pub atom-in : (s : List ℕ) (flags opened at : ℕ) → at < length s → Given (atom s flags opened at) (Upto s)
+pub atom-in : (s : List ℕ) (flags : ℕ) (known : Names) (opened at : ℕ) → at < length s → Given (atom s flags known opened at) (Upto s)
 unfolding atom
-atom-in s flags opened at h =
+atom-in s flags known opened at h =
     let b = byte s at in
     let k : at + 1 ≤ length s = omega arith in
-    if-given _ _ _ (is "\\" b) (escape-in s (ignoreCase flags) opened at h)
+    if-given _ _ _ (is "\\" b) (escape-in s (ignoreCase flags) known opened at h)
     (if-given _ _ _ (is "[" b) (then-given (Upto s) (Upto s) (class s at) _ (class-in s at) (λ c p l. l))
     (if-given _ _ _ (is "." b) k (if-given _ _ _ (is "^" b) k (if-given _ _ _ (is "$" b) k k))))
 
-closing-in : (s : List ℕ) (opening : ℕ) (t : Rule) (opened at : ℕ) → Given (closing s opening t opened at) (Upto s)
+closing-in : (s : List ℕ) (opening : ℕ) (t : Rule) (opened : Names) (at : ℕ) → Given (closing s opening t opened at) (Upto s)
 unfolding closing
 closing-in s opening t opened at = test-given _ _ _ (is ")" (byte s at)) (λ e. let i = is-in s at 41 (omega arith) e in omega arith) (λ e. tt)
 
-grouped-in : (s : List ℕ) (inner : Inner) (at opened : ℕ) → Inward s inner → at < length s → Given (grouped s inner at opened) (Upto s)
-unfolding grouped capturing Inward
-grouped-in s inner at opened h l =
-    if-given _ _ _ (not (is "?" (byte s (at + 1))))
-    (if-given _ _ _ (ltb opened groupLimit)
-    (then-given (Upto s) (Upto s) (inner at (at + 1) (opened + 1)) _ (h at (at + 1) (opened + 1) (omega arith)) (λ r p m. closing-in s at (group (opened + 1) (r .0)) (r .1) p))
-    tt)
-    (test-given _ _ _ (is ":" (byte s (at + 2)))
-    (λ e. let i = is-in s (at + 2) 58 (omega arith) e in then-given (Upto s) (Upto s) (inner at (at + 3) opened) _ (h at (at + 3) opened (omega arith)) (λ r p m. closing-in s at (r .0) (r .1) p))
-    (λ e. tt))
+fresh-in : (s : List ℕ) (place : ℕ) (opened : Names) (name : Read Name) → Given name (Upto s) → Given (fresh place opened name) (Upto s)
+unfolding fresh
+fresh-in s place opened name h = then-given (Upto s) (Upto s) name _ h (λ x p l. if-given _ _ _ (isUsed x opened) tt l)
 
-nextItem-in : (s : List ℕ) (flags : ℕ) (inner : Inner) (q : Sequence) (opened at : ℕ) → Inward s inner → at < length s → Given (nextItem s flags inner q opened at) (Upto s)
+capturing-in : (s : List ℕ) (inner : Inner) (at : ℕ) (opened : Names) (name : Read Name) → Inward s inner → Given name (Upto s) → Given (capturing s inner at opened name) (Upto s)
+unfolding capturing Inward
+capturing-in s inner at opened name h g = if-given _ _ _ (ltb (length opened) groupLimit)
+    (then-given (Upto s) (Upto s) (inner at (andThen name (λ n p. sound (n ∷ opened) p))) _ (h at _ (then-given (Upto s) (Upto s) name _ g (λ n p l. l)))
+    (λ r p m. closing-in s at (group (suc (length opened)) (r .0)) (r .1) p))
+    tt
+
+grouped-in : (s : List ℕ) (inner : Inner) (at : ℕ) (opened : Names) → Inward s inner → at < length s → Given (grouped s inner at opened) (Upto s)
+unfolding grouped Inward
+grouped-in s inner at opened h l =
+    if-given _ _ _ (not (is "?" (byte s (at + 1)))) (capturing-in s inner at opened _ (unfold Inward in h) (omega arith))
+    (test-given _ _ _ (is ":" (byte s (at + 2)))
+    (λ e. let i = is-in s (at + 2) 58 (omega arith) e in then-given (Upto s) (Upto s) (inner at (sound opened (at + 3))) _ (h at (sound opened (at + 3)) (omega arith)) (λ r p m. closing-in s at (r .0) (r .1) p))
+    (λ e. if-given _ _ _ (is "<" (byte s (at + 2))) (capturing-in s inner at opened _ (unfold Inward in h) (fresh-in s at opened _ (nameUpTo-in ">" s at (at + 3) (omega arith)))) tt))
+
+nextItem-in : (s : List ℕ) (flags : ℕ) (known : Names) (inner : Inner) (q : Sequence) (opened : Names) (at : ℕ) → Inward s inner → at < length s → Given (nextItem s flags known inner q opened at) (Upto s)
 unfolding nextItem
-nextItem-in s flags inner q opened at h l = if-given _ _ _ (is "(" (byte s at))
+nextItem-in s flags known inner q opened at h l = if-given _ _ _ (is "(" (byte s at))
     (then-given (Upto s) (Upto s) (grouped s inner at opened) _ (grouped-in s inner at opened h l) (λ r p m. m))
-    (then-given (Upto s) (Upto s) (atom s flags opened at) _ (atom-in s flags opened at l) (λ i p m. m))
+    (then-given (Upto s) (Upto s) (atom s flags known (length opened) at) _ (atom-in s flags known (length opened) at l) (λ i p m. m))
 
 unfitFor-in : (s : List ℕ) (q : Sequence) (at : ℕ) → Given (unfitFor q at) (Upto s)
 unfolding unfitFor
@@ -308,18 +336,18 @@ unfitFor-in s (unrepeatable t) at = tt
 unfitFor-in s (repeatable b l) at = tt
 unfitFor-in s (repeated t) at = tt
 
-repeating-in : (s : List ℕ) (q : Sequence) (at n : ℕ) (m : Most) (g : Greed) (opened next : ℕ) → next ≤ length s → Given (repeating q at n m g opened next) (Upto s)
+repeating-in : (s : List ℕ) (q : Sequence) (at n : ℕ) (m : Most) (g : Greed) (opened : Names) (next : ℕ) → next ≤ length s → Given (repeating q at n m g opened next) (Upto s)
 unfolding repeating
 repeating-in s (unrepeatable t) at n m g opened next h = tt
 repeating-in s (repeatable b l) at n m g opened next h = h
 repeating-in s (repeated t) at n m g opened next h = tt
 
-pub part-by : (s : List ℕ) (flags : ℕ) (inner : Inner) (q : Sequence) (opened at : ℕ) (x : Quantifier) → Inward s inner → at < length s → Holding x (UptoIn s) → Given (part s flags inner q opened at x) (Upto s)
+pub part-by : (s : List ℕ) (flags : ℕ) (known : Names) (inner : Inner) (q : Sequence) (opened : Names) (at : ℕ) (x : Quantifier) → Inward s inner → at < length s → Holding x (UptoIn s) → Given (part s flags known inner q opened at x) (Upto s)
 unfolding part
-part-by s flags inner q opened at Absent h l k = nextItem-in s flags inner q opened at h l
-part-by s flags inner q opened at Stray h l k = tt
-part-by s flags inner q opened at Unfit h l k = unfitFor-in s q at
-part-by s flags inner q opened at (Times n m g next) h l k = repeating-in s q at n m g opened next k
+part-by s flags known inner q opened at Absent h l k = nextItem-in s flags known inner q opened at h l
+part-by s flags known inner q opened at Stray h l k = tt
+part-by s flags known inner q opened at Unfit h l k = unfitFor-in s q at
+part-by s flags known inner q opened at (Times n m g next) h l k = repeating-in s q at n m g opened next k
 
 pub ends-false : (s : List ℕ) (at : ℕ) → ends (byte s at) ≡ false → at < length s
 unfolding ends isEnd
@@ -328,32 +356,32 @@ ends-false s at e = by-length s at (decLt at (length s)) (λ h. true-false (sym 
     true-false : true ≡ false → ⊥
     true-false x = let bad : _≡_ {A = ℕ} 0 1 = cc in omega arith
 
-pub sequence-in : (f : ℕ) (s : List ℕ) (flags : ℕ) (inner : Inner) (q : Sequence) (opened at : ℕ) → Inward s inner → at ≤ length s → Given (sequence f s flags inner q opened at) (Upto s)
+pub sequence-in : (f : ℕ) (s : List ℕ) (flags : ℕ) (known : Names) (inner : Inner) (q : Sequence) (opened : Names) (at : ℕ) → Inward s inner → at ≤ length s → Given (sequence f s flags known inner q opened at) (Upto s)
 unfolding sequence
-sequence-in zero s flags inner q opened at h l = l
-sequence-in (suc f) s flags inner q opened start h l =
+sequence-in zero s flags known inner q opened at h l = l
+sequence-in (suc f) s flags known inner q opened start h l =
     let at = behindBlanks s flags start in
     test-given _ _ _ (ends (byte s at)) (λ e. blanks-in s flags start l) (λ e.
-    then-given (Upto s) (Upto s) (part s flags inner q opened at (quantifier s at)) _ (part-by s flags inner q opened at (quantifier s at) h (ends-false s at e) (quantifier-in s at))
-    (λ r p k. sequence-in f s flags inner (r .0) (r .1) p h k))
+    then-given (Upto s) (Upto s) (part s flags known inner q opened at (quantifier s at)) _ (part-by s flags known inner q opened at (quantifier s at) h (ends-false s at e) (quantifier-in s at))
+    (λ r p k. sequence-in f s flags known inner (r .0) (r .1) p h k))
 
-pub branch-in : (s : List ℕ) (flags : ℕ) (inner : Inner) (opened at : ℕ) → Inward s inner → at ≤ length s → Given (branch s flags inner opened at) (Upto s)
+pub branch-in : (s : List ℕ) (flags : ℕ) (known : Names) (inner : Inner) (opened : Names) (at : ℕ) → Inward s inner → at ≤ length s → Given (branch s flags known inner opened at) (Upto s)
 unfolding branch
-branch-in s flags inner opened at h l = sequence-in (length s) s flags inner (unrepeatable empty) opened at h l
+branch-in s flags known inner opened at h l = sequence-in (length s) s flags known inner (unrepeatable empty) opened at h l
 
-pub further-in : (f : ℕ) (s : List ℕ) (flags : ℕ) (inner : Inner) (bs : Branches) (opened at : ℕ) → Inward s inner → at ≤ length s → Given (further f s flags inner bs opened at) (Upto s)
+pub further-in : (f : ℕ) (s : List ℕ) (flags : ℕ) (known : Names) (inner : Inner) (bs : Branches) (opened : Names) (at : ℕ) → Inward s inner → at ≤ length s → Given (further f s flags known inner bs opened at) (Upto s)
 unfolding further
-further-in zero s flags inner bs opened at h l = l
-further-in (suc f) s flags inner bs opened at h l = test-given _ _ _ (is "|" (byte s at))
+further-in zero s flags known inner bs opened at h l = l
+further-in (suc f) s flags known inner bs opened at h l = test-given _ _ _ (is "|" (byte s at))
     (λ e. let i = is-in s at 124 (omega arith) e in
-    then-given (Upto s) (Upto s) (branch s flags inner opened (at + 1)) _ (branch-in s flags inner opened (at + 1) h (omega arith)) (λ r p k. further-in f s flags inner (also bs (r .0)) (r .1) p h k))
+    then-given (Upto s) (Upto s) (branch s flags known inner opened (at + 1)) _ (branch-in s flags known inner opened (at + 1) h (omega arith)) (λ r p k. further-in f s flags known inner (also bs (r .0)) (r .1) p h k))
     (λ e. l)
 
-pub alternation-in : (s : List ℕ) (flags : ℕ) (inner : Inner) (opened at : ℕ) → Inward s inner → at ≤ length s → Given (alternation s flags inner opened at) (Upto s)
+pub alternation-in : (s : List ℕ) (flags : ℕ) (known : Names) (inner : Inner) (opened : Names) (at : ℕ) → Inward s inner → at ≤ length s → Given (alternation s flags known inner opened at) (Upto s)
 unfolding alternation
-alternation-in s flags inner opened at h l = then-given (Upto s) (Upto s) (branch s flags inner opened at) _ (branch-in s flags inner opened at h l) (λ r p k. further-in (length s) s flags inner (one (r .0)) (r .1) p h k)
+alternation-in s flags known inner opened at h l = then-given (Upto s) (Upto s) (branch s flags known inner opened at) _ (branch-in s flags known inner opened at h l) (λ r p k. further-in (length s) s flags known inner (one (r .0)) (r .1) p h k)
 
-pub inside-in : (d : ℕ) (s : List ℕ) (flags : ℕ) → Inward s (inside d s flags)
+pub inside-in : (d : ℕ) (s : List ℕ) (flags : ℕ) (known : Names) → Inward s (inside d s flags known)
 unfolding inside Inward
-inside-in zero s flags opening at opened l = tt
-inside-in (suc d) s flags opening at opened l = alternation-in s flags (inside d s flags) opened at (inside-in d s flags) l
+inside-in zero s flags known opening head g = tt
+inside-in (suc d) s flags known opening head g = then-given (Upto s) (Upto s) head _ g (λ opened at l. alternation-in s flags known (inside d s flags known) opened at (inside-in d s flags known) l)

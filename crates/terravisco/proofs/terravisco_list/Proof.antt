@@ -17,8 +17,8 @@ list-readings-requires c κs = search needs
 
 tell-listing-requires : tie.Need-tell-listing-requires
 tell-listing-requires c κs =
-    let a = c .before .before .before .before .before .before .before .before .before .before .before .before .before .before .before .before .args in
-    list-told _ (callOf (now (a .rule)) (a .flags) (now (a .subject)) (a .budget) (now (a .rule-area)) (now (a .work-area)) (now (a .result))) (c .before .before .before .before .before .before .before .list-readings .ensures .outcome-is)
+    let a = c .before .before .before .before .before .before .before .before .before .before .before .before .before .before .before .before .before .before .before .before .args in
+    list-told _ (callOf (now (a .rule)) (a .flags) (now (a .subject)) (a .budget) (now (a .rule-area)) (now (a .work-area)) (now (a .result)) (now (a .names))) (c .before .before .before .before .before .before .before .before .before .list-readings .ensures .outcome-is)
 
 same-length : tie.Need-same-length
 same-length c = search needs
@@ -29,10 +29,13 @@ same-length-2 c = search needs
 same-length-3 : tie.Need-same-length-3
 same-length-3 c = search needs
 
+same-length-4 : tie.Need-same-length-4
+same-length-4 c = search needs
+
 returns : tie.Need-returns
 returns c =
-    let m = c .before .before .before .before .before .before .before .before .list-readings .ensures in
-    record { answer-is = c .tell-listing .ensures ∙ ap listNumbers (m .outcome-is); rule-area-is = m .rule-area-is; work-area-is = m .work-area-is; result-area-is = m .result-area-is }
+    let m = c .before .before .before .before .before .before .before .before .before .before .list-readings .ensures in
+    record { answer-is = c .tell-listing .ensures ∙ ap listNumbers (m .outcome-is); rule-area-is = m .rule-area-is; work-area-is = m .work-area-is; result-area-is = m .result-area-is; names-is = m .names-is }
 
 pub terravisco-list-spec : {M : Type 1} → statement M
 terravisco-list-spec =
@@ -43,4 +46,5 @@ terravisco-list-spec =
     same-length
     same-length-2
     same-length-3
+    same-length-4
     returns)

@@ -67,7 +67,7 @@ const MANY_READINGS: [&str; 20] = [
 ];
 
 /// Rules with references: to long spans and short, empty and unset ones, to a group that is set anew, alone, repeated and in branches.
-const REFERENCES: [&str; 28] = [
+const REFERENCES: [&str; 32] = [
     "(a+)\\1",
     "(a*)\\1",
     "^(a+)\\1$",
@@ -96,6 +96,10 @@ const REFERENCES: [&str; 28] = [
     "(?:(a*)|b)\\1\\1",
     "(?:x\\1|y\\1|(a+))*",
     "(?:(.+)\\1|(.+),\\2)$",
+    "(?<n>a+)\\k<n>",
+    "^(?<n>.*),\\g{n}$",
+    "\\k'n'*(?<n>a+)",
+    "(?<n>a|b\\k{n})+",
 ];
 
 /// Places that say something of the byte before or behind, so that a start's own byte does not settle whether it can begin.

@@ -1,10 +1,10 @@
 -- Each return has passed the tests before its own, and which refusal follows is a law for each.
 use mathlib.Core.Path.{_∙_}
 use native.Mathlib.Omega.{arith}
-use Rattle.syntax.specs.Limits.{ruleLimit, subjectLimit, budgetLimit, ruleAreaNeed, workPerStep, flagBits, rowLength}
+use Rattle.syntax.specs.Limits.{ruleLimit, subjectLimit, budgetLimit, ruleAreaNeed, workPerStep, flagBits, rowLength, groupLimit, nameLimit, nameEntry, nameIndexNeed}
 use Rattle.semantics.specs.Calls.{workAreaNeed}
 use Rattle.frame.specs.Fitness.{fitnessOf}
-use Rattle.frame.specs.Laws.Refusals.{rule-long, subject-long, flag-unknown, budget-large, rule-area-short, work-area-short, results-short, acceptable}
+use Rattle.frame.specs.Laws.Refusals.{rule-long, subject-long, flag-unknown, budget-large, rule-area-short, work-area-short, results-short, names-short, acceptable}
 use Rattle.frame.proofs.refusals.unfit.Statement.{statement}
 use Rattle.frame.proofs.refusals.unfit.Tie as tie
 
@@ -40,8 +40,12 @@ unfolding fitnessOf ruleLimit subjectLimit flagBits budgetLimit ruleAreaNeed wor
 returns-7 c d s = results-short d (omega arith) (omega arith) (omega arith) (omega arith) (omega arith) (omega arith) (s .short-is ∙ c .if7 .taken)
 
 returns-8 : tie.Need-returns-8
-unfolding fitnessOf ruleLimit subjectLimit flagBits budgetLimit ruleAreaNeed workAreaNeed workPerStep rowLength
-returns-8 c d s = acceptable d (omega arith) (omega arith) (omega arith) (omega arith) (omega arith) (omega arith) (s .short-is ∙ c .if7 .left)
+unfolding fitnessOf ruleLimit subjectLimit flagBits budgetLimit ruleAreaNeed workAreaNeed workPerStep rowLength groupLimit nameLimit nameEntry nameIndexNeed
+returns-8 c d s = names-short d (omega arith) (omega arith) (omega arith) (omega arith) (omega arith) (omega arith) (s .short-is ∙ c .before .if7 .left) (omega arith)
+
+returns-9 : tie.Need-returns-9
+unfolding fitnessOf ruleLimit subjectLimit flagBits budgetLimit ruleAreaNeed workAreaNeed workPerStep rowLength groupLimit nameLimit nameEntry nameIndexNeed
+returns-9 c d s = acceptable d (omega arith) (omega arith) (omega arith) (omega arith) (omega arith) (omega arith) (s .short-is ∙ c .before .if7 .left) (omega arith)
 
 pub unfit-spec : {M : Type 1} → statement M
 unfit-spec =
@@ -55,4 +59,5 @@ unfit-spec =
     mul-if6
     returns-6
     returns-7
-    returns-8)
+    returns-8
+    returns-9)

@@ -14,10 +14,10 @@ bad-item-requires : tie.Need-bad-item-requires
 bad-item-requires c κs = search needs
 
 returns : tie.Need-returns
-returns c = λ folded a h. class-closed folded a _ (c .before .before .before .before .args .class .end) _ (c .before .end .given .1) h
+returns c = λ s folded known a h. class-closed s folded known a _ (c .before .before .before .before .args .class .end) _ (c .before .end .given .1) h
 
 returns-2 : tie.Need-returns-2
-returns-2 c = λ folded a h. same-item folded (c .bad-item .result) (class-bad folded a _ (c .before .before .before .before .before .args .class .end) _ (c .before .before .end2 .given .1) h) (c .bad-item .ensures folded)
+returns-2 c = λ s folded known a h. same-item s folded known (c .bad-item .result) (class-bad folded a _ (c .before .before .before .before .before .args .class .end) _ (c .before .before .end2 .given .1) h) (c .bad-item .ensures s folded known)
 
 pub class-item-spec : {M : Type 1} → statement M
 class-item-spec =

@@ -9,13 +9,13 @@ any-byte-requires : tie.Need-any-byte-requires
 any-byte-requires c κs = search needs
 
 returns : tie.Need-returns
-returns c = λ folded. (anyByte, rw (dotAll-set _ (c .before .if1 .taken)), c .any-byte .ensures folded)
+returns c = λ s folded known. (anyByte, rw (dotAll-set _ (c .before .if1 .taken)), c .any-byte .ensures folded)
 
 not-newline-requires : tie.Need-not-newline-requires
 not-newline-requires c κs = search needs
 
 returns-2 : tie.Need-returns-2
-returns-2 c = λ folded. (notNewline, rw (dotAll-unset _ (c .before .if1 .left)), c .not-newline .ensures folded)
+returns-2 c = λ s folded known. (notNewline, rw (dotAll-unset _ (c .before .if1 .left)), c .not-newline .ensures folded)
 
 pub dot-spec : {M : Type 1} → statement M
 dot-spec = tie.close (tie.spec any-byte-requires returns not-newline-requires returns-2)

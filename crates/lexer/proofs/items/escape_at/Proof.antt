@@ -1,10 +1,11 @@
 -- `escape_at` meets its contract, by the byte behind the backslash.
 use borrow.Author.Needs.{needs}
 use mathlib.Core.Logic.{inl, inr, ⊎-elim}
+use mathlib.Core.Path.{sym, _∙_}
 use native.Mathlib.Omega.{arith}
 use Rattle.syntax.specs.Sets.{notNewline}
 use Rattle.lexer.specs.Says.{memberOf, groupOf}
-use Rattle.lexer.proofs.ItemCases.{same-item, escape-newline, escape-text-start, escape-text-end, escape-last-line-end, escape-boundary, escape-no-boundary, escape-octal, escape-group, escape-number, escape-end, escape-common}
+use Rattle.lexer.proofs.ItemCases.{same-item, escape-newline, escape-text-start, escape-text-end, escape-last-line-end, escape-boundary, escape-no-boundary, escape-octal, escape-called, escape-number, escape-end, escape-common}
 use Rattle.lexer.proofs.items.escape_at.Statement.{statement}
 use Rattle.lexer.proofs.items.escape_at.Tie as tie
 
@@ -24,7 +25,7 @@ member-item-requires : tie.Need-member-item-requires
 member-item-requires c κs = search needs
 
 returns : tie.Need-returns
-returns c = same-item _ (c .member-item .result) (escape-end _ _ _ _ _ (c .before .before .before .peek .ensures .is) (c .before .before .if1 .taken) (memberOf (c .before .common-at .result)) (c .before .common-at .ensures)) (c .member-item .ensures)
+returns c = λ known. same-item _ _ known (c .member-item .result) (escape-end _ _ known _ _ _ (c .before .before .before .peek .ensures .is) (c .before .before .if1 .taken) (memberOf (c .before .common-at .result)) (c .before .common-at .ensures)) (c .member-item .ensures _ known)
 
 cast-byte : tie.Need-cast-byte
 cast-byte c = search needs
@@ -53,11 +54,14 @@ octal-at-requires c κs = search needs
 member-item-requires-2 : tie.Need-member-item-requires-2
 member-item-requires-2 c κs = search needs
 
-group-number-at-requires : tie.Need-group-number-at-requires
-group-number-at-requires c κs = search needs
+called-at-requires : tie.Need-called-at-requires
+called-at-requires c κs = search needs
 
-group-item-requires : tie.Need-group-item-requires
-group-item-requires c κs = search needs
+called-item-requires : tie.Need-called-item-requires
+called-item-requires c κs = search needs
+
+group-at-requires : tie.Need-group-at-requires
+group-at-requires c κs = (c .before .before .before .before .pre .0, omega arith, sym (c .before .before .peek .ensures .is) ∙ c .match .keys9)
 
 add-forward-at : tie.Need-add-forward-at
 add-forward-at c = search needs
@@ -65,8 +69,8 @@ add-forward-at c = search needs
 forward-at-requires : tie.Need-forward-at-requires
 forward-at-requires c κs = search needs
 
-group-item-requires-2 : tie.Need-group-item-requires-2
-group-item-requires-2 c κs = search needs
+group-item-requires : tie.Need-group-item-requires
+group-item-requires c κs = search needs
 
 common-at-requires-2 : tie.Need-common-at-requires-2
 common-at-requires-2 c κs = search needs
@@ -75,35 +79,38 @@ member-item-requires-3 : tie.Need-member-item-requires-3
 member-item-requires-3 c κs = search needs
 
 returns-2 : tie.Need-returns-2
-returns-2 c = (notNewline, escape-newline _ _ _ _ _ (c .before .before .before .peek .ensures .is) (c .before .match .keys1), c .not-newline .ensures _)
+returns-2 c = λ known. (notNewline, escape-newline _ _ known _ _ _ (c .before .before .before .peek .ensures .is) (c .before .match .keys1), c .not-newline .ensures _)
 
 returns-3 : tie.Need-returns-3
-returns-3 c = same-item _ (c .assertion .result) (escape-text-start _ _ _ _ _ (c .before .before .before .peek .ensures .is) (c .before .match .keys2)) (c .assertion .ensures _)
+returns-3 c = λ known. same-item _ _ known (c .assertion .result) (escape-text-start _ _ known _ _ _ (c .before .before .before .peek .ensures .is) (c .before .match .keys2)) (c .assertion .ensures _ _ known)
 
 returns-4 : tie.Need-returns-4
-returns-4 c = same-item _ (c .assertion2 .result) (escape-text-end _ _ _ _ _ (c .before .before .before .peek .ensures .is) (c .before .match .keys3)) (c .assertion2 .ensures _)
+returns-4 c = λ known. same-item _ _ known (c .assertion2 .result) (escape-text-end _ _ known _ _ _ (c .before .before .before .peek .ensures .is) (c .before .match .keys3)) (c .assertion2 .ensures _ _ known)
 
 returns-5 : tie.Need-returns-5
-returns-5 c = same-item _ (c .assertion3 .result) (escape-last-line-end _ _ _ _ _ (c .before .before .before .peek .ensures .is) (c .before .match .keys4)) (c .assertion3 .ensures _)
+returns-5 c = λ known. same-item _ _ known (c .assertion3 .result) (escape-last-line-end _ _ known _ _ _ (c .before .before .before .peek .ensures .is) (c .before .match .keys4)) (c .assertion3 .ensures _ _ known)
 
 returns-6 : tie.Need-returns-6
-returns-6 c = same-item _ (c .assertion4 .result) (escape-boundary _ _ _ _ _ (c .before .before .before .peek .ensures .is) (c .before .match .keys5)) (c .assertion4 .ensures _)
+returns-6 c = λ known. same-item _ _ known (c .assertion4 .result) (escape-boundary _ _ known _ _ _ (c .before .before .before .peek .ensures .is) (c .before .match .keys5)) (c .assertion4 .ensures _ _ known)
 
 returns-7 : tie.Need-returns-7
-returns-7 c = same-item _ (c .assertion5 .result) (escape-no-boundary _ _ _ _ _ (c .before .before .before .peek .ensures .is) (c .before .match .keys6)) (c .assertion5 .ensures _)
+returns-7 c = λ known. same-item _ _ known (c .assertion5 .result) (escape-no-boundary _ _ known _ _ _ (c .before .before .before .peek .ensures .is) (c .before .match .keys6)) (c .assertion5 .ensures _ _ known)
 
 returns-8 : tie.Need-returns-8
-returns-8 c = same-item _ (c .member-item2 .result) (escape-octal _ _ _ _ _ (c .before .before .before .before .peek .ensures .is) (c .before .before .match .keys7) (memberOf (c .before .octal-at .result)) (c .before .octal-at .ensures)) (c .member-item2 .ensures)
+returns-8 c = λ known. same-item _ _ known (c .member-item2 .result) (escape-octal _ _ known _ _ _ (c .before .before .before .before .peek .ensures .is) (c .before .before .match .keys7) (memberOf (c .before .octal-at .result)) (c .before .octal-at .ensures)) (c .member-item2 .ensures _ known)
 
 returns-9 : tie.Need-returns-9
-returns-9 c = same-item _ (c .group-item .result) (escape-group _ _ _ _ _ (c .before .before .before .before .peek .ensures .is) (c .before .before .match .keys8) (groupOf (c .before .group-number-at .result)) (c .before .group-number-at .ensures)) (c .group-item .ensures _)
+returns-9 c = λ known. same-item _ _ known (c .called-item .result) (escape-called _ _ known _ _ _ (c .before .before .before .before .peek .ensures .is) (c .before .before .match .keys8)) (c .called-item .ensures _ _ known _ (c .before .called-at .ensures))
 
 returns-10 : tie.Need-returns-10
-returns-10 c = same-item _ (c .group-item2 .result) (escape-number _ _ _ _ _ (c .before .before .before .before .before .before .peek .ensures .is) (c .before .before .before .if2 .left) (c .before .before .before .before .match .rest .0 .1) (c .before .before .if3 .taken) (groupOf (c .before .forward-at .result)) (c .before .forward-at .ensures)) (c .group-item2 .ensures _)
+returns-10 c = c .group-at .ensures _
 
 returns-11 : tie.Need-returns-11
-returns-11 c = let n = c .before .before .before .match .rest in
-    same-item _ (c .member-item3 .result) (escape-common _ _ _ _ _ (c .before .before .before .before .before .peek .ensures .is) (n .0 .0 .0 .0 .0 .0 .0 .1) (n .0 .0 .0 .0 .0 .0 .1) (n .0 .0 .0 .0 .0 .1) (n .0 .0 .0 .0 .1) (n .0 .0 .0 .1) (n .0 .0 .1) (n .0 .1) (n .1) (⊎-elim (λ w. inl (omega arith)) (λ w. inr (omega arith)) (c .before .before .if2 .came)) (memberOf (c .before .common-at2 .result)) (c .before .common-at2 .ensures)) (c .member-item3 .ensures)
+returns-11 c = λ known. same-item _ _ known (c .group-item .result) (escape-number _ _ known _ _ _ (c .before .before .before .before .before .before .peek .ensures .is) (c .before .before .before .if2 .left) (c .before .before .before .before .match .rest .0 .0 .1) (c .before .before .if3 .taken) (groupOf (c .before .forward-at .result)) (c .before .forward-at .ensures)) (c .group-item .ensures _ _ known)
+
+returns-12 : tie.Need-returns-12
+returns-12 c = λ known. let n = c .before .before .before .match .rest in
+    same-item _ _ known (c .member-item3 .result) (escape-common _ _ known _ _ _ (c .before .before .before .before .before .peek .ensures .is) (n .0 .0 .0 .0 .0 .0 .0 .0 .1) (n .0 .0 .0 .0 .0 .0 .0 .1) (n .0 .0 .0 .0 .0 .0 .1) (n .0 .0 .0 .0 .0 .1) (n .0 .0 .0 .0 .1) (n .0 .0 .0 .1) (n .0 .0 .1) (n .0 .1) (n .1) (⊎-elim (λ w. inl (omega arith)) (λ w. inr (omega arith)) (c .before .before .if2 .came)) (memberOf (c .before .common-at2 .result)) (c .before .common-at2 .ensures)) (c .member-item3 .ensures _ known)
 
 pub escape-at-spec : {M : Type 1} → statement M
 escape-at-spec =
@@ -124,11 +131,12 @@ escape-at-spec =
     assertion-requires-5
     octal-at-requires
     member-item-requires-2
-    group-number-at-requires
-    group-item-requires
+    called-at-requires
+    called-item-requires
+    group-at-requires
     add-forward-at
     forward-at-requires
-    group-item-requires-2
+    group-item-requires
     common-at-requires-2
     member-item-requires-3
     returns-2
@@ -140,4 +148,5 @@ escape-at-spec =
     returns-8
     returns-9
     returns-10
-    returns-11)
+    returns-11
+    returns-12)

@@ -14,10 +14,10 @@ bad-item-requires : tie.Need-bad-item-requires
 bad-item-requires c κs = search needs
 
 returns : tie.Need-returns
-returns c = λ folded. referring-sound folded (c .before .before .before .args .group) _ _ (c .before .group .given .1)
+returns c = λ s folded known. referring-sound folded (c .before .before .before .args .group) _ _ (c .before .group .given .1)
 
 returns-2 : tie.Need-returns-2
-returns-2 c = λ folded. same-item folded (c .bad-item .result) (referring-bad folded (c .before .before .before .before .args .group) _ (c .before .before .group2 .given .1)) (c .bad-item .ensures folded)
+returns-2 c = λ s folded known. same-item s folded known (c .bad-item .result) (referring-bad folded (c .before .before .before .before .args .group) _ (c .before .before .group2 .given .1)) (c .bad-item .ensures s folded known)
 
 pub group-item-spec : {M : Type 1} → statement M
 group-item-spec =

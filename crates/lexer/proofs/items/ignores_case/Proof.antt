@@ -1,7 +1,7 @@
 -- `ignores_case` meets its contract: bit 2 of the flags.
 use mathlib.Core.Path.{refl}
 use Rattle.syntax.specs.Limits.{ignoreCaseBit}
-use Rattle.syntax.specs.Grammar.{ignoreCase}
+use Rattle.syntax.specs.Flags.{ignoreCase}
 use Rattle.lexer.proofs.items.ignores_case.Statement.{statement}
 use Rattle.lexer.proofs.items.ignores_case.Tie as tie
 

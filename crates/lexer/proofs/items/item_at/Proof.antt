@@ -36,23 +36,23 @@ member-item-requires : tie.Need-member-item-requires
 member-item-requires c κs = search needs
 
 returns : tie.Need-returns
-returns c = as-atom _ _ (c .before .before .before .ignores-case .ensures) (c .escape-at .result) (atom-escape _ _ _ _ _ (byte-at _ _ (c .before .before .before .before .before .pre .1)) _ (c .before .before .before .ignores-case .ensures) (c .before .match .keys1)) (c .escape-at .ensures)
+returns c = λ known. as-atom _ known _ _ (c .before .before .before .ignores-case .ensures) (c .escape-at .result) (atom-escape _ _ known _ _ _ (byte-at _ _ (c .before .before .before .before .before .pre .1)) _ (c .before .before .before .ignores-case .ensures) (c .before .match .keys1)) (c .escape-at .ensures known)
 
 returns-2 : tie.Need-returns-2
-returns-2 c = as-atom _ _ (c .before .before .before .before .ignores-case .ensures) (c .class-item .result) (atom-class _ _ _ _ _ (byte-at _ _ (c .before .before .before .before .before .before .pre .1)) _ (c .before .before .before .before .ignores-case .ensures) (c .before .before .match .keys2)) (c .class-item .ensures _ _ (c .before .class-at .ensures))
+returns-2 c = λ known. as-atom _ known _ _ (c .before .before .before .before .ignores-case .ensures) (c .class-item .result) (atom-class _ _ known _ _ _ (byte-at _ _ (c .before .before .before .before .before .before .pre .1)) _ (c .before .before .before .before .ignores-case .ensures) (c .before .before .match .keys2)) (c .class-item .ensures _ _ known _ (c .before .class-at .ensures))
 
 returns-3 : tie.Need-returns-3
-returns-3 c = as-atom _ _ (c .before .before .before .ignores-case .ensures) (c .dot .result) (atom-dot _ _ _ _ _ (byte-at _ _ (c .before .before .before .before .before .pre .1)) _ (c .before .before .before .ignores-case .ensures) (c .before .match .keys3)) (c .dot .ensures _)
+returns-3 c = λ known. as-atom _ known _ _ (c .before .before .before .ignores-case .ensures) (c .dot .result) (atom-dot _ _ known _ _ _ (byte-at _ _ (c .before .before .before .before .before .pre .1)) _ (c .before .before .before .ignores-case .ensures) (c .before .match .keys3)) (c .dot .ensures _ _ known)
 
 returns-4 : tie.Need-returns-4
-returns-4 c = as-atom _ _ (c .before .before .before .ignores-case .ensures) (c .caret .result) (atom-caret _ _ _ _ _ (byte-at _ _ (c .before .before .before .before .before .pre .1)) _ (c .before .before .before .ignores-case .ensures) (c .before .match .keys4)) (c .caret .ensures _)
+returns-4 c = λ known. as-atom _ known _ _ (c .before .before .before .ignores-case .ensures) (c .caret .result) (atom-caret _ _ known _ _ _ (byte-at _ _ (c .before .before .before .before .before .pre .1)) _ (c .before .before .before .ignores-case .ensures) (c .before .match .keys4)) (c .caret .ensures _ _ known)
 
 returns-5 : tie.Need-returns-5
-returns-5 c = as-atom _ _ (c .before .before .before .ignores-case .ensures) (c .dollar .result) (atom-dollar _ _ _ _ _ (byte-at _ _ (c .before .before .before .before .before .pre .1)) _ (c .before .before .before .ignores-case .ensures) (c .before .match .keys5)) (c .dollar .ensures _)
+returns-5 c = λ known. as-atom _ known _ _ (c .before .before .before .ignores-case .ensures) (c .dollar .result) (atom-dollar _ _ known _ _ _ (byte-at _ _ (c .before .before .before .before .before .pre .1)) _ (c .before .before .before .ignores-case .ensures) (c .before .match .keys5)) (c .dollar .ensures _ _ known)
 
 returns-6 : tie.Need-returns-6
-returns-6 c = let n = c .before .match .rest in
-    as-atom _ _ (c .before .before .before .ignores-case .ensures) (c .member-item .result) (atom-byte _ _ _ _ _ (byte-at _ _ (c .before .before .before .before .before .pre .1)) _ (c .before .before .before .ignores-case .ensures) (n .0 .0 .0 .0 .1) (n .0 .0 .0 .1) (n .0 .0 .1) (n .0 .1) (n .1)) (c .member-item .ensures)
+returns-6 c = λ known. let n = c .before .match .rest in
+    as-atom _ known _ _ (c .before .before .before .ignores-case .ensures) (c .member-item .result) (atom-byte _ _ known _ _ _ (byte-at _ _ (c .before .before .before .before .before .pre .1)) _ (c .before .before .before .ignores-case .ensures) (n .0 .0 .0 .0 .1) (n .0 .0 .0 .1) (n .0 .0 .1) (n .0 .1) (n .1)) (c .member-item .ensures _ known)
 
 pub item-at-spec : {M : Type 1} → statement M
 item-at-spec =

@@ -11,7 +11,7 @@ bad-item-requires : tie.Need-bad-item-requires
 bad-item-requires c κs = search needs
 
 returns : tie.Need-returns
-returns c = same-item _ (c .bad-item .result) (alone-bad _ (c .before .before .before .before .args .m) _ (c .before .before .m .given .1)) (c .bad-item .ensures _)
+returns c = λ s known. same-item s _ known (c .bad-item .result) (alone-bad _ (c .before .before .before .before .args .m) _ (c .before .before .m .given .1)) (c .bad-item .ensures s _ known)
 
 empty-requires : tie.Need-empty-requires
 empty-requires c κs = search needs
@@ -23,7 +23,7 @@ next-of-requires : tie.Need-next-of-requires
 next-of-requires c κs = search needs
 
 returns-2 : tie.Need-returns-2
-returns-2 c = alone-sound _ (c .before .before .before .before .args .m) (c .before .before .before .match .keys2) _ _ (c .before .before .empty .ensures) (c .before .with-member .ensures) _ (c .next-of .ensures)
+returns-2 c = λ s known. alone-sound s _ known (c .before .before .before .before .args .m) (c .before .before .before .match .keys2) _ _ (c .before .before .empty .ensures) (c .before .with-member .ensures) _ (c .next-of .ensures)
 
 pub member-item-spec : {M : Type 1} → statement M
 member-item-spec =

@@ -11,26 +11,26 @@ use Rattle.linker.proofs.+link_alternation+link_branches+link_chain+lin
 
 module _ (t : ℕ) where
   pub add-word : lts.Need-add-word (calls t) (at t) Post
-  add-word c = let g = group-at _ _ _ _ (c .before .before .pre .1 .0) (c .before .before .pre .1 .2) in omega arith
+  add-word c = let g = group-at _ _ _ _ _ _ (c .before .before .before .before .pre .1 .0) (c .before .before .before .before .pre .1 .2) in omega arith
 
   pub word-requires : lts.Need-word-requires (calls t) (at t) Post
-  word-requires c κs = let g = group-at _ _ _ _ (c .before .before .pre .1 .0) (c .before .before .pre .1 .2) in omega arith
+  word-requires c κs = let g = group-at _ _ _ _ _ _ (c .before .before .before .before .pre .1 .0) (c .before .before .before .before .pre .1 .2) in omega arith
 
   pub add-link-inside : lts.Need-add-link-inside (calls t) (at t) Post
   unfolding registers spansLength groupLimit nestingLimit
-  add-link-inside c = let g = group-at _ _ _ _ (c .before .before .before .before .pre .1 .0) (c .before .before .before .before .pre .1 .2) in omega arith
+  add-link-inside c = let g = group-at _ _ _ _ _ _ (c .before .before .before .before .before .before .pre .1 .0) (c .before .before .before .before .before .before .pre .1 .2) in omega arith
 
   pub link-inside-requires : lts.Need-link-inside-requires (calls t) (at t) Post
-  link-inside-requires c κs = let g = group-at _ _ _ _ (c .before .before .before .before .pre .1 .0) (c .before .before .before .before .pre .1 .2) in (omega (arith, c .before .word .ensures .0), (rw (c .before .word .ensures .0) (g .inside), omega arith))
+  link-inside-requires c κs = let g = group-at _ _ _ _ _ _ (c .before .before .before .before .before .before .pre .1 .0) (c .before .before .before .before .before .before .pre .1 .2) in (omega (arith, c .before .word .ensures .0), (rw (c .before .word .ensures .0) (g .inside), omega arith, c .before .before .before .before .before .before .pre .1 .3))
 
   pub close-group-requires : lts.Need-close-group-requires (calls t) (at t) Post
-  close-group-requires c κs = let g = group-at _ _ _ _ (c .before .before .before .before .before .before .before .before .pre .1 .0) (c .before .before .before .before .before .before .before .before .pre .1 .2) in (omega (arith, c .before .before .before .link-inside .kept .0), c .before .before .before .before .before .before .before .before .pre .1 .1, omega arith, links-near _ _ _ _ _ _ _ _ _ _ (omega arith) (rw (c .before .before .before .before .before .word .ensures .0) (g .inside)) (c .before .before .before .link-inside .ensures))
+  close-group-requires c κs = let g = group-at _ _ _ _ _ _ (c .before .before .before .before .before .before .before .before .before .before .pre .1 .0) (c .before .before .before .before .before .before .before .before .before .before .pre .1 .2) in (omega (arith, c .before .before .before .link-inside .kept .0), c .before .before .before .before .before .before .before .before .before .before .pre .1 .1, omega arith, links-near _ _ _ _ _ _ _ _ _ _ (omega arith) (rw (c .before .before .before .before .before .word .ensures .0) (g .inside)) (c .before .before .before .link-inside .ensures))
 
-  pub add-t13 : lts.Need-add-t13 (calls t) (at t) Post
-  add-t13 c = let g = group-at _ _ _ _ (c .before .before .before .before .before .before .before .before .before .before .before .pre .1 .0) (c .before .before .before .before .before .before .before .before .before .before .before .pre .1 .2) in omega arith
+  pub add-opening : lts.Need-add-opening (calls t) (at t) Post
+  add-opening c = let g = group-at _ _ _ _ _ _ (c .before .before .before .before .before .before .before .before .before .before .before .before .before .pre .1 .0) (c .before .before .before .before .before .before .before .before .before .before .before .before .before .pre .1 .2) in omega arith
 
   pub same-length : lts.Need-same-length (calls t) (at t) Post
   same-length c = search needs
 
   pub returns : lts.Need-returns (calls t) (at t) Post
-  returns c = group-links _ _ _ _ _ _ _ _ _ _ (c .before .before .before .before .before .before .before .before .before .before .before .pre .1 .2) (rw (c .before .before .before .before .before .before .before .before .word .ensures .0) at (c .before .before .before .before .before .before .link-inside .ensures)) (c .before .before .close-group .ensures)
+  returns c = group-links _ _ _ _ _ _ _ _ _ _ _ _ (c .before .before .before .before .before .before .before .before .before .before .before .before .before .pre .1 .2) (rw (c .before .before .before .before .before .before .before .before .word .ensures .0) at (c .before .before .before .before .before .before .link-inside .ensures)) (c .before .before .close-group .ensures)

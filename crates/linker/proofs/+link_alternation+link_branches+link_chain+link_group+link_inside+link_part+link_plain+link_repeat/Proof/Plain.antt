@@ -9,16 +9,16 @@ use Rattle.linker.proofs.+link_alternation+link_branches+link_chain+lin
 
 module _ (t : ℕ) where
   pub add-word : lts.Need-add-word (calls t) (at t) Post
-  add-word c = let g = plain-at _ _ _ _ (c .before .before .pre .1 .0) (c .before .before .pre .1 .2) in omega arith
+  add-word c = let g = plain-at _ _ _ _ _ _ (c .before .before .before .before .pre .1 .0) (c .before .before .before .before .pre .1 .2) in omega arith
 
   pub word-requires : lts.Need-word-requires (calls t) (at t) Post
-  word-requires c κs = let g = plain-at _ _ _ _ (c .before .before .pre .1 .0) (c .before .before .pre .1 .2) in omega arith
+  word-requires c κs = let g = plain-at _ _ _ _ _ _ (c .before .before .before .before .pre .1 .0) (c .before .before .before .before .pre .1 .2) in omega arith
 
   pub link-inside-requires : lts.Need-link-inside-requires (calls t) (at t) Post
-  link-inside-requires c κs = let g = plain-at _ _ _ _ (c .before .before .before .before .pre .1 .0) (c .before .before .before .before .pre .1 .2) in (omega (arith, c .before .word .ensures .0), (rw (c .before .word .ensures .0) (g .inside), c .before .before .before .before .pre .1 .1))
+  link-inside-requires c κs = let g = plain-at _ _ _ _ _ _ (c .before .before .before .before .before .before .pre .1 .0) (c .before .before .before .before .before .before .pre .1 .2) in (omega (arith, c .before .word .ensures .0), (rw (c .before .word .ensures .0) (g .inside), c .before .before .before .before .before .before .pre .1 .1, c .before .before .before .before .before .before .pre .1 .3))
 
   pub same-length : lts.Need-same-length (calls t) (at t) Post
   same-length c = search needs
 
   pub returns : lts.Need-returns (calls t) (at t) Post
-  returns c = plain-links _ _ _ _ _ _ _ _ _ (c .before .before .before .before .before .before .before .pre .1 .2) (rw (c .before .before .before .before .word .ensures .0) at (c .before .before .link-inside .ensures))
+  returns c = plain-links _ _ _ _ _ _ _ _ _ _ _ (c .before .before .before .before .before .before .before .before .before .pre .1 .2) (rw (c .before .before .before .before .word .ensures .0) at (c .before .before .link-inside .ensures))

@@ -1,15 +1,18 @@
 -- `group`: the inside is read with one level less to nest; one law for each return.
 use Prim.Native.Nat.{ℕ}
+use native.Mathlib.Omega.{arith}
 use borrow.Author.Needs.{needs}
-use Rattle.reader.proofs.Answers.{moved}
-use Rattle.reader.proofs.Groups.{opening-at, group-deep, group-unopened, group-refused, group-sound}
+use Rattle.reader.proofs.Answers.{moved, naming-on}
+use Rattle.reader.proofs.Groups.{inner-ready, opens, group-unopened, group-refused, group-sound}
 use Rattle.reader.proofs.group.Reads.{Post}
 use Rattle.reader.proofs.+alternation+further+group+piece+sequence.Lts-group as lts
 use Rattle.reader.proofs.+alternation+further+group+piece+sequence.Proof.Shared.{group-calls as calls, group-at as at}
 
 module _ (t : ℕ) where
   pub opening-requires : lts.Need-opening-requires (calls t) (at t) Post
-  opening-requires c κs = search needs
+  opening-requires c κs =
+      let fit = c .before .before .before .before .pre .1 .1 .fit in
+      search needs
 
   pub enum-known-o : lts.Need-enum-known-o (calls t) (at t) Post
   enum-known-o c = search needs
@@ -17,20 +20,19 @@ module _ (t : ℕ) where
   pub enum-known-o-2 : lts.Need-enum-known-o-2 (calls t) (at t) Post
   enum-known-o-2 c = search needs
 
-  pub returns : lts.Need-returns (calls t) (at t) Post
-  returns c =
-      let start = c .before .before .before .before .before .before .before in
-      let a = start .args in
-      let o = c .before .before .before .before .opening in
-      group-deep (a .rule .now) (a .flags) (a .depth) (a .c) (a .before) (o .result) (o .ensures) _ _ _ (c .before .before .o2 .given .1) (a .area .now) (c .if1 .taken)
-
   pub sub-alternation : lts.Need-sub-alternation (calls t) (at t) Post
-  sub-alternation c = search needs
+  sub-alternation c =
+      let start = c .before .before .before .before .before .before .before .before .before .before .before .before in
+      let a = start .args in
+      let o = opens (a .rule .now) (a .flags) (a .depth) (a .c) (a .before) (a .table .now) (c .before .before .before .before .before .before .before .opening .last .1 .0) (c .before .before .before .before .before .before .before .opening .result) (c .before .before .before .before .before .before .before .opening .ensures (a .flags)) _ _ _ (c .before .before .before .o2 .given .1) in
+      omega (arith, o .deep)
 
   pub alternation-requires : lts.Need-alternation-requires (calls t) (at t) Post
   alternation-requires c κs =
-      let o = opening-at _ _ _ _ _ (c .before .before .before .o2 .given .1) (c .before .before .before .before .before .opening .ensures) in
-      search needs
+      let start = c .before .before .before .before .before .before .before .before .before .before .before .before in
+      let a = start .args in
+      let b = opens (a .rule .now) (a .flags) (a .depth) (a .c) (a .before) (a .table .now) (c .before .before .before .before .before .before .before .opening .last .1 .0) (c .before .before .before .before .before .before .before .opening .result) (c .before .before .before .before .before .before .before .opening .ensures (a .flags)) _ _ _ (c .before .before .before .o2 .given .1) .begins in
+      (omega (arith, start .pre .0, b .on, b .within), (inner-ready (start .pre .1 .0) b, naming-on _ (start .pre .1 .1) (b .fit) (c .before .before .before .before .before .before .before .opening .kept .1 .0)))
 
   pub enum-known-r : lts.Need-enum-known-r (calls t) (at t) Post
   enum-known-r c = search needs
@@ -40,36 +42,45 @@ module _ (t : ℕ) where
 
   pub close-requires : lts.Need-close-requires (calls t) (at t) Post
   close-requires c κs =
-      let o = opening-at _ _ _ _ _ (c .before .before .before .before .before .before .before .before .before .before .o2 .given .1) (c .before .before .before .before .before .before .before .before .before .before .before .before .opening .ensures) in
-      let m = moved _ _ _ _ _ (c .before .before .r2 .given .1) (c .before .before .before .before .before .before .alternation .ensures .moved) in
-      search needs
-
-  pub returns-2 : lts.Need-returns-2 (calls t) (at t) Post
-  returns-2 c =
-      let start = c .before .before .before .before .before .before in
+      let start = c .before .before .before .before .before .before .before .before .before .before .before .before .before .before .before .before .before .before .before .before .before in
       let a = start .args in
-      let o = c .before .before .before .opening in
-      group-unopened (a .rule .now) (a .flags) (a .depth) (a .c) (a .before) (o .result) (o .ensures) (a .area .now) _ (c .before .o .given .1)
+      let o = opens (a .rule .now) (a .flags) (a .depth) (a .c) (a .before) (a .table .now) (c .before .before .before .before .before .before .before .before .before .before .before .before .before .before .before .before .opening .last .1 .0) (c .before .before .before .before .before .before .before .before .before .before .before .before .before .before .before .before .opening .result) (c .before .before .before .before .before .before .before .before .before .before .before .before .before .before .before .before .opening .ensures (a .flags)) _ _ _ (c .before .before .before .before .before .before .before .before .before .before .before .before .o2 .given .1) in
+      let b = o .begins in
+      let m = moved _ _ _ _ _ (c .before .before .r2 .given .1) (c .before .before .before .before .before .before .before .before .alternation .ensures .moved) in
+      search needs
 
   pub same-length : lts.Need-same-length (calls t) (at t) Post
   same-length c = search needs
 
-  pub returns-3 : lts.Need-returns-3 (calls t) (at t) Post
-  returns-3 c =
-      let start = c .before .before .before .before .before .before .before .before .before .before .before .before .before .before in
+  pub returns : lts.Need-returns (calls t) (at t) Post
+  returns c =
+      let start = c .before .before .before .before .before .before .before .before .before .before in
       let a = start .args in
-      let o = c .before .before .before .before .before .before .before .before .before .before .before .opening in
-      let inner = c .before .before .before .before .before .alternation in
-      group-refused (a .rule .now) (a .flags) (a .depth) (a .c) (a .before) (o .result) (o .ensures) _ _ _ (c .before .before .before .before .before .before .before .before .before .o2 .given .1) (c .before .before .before .before .before .before .before .if1 .left) (inner .result) (inner .ensures) _ (c .before .r .given .1)
+      group-unopened (a .rule .now) (a .flags) (a .depth) (a .c) (a .before) (a .table .now) (c .before .before .before .before .before .opening .last .1 .0) (c .before .before .before .before .before .opening .result) (c .before .before .before .before .before .opening .ensures (a .flags)) (a .area .now) _ (c .before .o .given .1)
 
   pub same-length-2 : lts.Need-same-length-2 (calls t) (at t) Post
   same-length-2 c = search needs
 
-  pub returns-4 : lts.Need-returns-4 (calls t) (at t) Post
-  returns-4 c =
-      let start = c .before .before .before .before .before .before .before .before .before .before .before .before .before .before .before .before .before .before in
+  pub same-length-3 : lts.Need-same-length-3 (calls t) (at t) Post
+  same-length-3 c = search needs
+
+  pub returns-2 : lts.Need-returns-2 (calls t) (at t) Post
+  returns-2 c =
+      let start = c .before .before .before .before .before .before .before .before .before .before .before .before .before .before .before .before .before .before .before .before in
       let a = start .args in
-      let o = c .before .before .before .before .before .before .before .before .before .before .before .before .before .before .before .opening in
-      let inner = c .before .before .before .before .before .before .before .before .before .alternation in
+      let inner = c .before .before .before .before .before .before .before .alternation in
+      group-refused (a .rule .now) (a .flags) (a .depth) (a .c) (a .before) (a .table .now) (c .before .before .before .before .before .before .before .before .before .before .before .before .before .before .before .opening .last .1 .0) (c .before .before .before .before .before .before .before .before .before .before .before .before .before .before .before .opening .result) (c .before .before .before .before .before .before .before .before .before .before .before .before .before .before .before .opening .ensures (a .flags)) _ _ _ (c .before .before .before .before .before .before .before .before .before .before .before .o2 .given .1) (inner .last .1 .1 .1 .0) (inner .result) (inner .ensures) _ (c .before .r .given .1)
+
+  pub same-length-4 : lts.Need-same-length-4 (calls t) (at t) Post
+  same-length-4 c = search needs
+
+  pub same-length-5 : lts.Need-same-length-5 (calls t) (at t) Post
+  same-length-5 c = search needs
+
+  pub returns-3 : lts.Need-returns-3 (calls t) (at t) Post
+  returns-3 c =
+      let start = c .before .before .before .before .before .before .before .before .before .before .before .before .before .before .before .before .before .before .before .before .before .before .before .before in
+      let a = start .args in
+      let inner = c .before .before .before .before .before .before .before .before .before .before .before .alternation in
       let end = c .before .before .close in
-      group-sound (a .rule .now) (a .flags) (a .depth) (a .c) (a .before) (o .result) (o .ensures) _ _ _ (c .before .before .before .before .before .before .before .before .before .before .before .before .before .o2 .given .1) (c .before .before .before .before .before .before .before .before .before .before .before .if1 .left) (inner .result) (inner .ensures) _ _ (c .before .before .before .before .before .r2 .given .1) _ (end .result) (end .ensures)
+      group-sound (a .rule .now) (a .flags) (a .depth) (a .c) (a .before) (a .table .now) (c .before .before .before .before .before .before .before .before .before .before .before .before .before .before .before .before .before .before .before .opening .last .1 .0) (c .before .before .before .before .before .before .before .before .before .before .before .before .before .before .before .before .before .before .before .opening .result) (c .before .before .before .before .before .before .before .before .before .before .before .before .before .before .before .before .before .before .before .opening .ensures (a .flags)) _ _ _ (c .before .before .before .before .before .before .before .before .before .before .before .before .before .before .before .o2 .given .1) (inner .last .1 .1 .1 .0) (inner .result) (inner .ensures) _ _ (c .before .before .before .before .before .r2 .given .1) _ (end .result) (end .ensures)

@@ -2,9 +2,6 @@
 use Prim.Native.Nat.{ℕ, _<_, _+_, _-_, _*_}
 use borrow.Fn.Kinds.{In}
 use borrow.Fn.PlainCycle.{Measures, is, falls, and}
-use lib.ListN.{length}
-use Rattle.lexer.proofs.behind_blanks.Reads as behind-blanks-reads
-use Rattle.lexer.proofs.peek.Reads as peek-reads
 use Rattle.reader.proofs.alternation.Reads as alternation
 use Rattle.reader.proofs.alternation.Kinds as alternation-kinds
 use Rattle.reader.proofs.+alternation+further+group+piece+sequence.Lts-alternation as alternation-lts
@@ -20,60 +17,63 @@ use Rattle.reader.proofs.+alternation+further+group+piece+sequence.Lts-
 use Rattle.reader.proofs.sequence.Reads as sequence
 use Rattle.reader.proofs.sequence.Kinds as sequence-kinds
 use Rattle.reader.proofs.+alternation+further+group+piece+sequence.Lts-sequence as sequence-lts
-use Rattle.reader.proofs.nodes.put_three.Reads as put-three-reads
-use Rattle.reader.proofs.parts.close.Reads as close-reads
-use Rattle.reader.proofs.parts.opening.Reads as opening-reads
-use Rattle.reader.proofs.parts.other.Reads as other-reads
+use Rattle.lexer.proofs.behind_blanks.Reads as behind-blanks-reads
+use Rattle.lexer.proofs.peek.Reads as peek-reads
 use Rattle.reader.proofs.behind.Reads as behind-reads
+use Rattle.reader.proofs.nodes.put_three.Reads as put-three-reads
+use Rattle.reader.proofs.openings.opening.Reads as opening-reads
+use Rattle.reader.proofs.parts.close.Reads as close-reads
+use Rattle.reader.proofs.parts.other.Reads as other-reads
 use Rattle.reader.proofs.stops.Reads as stops-reads
+use lib.ListN.{length}
 
-abbrev pub μ-alternation : Measures 2 alternation-kinds.ps ℕ
-μ-alternation κs a = 5 * (length (a .0 .now) - a .1 .1 .1 .0 .at) + 4
+abbrev pub μ-alternation : Measures 3 alternation-kinds.ps ℕ
+μ-alternation κs a = 5 * (length (a .0 .now) - a .1 .1 .1 .1 .0 .at) + 4
 
-abbrev pub μ-further : Measures 2 further-kinds.ps ℕ
-μ-further κs a = 5 * (length (a .0 .now) - a .1 .1 .1 .0 .at) + 3
+abbrev pub μ-further : Measures 3 further-kinds.ps ℕ
+μ-further κs a = 5 * (length (a .0 .now) - a .1 .1 .1 .1 .0 .at) + 3
 
-abbrev pub μ-group : Measures 2 group-kinds.ps ℕ
-μ-group κs a = 5 * (length (a .0 .now) - a .1 .1 .1 .0 .at) + 0
+abbrev pub μ-group : Measures 3 group-kinds.ps ℕ
+μ-group κs a = 5 * (length (a .0 .now) - a .1 .1 .1 .1 .0 .at) + 0
 
-abbrev pub μ-piece : Measures 2 piece-kinds.ps ℕ
-μ-piece κs a = 5 * (length (a .0 .now) - a .1 .1 .1 .0 .at) + 1
+abbrev pub μ-piece : Measures 3 piece-kinds.ps ℕ
+μ-piece κs a = 5 * (length (a .0 .now) - a .1 .1 .1 .1 .0 .at) + 1
 
-abbrev pub μ-sequence : Measures 2 sequence-kinds.ps ℕ
-μ-sequence κs a = 5 * (length (a .0 .now) - a .1 .1 .1 .0 .at) + 2
+abbrev pub μ-sequence : Measures 3 sequence-kinds.ps ℕ
+μ-sequence κs a = 5 * (length (a .0 .now) - a .1 .1 .1 .1 .0 .at) + 2
 
-abbrev pub alternation-at : ℕ → In 2 alternation-kinds.ps
+abbrev pub alternation-at : ℕ → In 3 alternation-kinds.ps
 alternation-at t =
-    and 2 alternation-kinds.ps (is 2 alternation-kinds.ps μ-alternation t) alternation.Pre
+    and 3 alternation-kinds.ps (is 3 alternation-kinds.ps μ-alternation t) alternation.Pre
 
-abbrev pub alternation-below : ℕ → In 2 alternation-kinds.ps
+abbrev pub alternation-below : ℕ → In 3 alternation-kinds.ps
 alternation-below t =
-    and 2 alternation-kinds.ps (falls 2 alternation-kinds.ps _<_ μ-alternation t) alternation.Pre
+    and 3 alternation-kinds.ps (falls 3 alternation-kinds.ps _<_ μ-alternation t) alternation.Pre
 
-abbrev pub further-at : ℕ → In 2 further-kinds.ps
-further-at t = and 2 further-kinds.ps (is 2 further-kinds.ps μ-further t) further.Pre
+abbrev pub further-at : ℕ → In 3 further-kinds.ps
+further-at t = and 3 further-kinds.ps (is 3 further-kinds.ps μ-further t) further.Pre
 
-abbrev pub further-below : ℕ → In 2 further-kinds.ps
-further-below t = and 2 further-kinds.ps (falls 2 further-kinds.ps _<_ μ-further t) further.Pre
+abbrev pub further-below : ℕ → In 3 further-kinds.ps
+further-below t = and 3 further-kinds.ps (falls 3 further-kinds.ps _<_ μ-further t) further.Pre
 
-abbrev pub group-at : ℕ → In 2 group-kinds.ps
-group-at t = and 2 group-kinds.ps (is 2 group-kinds.ps μ-group t) group.Pre
+abbrev pub group-at : ℕ → In 3 group-kinds.ps
+group-at t = and 3 group-kinds.ps (is 3 group-kinds.ps μ-group t) group.Pre
 
-abbrev pub group-below : ℕ → In 2 group-kinds.ps
-group-below t = and 2 group-kinds.ps (falls 2 group-kinds.ps _<_ μ-group t) group.Pre
+abbrev pub group-below : ℕ → In 3 group-kinds.ps
+group-below t = and 3 group-kinds.ps (falls 3 group-kinds.ps _<_ μ-group t) group.Pre
 
-abbrev pub piece-at : ℕ → In 2 piece-kinds.ps
-piece-at t = and 2 piece-kinds.ps (is 2 piece-kinds.ps μ-piece t) piece.Pre
+abbrev pub piece-at : ℕ → In 3 piece-kinds.ps
+piece-at t = and 3 piece-kinds.ps (is 3 piece-kinds.ps μ-piece t) piece.Pre
 
-abbrev pub piece-below : ℕ → In 2 piece-kinds.ps
-piece-below t = and 2 piece-kinds.ps (falls 2 piece-kinds.ps _<_ μ-piece t) piece.Pre
+abbrev pub piece-below : ℕ → In 3 piece-kinds.ps
+piece-below t = and 3 piece-kinds.ps (falls 3 piece-kinds.ps _<_ μ-piece t) piece.Pre
 
-abbrev pub sequence-at : ℕ → In 2 sequence-kinds.ps
-sequence-at t = and 2 sequence-kinds.ps (is 2 sequence-kinds.ps μ-sequence t) sequence.Pre
+abbrev pub sequence-at : ℕ → In 3 sequence-kinds.ps
+sequence-at t = and 3 sequence-kinds.ps (is 3 sequence-kinds.ps μ-sequence t) sequence.Pre
 
-abbrev pub sequence-below : ℕ → In 2 sequence-kinds.ps
+abbrev pub sequence-below : ℕ → In 3 sequence-kinds.ps
 sequence-below t =
-    and 2 sequence-kinds.ps (falls 2 sequence-kinds.ps _<_ μ-sequence t) sequence.Pre
+    and 3 sequence-kinds.ps (falls 3 sequence-kinds.ps _<_ μ-sequence t) sequence.Pre
 
 abbrev pub alternation-calls : ℕ → alternation-lts.Claims
 alternation-calls t = (sequence-below t, sequence.Post, further-below t, further.Post)

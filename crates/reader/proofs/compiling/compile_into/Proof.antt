@@ -1,5 +1,5 @@
 -- `compile_into` meets its contract: each answer is a law of Compilations, at what the two passes ensure.
-use Rattle.reader.proofs.Compilations.{stands, entered, dangling, parse-refused}
+use Rattle.reader.proofs.Compilations.{linkable, entered, dangling, parse-refused}
 use borrow.Author.Needs.{needs}
 use Rattle.reader.proofs.compiling.compile_into.Statement.{statement}
 use Rattle.reader.proofs.compiling.compile_into.Tie as tie
@@ -14,7 +14,10 @@ enum-known-r-2 : tie.Need-enum-known-r-2
 enum-known-r-2 c = search needs
 
 link-requires : tie.Need-link-requires
-link-requires c κs = stands _ _ _ _ _ (rw (c .before .before .r2 .given .1) at (c .before .before .before .before .before .before .read-rule .ensures))
+link-requires c κs =
+    let a = c .before .before .before .before .before .before .before .before .before .before .before .before .before .before .before .args in
+    let read = c .before .before .before .before .before .before .before .before .before .read-rule in
+    linkable (a .rule .now) (a .flags) (read .last .1 .1 .0) (read .last .1 .1 .1 .0) _ _ (rw (c .before .before .before .r2 .given .1) at (read .ensures))
 
 enum-known-l : tie.Need-enum-known-l
 enum-known-l c = search needs
@@ -25,20 +28,35 @@ enum-known-l-2 c = search needs
 same-length : tie.Need-same-length
 same-length c = search needs
 
-returns : tie.Need-returns
-returns c = parse-refused _ _ _ _ (rw (c .before .r .given .1) at (c .before .before .before .before .before .read-rule .ensures))
-
 same-length-2 : tie.Need-same-length-2
 same-length-2 c = search needs
 
-returns-2 : tie.Need-returns-2
-returns-2 c = entered _ _ _ _ _ (rw (c .before .before .before .before .before .before .before .before .r2 .given .1) at (c .before .before .before .before .before .before .before .before .before .before .before .before .read-rule .ensures)) _ _ (c .before .before .before .before .before .link .ensures) _ (c .before .l .given .1)
+returns : tie.Need-returns
+returns c = parse-refused _ _ _ _ (rw (c .before .r .given .1) at (c .before .before .before .before .before .before .before .read-rule .ensures))
 
 same-length-3 : tie.Need-same-length-3
 same-length-3 c = search needs
 
+same-length-4 : tie.Need-same-length-4
+same-length-4 c = search needs
+
+returns-2 : tie.Need-returns-2
+returns-2 c =
+    let a = c .before .before .before .before .before .before .before .before .before .before .before .before .before .before .before .before .before .before .before .before .before .args in
+    let read = c .before .before .before .before .before .before .before .before .before .before .before .before .before .before .before .read-rule in
+    entered (a .rule .now) (a .flags) (read .last .1 .1 .0) (read .last .1 .1 .1 .0) _ _ (rw (c .before .before .before .before .before .before .before .before .before .r2 .given .1) at (read .ensures)) _ _ (c .before .before .before .before .before .link .ensures) _ (c .before .l .given .1)
+
+same-length-5 : tie.Need-same-length-5
+same-length-5 c = search needs
+
+same-length-6 : tie.Need-same-length-6
+same-length-6 c = search needs
+
 returns-3 : tie.Need-returns-3
-returns-3 c = dangling _ _ _ _ _ (rw (c .before .before .before .before .before .before .before .before .r2 .given .1) at (c .before .before .before .before .before .before .before .before .before .before .before .before .read-rule .ensures)) _ _ (c .before .before .before .before .before .link .ensures) _ (c .before .l2 .given .1)
+returns-3 c =
+    let a = c .before .before .before .before .before .before .before .before .before .before .before .before .before .before .before .before .before .before .before .before .before .args in
+    let read = c .before .before .before .before .before .before .before .before .before .before .before .before .before .before .before .read-rule in
+    dangling (a .rule .now) (a .flags) (read .last .1 .1 .0) (read .last .1 .1 .1 .0) _ _ (rw (c .before .before .before .before .before .before .before .before .before .r2 .given .1) at (read .ensures)) _ _ (c .before .before .before .before .before .link .ensures) _ (c .before .l2 .given .1)
 
 pub compile-into-spec : {M : Type 1} → statement M
 compile-into-spec =
@@ -51,8 +69,11 @@ compile-into-spec =
     enum-known-l
     enum-known-l-2
     same-length
-    returns
     same-length-2
-    returns-2
+    returns
     same-length-3
+    same-length-4
+    returns-2
+    same-length-5
+    same-length-6
     returns-3)

@@ -4,7 +4,7 @@ use Prim.Native.Nat.{ℕ, zero, suc, _/_, _%_, _<_}
 use native.Mathlib.Omega.{arith}
 use lib.Dec.{eqb}
 use Rattle.syntax.specs.Limits.{ignoreCaseBit}
-use Rattle.syntax.specs.Grammar.{ignoreCase}
+use Rattle.syntax.specs.Flags.{ignoreCase}
 use Rattle.syntax.specs.Compiled.{foldedWord}
 use Rattle.reader.proofs.nodes.folded_word.Statement.{statement}
 use Rattle.reader.proofs.nodes.folded_word.Tie as tie

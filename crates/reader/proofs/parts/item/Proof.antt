@@ -1,6 +1,7 @@
 -- By what kind of item was read: one law for each return.
+use native.Mathlib.Omega.{arith}
 use borrow.Author.Needs.{needs}
-use Rattle.reader.proofs.Items.{item-bad, item-byte, item-assert, item-reference}
+use Rattle.reader.proofs.Items.{item-bad, item-byte, item-assert, item-reference, named-within, item-named}
 use Rattle.reader.proofs.parts.item.Statement.{statement}
 use Rattle.reader.proofs.parts.item.Tie as tie
 
@@ -61,6 +62,38 @@ put-reference-requires c κs = search needs
 behind-requires-3 : tie.Need-behind-requires-3
 behind-requires-3 c κs = search needs
 
+enum-known-token-5 : tie.Need-enum-known-token-5
+enum-known-token-5 c = search needs
+
+folded-word-requires-2 : tie.Need-folded-word-requires-2
+folded-word-requires-2 c κs = search needs
+
+cast-put-named : tie.Need-cast-put-named
+cast-put-named c = search needs
+
+cast-put-named-2 : tie.Need-cast-put-named-2
+cast-put-named-2 c = search needs
+
+cast-put-named-3 : tie.Need-cast-put-named-3
+cast-put-named-3 c =
+    let start = c .before .before .before .before .before .before .before .before .before in
+    let a = start .args in
+    let l = named-within (a .rule .now) _ (a .flags) (a .last) (start .pre .0) (start .pre .1) (c .before .before .before .before .before .before .item-at .ensures) _ _ _ (c .before .before .before .token5 .given .1) in
+    omega (arith, l, start .pre .0 .narrow)
+
+cast-put-named-4 : tie.Need-cast-put-named-4
+cast-put-named-4 c =
+    let start = c .before .before .before .before .before .before .before .before .before in
+    let a = start .args in
+    let l = named-within (a .rule .now) _ (a .flags) (a .last) (start .pre .0) (start .pre .1) (c .before .before .before .before .before .before .item-at .ensures) _ _ _ (c .before .before .before .token5 .given .1) in
+    omega (arith, l, start .pre .0 .narrow)
+
+put-named-requires : tie.Need-put-named-requires
+put-named-requires c κs = search needs
+
+behind-requires-4 : tie.Need-behind-requires-4
+behind-requires-4 c κs = search needs
+
 returns : tie.Need-returns
 returns c =
     let start = c .before .before .before .before .before .before .before in
@@ -94,6 +127,15 @@ returns-4 c =
     let a = start .args in
     rw (c .behind3 .ensures) (item-reference (a .rule .now) _ (a .flags) (a .last) (start .pre .0) (start .pre .1) (c .before .before .before .before .before .before .before .before .before .before .item-at .ensures) _ _ (c .before .before .before .before .before .before .before .token4 .given .1) (rw (c .before .before .before .before .before .folded-word .ensures) at (c .before .before .before .put-reference .ensures)))
 
+same-length-4 : tie.Need-same-length-4
+same-length-4 c = search needs
+
+returns-5 : tie.Need-returns-5
+returns-5 c =
+    let start = c .before .before .before .before .before .before .before .before .before .before .before .before .before in
+    let a = start .args in
+    rw (c .behind4 .ensures) (item-named (a .rule .now) _ (a .flags) (a .last) (start .pre .0) (start .pre .1) (c .before .before .before .before .before .before .before .before .before .before .item-at .ensures) _ _ _ (c .before .before .before .before .before .before .before .token5 .given .1) (rw (c .before .before .before .before .before .folded-word2 .ensures) at (c .before .before .before .put-named .ensures)))
+
 pub item-spec : {M : Type 1} → statement M
 item-spec =
     tie.close
@@ -117,10 +159,20 @@ item-spec =
     cast-put-reference-2
     put-reference-requires
     behind-requires-3
+    enum-known-token-5
+    folded-word-requires-2
+    cast-put-named
+    cast-put-named-2
+    cast-put-named-3
+    cast-put-named-4
+    put-named-requires
+    behind-requires-4
     returns
     same-length
     returns-2
     same-length-2
     returns-3
     same-length-3
-    returns-4)
+    returns-4
+    same-length-4
+    returns-5)

@@ -1,0 +1,69 @@
+// Whether numbers are a row for a line: whoever lent them may have written anything there.
+use crate::names::GROUP_LIMIT;
+use index::ROW_LENGTH;
+use index::UNSET;
+ghost use mathlib.Core.Path.{_≡_};
+ghost use lib.ListN.{length, getD};
+ghost use Rattle.syntax.specs.Limits.{groupLimit, rowLength};
+ghost use Rattle.lookup.specs.Rows.{isUnset, spanHolds, spansHold, isRow};
+
+// Whether two numbers are those of a group that is not set.
+pub fn is_unset(from: u32, to: u32) -> bool
+    ensures { λ r. ⌜ r ≡ isUnset from to ⌝ }
+{
+    if from != UNSET {
+        return false;
+    }
+    to == UNSET
+}
+
+// Whether two numbers are a span within a start and an end, or those of a group that is not set.
+fn span_holds(start: u32, end: u32, from: u32, to: u32) -> bool
+    ensures { λ r. ⌜ r ≡ spanHolds start end from to ⌝ }
+{
+    if is_unset(from, to) {
+        return true;
+    }
+    if from < start {
+        return false;
+    }
+    if to < from {
+        return false;
+    }
+    to <= end
+}
+
+// Whether every pair of a row is such a span.
+fn spans_hold(row: &[u32], start: u32, end: u32) -> bool
+    requires { ⌜ (length (now row) ≡ rowLength) × (getD (now row) 0 0 ≡ start) × (getD (now row) 1 0 ≡ end) ⌝ }
+    ensures { λ r. ⌜ r ≡ spansHold groupLimit (now (row .entry)) 1 ⌝ }
+{
+    let mut passed: usize = 0;
+    while passed < GROUP_LIMIT {
+        let from = row[2 + 2 * passed];
+        let to = row[3 + 2 * passed];
+        if !span_holds(start, end, from, to) {
+            return false;
+        }
+        passed += 1;
+    }
+    true
+}
+
+// Whether numbers are a row for a line of so many bytes.
+pub fn is_row(row: &[u32], line: usize) -> bool
+    ensures { λ r. ⌜ r ≡ isRow line (now (row .entry)) ⌝ }
+{
+    if row.len() != ROW_LENGTH {
+        return false;
+    }
+    let start = row[0];
+    let end = row[1];
+    if end < start {
+        return false;
+    }
+    if line < end as usize {
+        return false;
+    }
+    spans_hold(row, start, end)
+}

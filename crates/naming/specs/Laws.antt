@@ -1,0 +1,2 @@
+-- Facts for whoever fills the name index.
+pub mod Entries
