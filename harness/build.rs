@@ -27,16 +27,17 @@ fn link_terravisco() {
     std::fs::copy(&archive, folder.join("libterravisco.a")).expect("the archive can be copied");
     println!("cargo:rustc-link-search=native={}", folder.display());
     println!("cargo:rustc-link-lib=static=terravisco");
-    println!("cargo:rustc-check-cfg=cfg(before_names)");
-    if !has_lookup(&archive) {
-        println!("cargo:rustc-cfg=before_names");
-    }
+    // With the field lookup came calls that fill a name index.
+    tell_age(&archive, "before_names", b"terravisco_field");
+    tell_age(&archive, "before_explanations", b"terravisco_explain");
 }
 
-/// Whether the archive has the field lookup, and with it calls that fill a name index. One from before them can still be timed.
-fn has_lookup(archive: &Path) -> bool {
-    let name = b"terravisco_field";
-    std::fs::read(archive).expect("the archive can be read").windows(name.len()).any(|bytes| bytes == name)
+/// Tells the program if the archive is from before this function. Such a one can still be timed.
+fn tell_age(archive: &Path, before: &str, function: &[u8]) {
+    println!("cargo:rustc-check-cfg=cfg({before})");
+    if !std::fs::read(archive).expect("the archive can be read").windows(function.len()).any(|bytes| bytes == function) {
+        println!("cargo:rustc-cfg={before}");
+    }
 }
 
 /// A folder that cargo names in the environment.

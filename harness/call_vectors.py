@@ -15,6 +15,8 @@ from walk_vectors import NAMED_READINGS, READINGS, within_references
 TARGET = Path(__file__).resolve().parent.parent / "crates" / "call_vectors"
 RULE_AREA, ROW, INDEX = 16384, 66, 544
 MOST = 100000  # the largest budget
+MATCH, LIST, EXPLAIN = range(3)
+ENDINGS = {"M": "matched", "N": "not matched", "C": "complete", "F": "full"}
 # Classes of every kind of member, complemented and not.
 CLASSES = [b"[k]", b"[^k]", b"[W-c]", b"[^A-Y]", b"[[:upper:]]", b"[^[:^upper:]b]", b"[[:^lower:]0-9]", b"[\\x00\\x1F-!\\x7e-\\x81\\xFE\\xff]", b"[^\\W_[:digit:]]", b"[^\\d\\D]"]
 
@@ -31,31 +33,34 @@ def names_line(index):
     return ["  names" + shown] if shown else []
 
 
-def refusal(rule, flags, subject, budget, areas):
-    """Refusals 1 to 8, in their order; 0 for none."""
-    tests = [len(rule) > 1000, len(subject) > 65535, flags > 15, budget > 100000, areas[0] < RULE_AREA, areas[1] < 16 * budget, areas[2] < ROW,
-             areas[3] < INDEX]
+def why_lines(furthest, closest, items, marks):
+    """What an explanation tells of a line that is not matched, with so many marks."""
+    marked = "".join("1" if place in items else "0" for place in range(marks))
+    return ["  furthest %d %d" % furthest, "  closest %d %d %d" % closest, "  marks " + marked]
+
+
+def refusal(kind, rule, flags, subject, budget, areas):
+    """Refusals 1 to 8, in their order; 0 for none. An explanation is lent no result area."""
+    tests = [len(rule) > 1000, len(subject) > 65535, flags > 15, budget > 100000, areas[0] < RULE_AREA, areas[1] < 16 * budget,
+             kind != EXPLAIN and areas[2] < ROW, areas[3] < INDEX]
     return tests.index(True) + 1 if True in tests else 0
 
 
 def told(kind, rule, flags, subject, budget, areas):
-    """The lines of one call: its outcome, its rows and, if it has names, those."""
-    number = refusal(rule, flags, subject, budget, areas)
+    """The lines of one call: its outcome, its rows, its names if it has some, and, if it was to explain, why the line is not matched. The
+    last of an explanation's areas are the marks."""
+    number = refusal(kind, rule, flags, subject, budget, areas)
     if number:
         return ["refused %d at 0" % number]
+    call = {MATCH: reference.match, LIST: lambda *asked: reference.listing(*asked, areas[2] // ROW), EXPLAIN: reference.explain}[kind]
     try:
-        if kind == 0:
-            got = reference.match(rule, flags, subject, budget)
-        else:
-            got = reference.listing(rule, flags, subject, budget, areas[2] // ROW)
+        got = call(rule, flags, subject, budget)
     except reference.Refuse as refused:
         return ["refused %d at %d" % (refused.n, refused.p)]
-    names = names_line(reference.index(rule, flags))
-    if kind == 0:
-        return {"M": lambda: ["matched %d steps" % got[1], row_line(got[2])], "N": lambda: ["not matched %d steps" % got[1]],
-                "X": lambda: ["exhausted at %d %d steps" % (got[1], got[2])]}[got[0]]() + names
-    head = {"C": "complete", "F": "full"}.get(got[0]) or "exhausted at %d" % got[1]
-    return ["%s %d steps" % (head, got[-2])] + [row_line(row) for row in got[-1]] + names
+    head = "exhausted at %d %d steps" % got[1:3] if got[0] == "X" else "%s %d steps" % (ENDINGS[got[0]], got[1])
+    rows = got[-1] if kind == LIST else [got[2]] if kind == MATCH and got[0] == "M" else []
+    why = why_lines(*got[2:], min(areas[-1], len(rule))) if kind == EXPLAIN and got[0] == "N" else []
+    return [head] + [row_line(row) for row in rows] + names_line(reference.index(rule, flags)) + why
 
 
 def sound(rule, flags):
@@ -105,6 +110,24 @@ def cases():
         yield kind, b"(", 0, b"a", 10, (RULE_AREA, 160, 0)
         yield kind, b"(", 0, b"a", 10, (RULE_AREA, 160, ROW)
         yield from names(kind)
+    yield from explanations()
+
+
+# What f)'s open points turn on, and each kind of item and of node: rule, flags, line.
+UNFIT = [(b"^abc$", 0, b"abd"), (b"abc", 0, b"abd"), (b"(ab)\\1", 0, b"aba"), (b"a$b", 0, b"a"), (b"(?:a|b)c", 0, b"a"), (b"b*a", 0, b"bb"),
+         (b"^tank (\\w+): (\\d+) L$", 0, b"tank A1 820 L"), (b"a{2}b", 0, b"xaac"), (b"(?:ab)*?c", 0, b"abab"), (b"\\b\\d+\\z", 0, b"12 a"),
+         (b"(?<n>a)\\k<n>", I, b"aAb"), (b"(?:a|b|cd)x", 0, b"cdy"), (b"(a)(b)?\\2", 0, b"ab"), (b"[^a]\\Z", 0, b"\nba"), (b"a b", X, b"aa")]
+
+
+def explanations():
+    """Lines that are not matched, with marks of several lengths; the other answers, and refusal 8 where 7 would be."""
+    for rule, flags, subject in UNFIT:
+        for marks in (len(rule), len(rule) - 1):
+            yield EXPLAIN, rule, flags, subject, 200, (RULE_AREA, 3200, marks, INDEX)
+    for marks in (0, 1, 4, 1001):
+        yield EXPLAIN, b"abc", 0, b"abd", 10, (RULE_AREA, 160, marks, INDEX)
+    for rule, budget, index in ((b"a", 9, 544), (b"a*b", 4, 600), (b"(", 9, 544), (b"(", 9, 543), (b"b", 9, 543), (b"(?<n>b)", 9, 544)):
+        yield EXPLAIN, rule, 0, b"aa", budget, (RULE_AREA, 16 * budget, 9, index)
 
 
 def names(kind):
@@ -160,7 +183,8 @@ def main():
         given = "x%d" % len(subject) if subject == b"a" * len(subject) and len(subject) > 1000 else subject.hex()
         # call, flags, budget, the lengths of the areas and of the name index, rule, subject
         asked.append("%d %d %d %d %d %d %d %s %s\n" % (kind, flags, budget, *areas, rule.hex(), given))
-        answers += told(kind, rule, flags, subject, budget, areas)
+        # in these calls an explanation has as many marks as another call has numbers in its result area
+        answers += told(kind, rule, flags, subject, budget, areas + areas[2:3])
     TARGET.joinpath("stdin").write_text("".join(asked))
     TARGET.joinpath("stdout").write_text("".join(line + "\n" for line in answers))
     print("%d calls, %d bytes, %d lines" % (len(asked), sum(map(len, asked)), len(answers)), file=sys.stderr)

@@ -1,9 +1,9 @@
 #!/usr/bin/env python3
 """Compares reference.py with the independent matcher in src/independent on random calls: outcomes, steps, rows, names, refusals with
-their places.
+their places, and what explanations tell and mark.
 
 Neither is the library, and they share no line: where they differ, one of the two reads the documents wrongly.
-Usage: harness/compare_reference.py [ARGUMENTS OF print_calls] (after `cargo build --release` in harness/)
+Usage: harness/compare_reference.py [ARGUMENTS OF print_calls] (after `cargo build --release` in harness/), such as --explanations
        harness/compare_reference.py --lookups [ARGUMENTS OF print_lookups], for the field lookup
 """
 import subprocess
@@ -18,17 +18,17 @@ PROGRAMS = Path(__file__).resolve().parent / "target" / "release"
 
 def shown(lines):
     """The lines of call_vectors in the words of the independent matcher."""
-    head, rows, names = lines[0], [], ""
+    head, rows, others = lines[0], [], ""
     for line in lines[1:]:
-        first, end, *spans = line.split()
-        if first == "names":
-            names = line[1:]
+        first, *more = line.split()
+        if first.isdigit():
+            rows.append(" ".join([first + "-" + more[0]] + more[1:]))
         else:
-            rows.append(" ".join([first + "-" + end] + spans))
+            others += line[1:]
     if head.startswith("refused"):
         return head
     ending, steps, _ = head.rsplit(" ", 2)
-    return "%s, %s steps [%s]%s" % (ending, steps, "; ".join(rows), names)
+    return "%s, %s steps [%s]%s" % (ending, steps, "; ".join(rows), others)
 
 
 def call(fields):

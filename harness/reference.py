@@ -1,5 +1,5 @@
 #!/usr/bin/env python3
-"""An independent matcher written from documents 01 and 02: parse, walk, match, list."""
+"""An independent matcher written from documents 01 and 02: parse, walk, match, list, explain."""
 import sys
 sys.setrecursionlimit(1000000)
 U=4294967295
@@ -213,8 +213,9 @@ class Parser:
 W=SETS['word']
 class Done(Exception): pass
 class Walk:
-    """steps in order: calls on_end(at,caps) at each end; raises Done when the callback says so or the budget ends"""
-    def __init__(s,sub,tree,budget): s.sub=sub; s.tree=tree; s.left=budget; s.steps=0; s.cut=False
+    """steps in order: calls on_end(at,caps) at each end; raises Done when the callback says so or the budget ends. missed has the items that
+    failed: where in the line they were tried, and where in the rule they stand"""
+    def __init__(s,sub,tree,budget): s.sub=sub; s.tree=tree; s.left=budget; s.steps=0; s.cut=False; s.missed=[]
     def step(s):
         if s.left==0: s.cut=True; raise Done
         s.left-=1; s.steps+=1
@@ -240,23 +241,10 @@ class Walk:
             def closed(j,c):
                 s.step(); c=dict(c); c[n]=(i,j); k(j,c)
             return s.go(t[2],i,caps,closed)
-        if y=='set':
-            s.step()
-            if i<len(s.sub) and s.sub[i] in t[2]: k(i+1,caps)
-            return
-        if y=='place':
-            s.step()
-            if s.holds(t[2],i): k(i,caps)
-            return
-        if y=='ref':
-            s.step()
-            if t[2] not in caps: return
-            a,b=caps[t[2]]; u=s.sub.upper() if t[3] else s.sub # bytes.upper moves a to z alone
-            for x in range(b-a):
-                if i+x==len(u): return # nothing is compared with what is not there
-                s.step()
-                if u[a+x]!=u[i+x]: return
-            return k(i+b-a,caps)
+        if y in('set','place','ref'):
+            s.step(); j=s.tried(t,i,caps)
+            if j is None: s.missed.append((i,t[1])); return
+            return k(j,caps)
         if y=='rep':
             _,p,lo,hi,lazy,body=t
             def decide(n,idle,i,caps):
@@ -269,6 +257,17 @@ class Walk:
                 else: rnd(); k(i,caps)
             return decide(0,False,i,caps)
         raise Exception(y)
+    def tried(s,t,i,caps):
+        """where an item that is tried at i leads, or None if it fails; each byte that a reference compares is a step"""
+        if t[0]=='set': return i+1 if i<len(s.sub) and s.sub[i] in t[2] else None
+        if t[0]=='place': return i if s.holds(t[2],i) else None
+        if t[2] not in caps: return None
+        a,b=caps[t[2]]; u=s.sub.upper() if t[3] else s.sub # bytes.upper moves a to z alone
+        for x in range(b-a):
+            if i+x==len(u): return None # nothing is compared with what is not there
+            s.step()
+            if u[a+x]!=u[i+x]: return None
+        return i+b-a
     def items(s,l,x,i,caps,k):
         if x==len(l): return k(i,caps)
         return s.go(l[x],i,caps,lambda j,c: s.items(l,x+1,j,c,k))
@@ -297,7 +296,8 @@ def field(name,idx,line,kind,row,standing):
     if any(p!=(U,U) and not start<=p[0]<=p[1]<=end for p in pairs): return 1,0,0
     a,b=pairs[hits[0]]
     return (1,0,len(standing)) if (a,b)==(U,U) else (0,a,b)
-def match(rule,flags,sub,budget):
+def match(rule,flags,sub,budget,walks=None):
+    """walks, if lent, gets the walk of each start"""
     t,g=read(rule,flags); total=0
     for st in range(len(sub)+1):
         w=Walk(sub,t,budget); hit=[]
@@ -305,6 +305,7 @@ def match(rule,flags,sub,budget):
         try: w.run(st,e)
         except Done: pass
         total+=w.steps
+        if walks is not None: walks.append(w)
         if hit: return ('M',total,hit[0])
         if w.cut: return ('X',st,total)
     return ('N',total)
@@ -323,3 +324,13 @@ def listing(rule,flags,sub,budget,room):
         if full: return ('F',total,rows)
         if w.cut: return ('X',st,total,rows)
     return ('C',total,rows)
+def explain(rule,flags,sub,budget):
+    """as match without a row; if not matched also the furthest place with its first item, the closest attempt (start, place, item), and the items
+    that failed at that place in that attempt"""
+    walks=[]; got=match(rule,flags,sub,budget,walks)
+    if got[0]!='N': return got[:2] if got[0]=='M' else got
+    missed=[(st,i,p) for st,w in enumerate(walks) for i,p in w.missed]
+    far=max(i for st,i,p in missed); long=max(i-st for st,i,p in missed)
+    item=next(p for st,i,p in missed if i==far)
+    close=next(m for m in missed if m[1]-m[0]==long)
+    return ('N',got[1],(far,item),close,sorted({p for st,i,p in missed if (st,i)==close[:2]}))

@@ -1,10 +1,11 @@
-/* Terravisco: matching a Perl regular expression against a line, within a budget of steps.
+/* Terravisco: matching a Perl regular expression against a line, within a budget of steps, and telling why a line does not match.
  *
  * Link with libterravisco.a, which `rt staticlib terravisco` writes to target/staticlib/.
  *
  * Nothing is required of what is handed in: any bytes, any flags, any budget and areas of any length give an answer or a refusal.
  * What a caller owes is only what C cannot tell: each pointer leads to as many bytes or numbers as the length beside it says, and the three
- * areas, the names and the answer overlap neither each other nor the rule and the subject. A pointer is never null, even beside a length of 0.
+ * areas, the names, the marks and the answer overlap neither each other nor the rule and the subject. A pointer is never null, even beside a
+ * length of 0.
  *
  * flags         bit 0 is `s`, bit 1 is `m`, bit 2 is `i`, bit 3 is `x`
  * budget        steps for each start in the subject, at most 100,000
@@ -35,7 +36,10 @@ enum {
     TERRAVISCO_WORK_PER_STEP = 16,
     TERRAVISCO_ROW = 66,
     TERRAVISCO_NAME_ENTRY = 17,
-    TERRAVISCO_NAME_INDEX = 544
+    TERRAVISCO_NAME_INDEX = 544,
+    TERRAVISCO_LONGEST_RULE = 1000,
+    TERRAVISCO_ANSWER = 6,
+    TERRAVISCO_EXPLAIN_ANSWER = 11
 };
 
 #define TERRAVISCO_UNSET UINT32_C(4294967295)
@@ -47,12 +51,30 @@ enum {
 void terravisco_match(const uint8_t *rule, size_t rule_len, uint32_t flags,
                       const uint8_t *subject, size_t subject_len, uint32_t budget,
                       uint32_t *rule_area, size_t rule_area_len, uint32_t *work_area, size_t work_area_len,
-                      uint32_t *result, size_t result_len, uint8_t *names, size_t names_len, uint32_t answer[6]);
+                      uint32_t *result, size_t result_len, uint8_t *names, size_t names_len, uint32_t answer[TERRAVISCO_ANSWER]);
 
 void terravisco_list(const uint8_t *rule, size_t rule_len, uint32_t flags,
                      const uint8_t *subject, size_t subject_len, uint32_t budget,
                      uint32_t *rule_area, size_t rule_area_len, uint32_t *work_area, size_t work_area_len,
-                     uint32_t *result, size_t result_len, uint8_t *names, size_t names_len, uint32_t answer[6]);
+                     uint32_t *result, size_t result_len, uint8_t *names, size_t names_len, uint32_t answer[TERRAVISCO_ANSWER]);
+
+/* Tells why a line does not match: which items of the rule failed, and where. An item is what takes one byte (a byte, `.`, a class, an escape for a
+   byte or a set), a place (`^`, `$`, `\b` and the like) or a reference. It is tried at a place in the line, a reference where it begins, and has
+   its own place in the rule, that of its first byte, also under a repeat.
+   marks     of any length, 0 too; TERRAVISCO_LONGEST_RULE bytes are enough for every rule
+   answer    [0] to [4] those of a match, [5] 0, and if the line is not matched:
+             [6] the greatest place in the line at which an item failed, [7] the place in the rule of the first that failed there, in the order in
+             which they are tried, over all starts. The line's end is a start too, so that [6] is always subject_len.
+             The closest attempt, of all items that failed the first of those that were tried furthest from their start: [8] that start, [9] the
+             place in the line, [10] the place in the rule.
+             [6] to [10] are 0 if the line is matched, exhausted or refused.
+   If the line is not matched, marks get for each byte of the rule, as far as they go, 1 where an item begins that failed at the place [9] in the
+   attempt from [8], else 0: what was wanted there. Those behind the rule's length are as they were, and all of them after any other answer.
+   There is no result area, so that refusal 7 is not given. The areas and the name index are left as by a match, after refusals too. */
+void terravisco_explain(const uint8_t *rule, size_t rule_len, uint32_t flags,
+                        const uint8_t *subject, size_t subject_len, uint32_t budget,
+                        uint32_t *rule_area, size_t rule_area_len, uint32_t *work_area, size_t work_area_len,
+                        uint8_t *names, size_t names_len, uint8_t *marks, size_t marks_len, uint32_t answer[TERRAVISCO_EXPLAIN_ANSWER]);
 
 /* Looks a field up: what the group of that name took of a line.
    names     a name index: for each group TERRAVISCO_NAME_ENTRY bytes, the length of its name (0 if none) and the name, whatever follows it. Of the

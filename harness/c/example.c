@@ -1,4 +1,4 @@
-/* A worked example of the C interface: every reading of one line, and fields by their names.
+/* A worked example of the C interface: every reading of one line, fields by their names, and why a line does not match.
  *
  * `1,500 L` is one thousand five hundred litres where the comma stands between thousands, and one and a half litres where it is a decimal
  * comma. The rule allows both, so the listing has two rows, and whoever gets two rows knows that the line has to be asked about.
@@ -19,6 +19,7 @@ static uint32_t rule_area[TERRAVISCO_RULE_AREA];
 static uint32_t work_area[TERRAVISCO_WORK_PER_STEP * BUDGET];
 static uint32_t rows[TERRAVISCO_ROW * ROWS];
 static uint8_t names[TERRAVISCO_NAME_INDEX];
+static uint8_t marks[TERRAVISCO_LONGEST_RULE];
 
 static void print_row(const uint32_t *row, const char *line)
 {
@@ -36,7 +37,7 @@ static void print_row(const uint32_t *row, const char *line)
 static void list(const char *rule, uint32_t flags, const char *line)
 {
     static const char *const endings[] = {"complete", "full", "exhausted", "refused"};
-    uint32_t answer[6];
+    uint32_t answer[TERRAVISCO_ANSWER];
 
     terravisco_list((const uint8_t *)rule, strlen(rule), flags, (const uint8_t *)line, strlen(line), BUDGET,
                     rule_area, sizeof rule_area / sizeof *rule_area, work_area, sizeof work_area / sizeof *work_area,
@@ -56,7 +57,7 @@ static void list(const char *rule, uint32_t flags, const char *line)
 /* The litres that a line tells; what stands for the farm where it tells none; nothing where it is no such line. */
 static void print_litres(const char *rule, const char *line, const char *standing)
 {
-    uint32_t answer[6];
+    uint32_t answer[TERRAVISCO_ANSWER];
     uint64_t field[3];
 
     terravisco_match((const uint8_t *)rule, strlen(rule), 0, (const uint8_t *)line, strlen(line), BUDGET,
@@ -65,6 +66,24 @@ static void print_litres(const char *rule, const char *line, const char *standin
     terravisco_field((const uint8_t *)"litres", 6, names, sizeof names, (const uint8_t *)line, strlen(line), answer[0],
                      rows, TERRAVISCO_ROW, (const uint8_t *)standing, strlen(standing), field);
     printf("litres in `%s`: `%.*s`\n", line, (int)(field[2] - field[1]), (field[0] == 0 ? line : standing) + field[1]);
+}
+
+/* Under a line that does not match, how far the closest attempt got; under the rule, what was wanted there. */
+static void explain(const char *rule, const char *line)
+{
+    uint32_t answer[TERRAVISCO_EXPLAIN_ANSWER];
+
+    terravisco_explain((const uint8_t *)rule, strlen(rule), 0, (const uint8_t *)line, strlen(line), BUDGET,
+                       rule_area, sizeof rule_area / sizeof *rule_area, work_area, sizeof work_area / sizeof *work_area,
+                       names, sizeof names, marks, sizeof marks, answer);
+    if (answer[0] != 1) {
+        printf("`%s` is %s\n", line, answer[0] == 0 ? "matched" : answer[0] == 2 ? "exhausted" : "refused");
+        return;
+    }
+    printf("%s\n%*s the attempt from %u fails here\n%s\n", line, (int)answer[9] + 1, "^", (unsigned)answer[8], rule);
+    for (size_t at = 0; at < strlen(rule); at++)
+        putchar(marks[at] ? '^' : ' ');
+    printf(" wanted\n");
 }
 
 int main(void)
@@ -77,5 +96,7 @@ int main(void)
     print_litres("^tank \\d+:(?: (?<litres>\\d+) L)?$", "tank 7: 820 L", "600");
     print_litres("^tank \\d+:(?: (?<litres>\\d+) L)?$", "tank 7:", "600");
     print_litres("^tank \\d+:(?: (?<litres>\\d+) L)?$", "hall 3", "600");
+    explain("^tank (\\w+): (\\d+) L$", "tank A1 820 L");
+    explain("^tank (\\w+): (\\d+) L$", "tank A1: 820 L");
     return 0;
 }

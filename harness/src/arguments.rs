@@ -1,4 +1,4 @@
-//! The arguments that the test programs share: `--cases N` and `--seeds A..B`, and a switch that one of them has.
+//! The arguments that the test programs share: `--cases N` and `--seeds A..B`, and switches that some of them have.
 
 use std::ops::Range;
 
@@ -15,8 +15,14 @@ pub fn arguments(cases: u64, seeds: Range<u64>) -> Arguments {
 
 /// The same where a switch may stand among them, and whether it does.
 pub fn arguments_and_switch(switch: &str, cases: u64, seeds: Range<u64>) -> (Arguments, bool) {
-    let (switches, given): (Vec<String>, Vec<String>) = std::env::args().skip(1).partition(|argument| argument == switch);
-    (read_all(given, Arguments { cases, seeds }), !switches.is_empty())
+    let (arguments, [is_given]) = arguments_and_switches([switch], cases, seeds);
+    (arguments, is_given)
+}
+
+/// The same for several switches.
+pub fn arguments_and_switches<const N: usize>(switches: [&str; N], cases: u64, seeds: Range<u64>) -> (Arguments, [bool; N]) {
+    let (given_switches, given): (Vec<String>, Vec<String>) = std::env::args().skip(1).partition(|argument| switches.contains(&argument.as_str()));
+    (read_all(given, Arguments { cases, seeds }), switches.map(|switch| given_switches.iter().any(|given| given == switch)))
 }
 
 fn read_all(given: Vec<String>, mut arguments: Arguments) -> Arguments {

@@ -1,6 +1,8 @@
 //! One call with all that it is given, and how it and its answer are shown.
 
-use crate::independent::{self, Answer, Ending, Index, Inputs, Row, ENTRY_LENGTH, INDEX_LENGTH, ROW_LENGTH, RULE_AREA, UNSET, WORK_PER_STEP};
+use crate::independent::{
+    self, Answer, Ending, Explanation, Index, Inputs, Row, ENTRY_LENGTH, INDEX_LENGTH, ROW_LENGTH, RULE_AREA, UNSET, WORK_PER_STEP,
+};
 use crate::raw::Call;
 use crate::text;
 
@@ -14,13 +16,16 @@ pub struct Case {
     /// The lengths of the areas.
     pub rule_area: usize,
     pub work_area: usize,
+    /// Not lent to an explanation.
     pub result_area: usize,
     /// In bytes.
     pub name_index: usize,
+    /// In bytes; lent to an explanation alone.
+    pub marks: usize,
 }
 
 impl Case {
-    /// A call whose areas are exactly enough, with room for so many rows.
+    /// A call whose areas are exactly enough, with room for so many rows, or for a mark for each byte of the rule.
     pub fn new(call: Call, rule: &[u8], flags: u32, subject: &[u8], budget: u32, rows: usize) -> Case {
         Case {
             call,
@@ -32,6 +37,7 @@ impl Case {
             work_area: if budget > 100_000 { 0 } else { WORK_PER_STEP * budget as usize },
             result_area: ROW_LENGTH * rows,
             name_index: INDEX_LENGTH,
+            marks: rule.len(),
         }
     }
 
@@ -46,15 +52,20 @@ impl Case {
             work_area: self.work_area,
             result_area: self.result_area,
             name_index: self.name_index,
+            marks: self.marks,
         };
         independent::answer(self.call, &inputs)
     }
 
     /// The case on some lines, with all that is needed to run it again.
     pub fn shown(&self) -> String {
-        let call = if self.call == Call::Match { "match" } else { "list" };
+        let call = match self.call {
+            Call::Match => "match",
+            Call::List => "list",
+            Call::Explain => "explain",
+        };
         format!(
-            "{call} rule `{}` (hex {}) flags {} subject \"{}\" (hex {}) budget {} areas {} {} {} {}",
+            "{call} rule `{}` (hex {}) flags {} subject \"{}\" (hex {}) budget {} areas {} {} {} {} {}",
             text::escaped(&self.rule),
             text::hex(&self.rule),
             self.flags,
@@ -64,7 +75,8 @@ impl Case {
             self.rule_area,
             self.work_area,
             self.result_area,
-            self.name_index
+            self.name_index,
+            self.marks
         )
     }
 }
@@ -81,7 +93,16 @@ pub fn shown(answer: &Answer) -> String {
     };
     let rows: Vec<String> = answer.rows.iter().map(shown_row).collect();
     let names = answer.names.as_deref().map_or(String::new(), shown_names);
-    format!("{ending}, {} steps [{}]{names}", answer.steps, rows.join("; "))
+    let explanation = answer.explanation.as_ref().map_or(String::new(), shown_explanation);
+    format!("{ending}, {} steps [{}]{names}{explanation}", answer.steps, rows.join("; "))
+}
+
+/// ` furthest AT ITEM closest START AT ITEM marks` and the marks, a digit for each.
+fn shown_explanation(explanation: &Explanation) -> String {
+    let Explanation { furthest, closest, marks } = explanation;
+    let (start, miss) = (closest.start, closest.miss);
+    let marks: String = marks.iter().map(|mark| mark.to_string()).collect();
+    format!(" furthest {} {} closest {start} {} {} marks {marks}", furthest.at, furthest.item, miss.at, miss.item)
 }
 
 /// ` names` and, for each entry of the index that is not all 00, its group and its 17 bytes in hex; nothing where there is no such entry.

@@ -1,7 +1,7 @@
 //! Examples written down by hand in `data/`: what is asked and what is expected. The head of `source-examples.txt` says how they look.
 
 use crate::case::{shown_row, Case};
-use crate::independent::{self, Answer, Ending, FLAG_I, FLAG_M, FLAG_S, FLAG_X};
+use crate::independent::{self, Answer, Attempt, Ending, Explanation, Miss, FLAG_I, FLAG_M, FLAG_S, FLAG_X};
 use crate::raw::Call;
 use crate::text;
 
@@ -19,6 +19,16 @@ pub struct Example {
     steps: Option<u64>,
     /// The groups' names, as `shown_names` writes them.
     names: Option<String>,
+    told: Told,
+}
+
+/// What an explanation is to tell, as far as it is written down.
+#[derive(Default)]
+struct Told {
+    furthest: Option<Miss>,
+    closest: Option<Attempt>,
+    /// The places in the rule of the items that are marked.
+    marked: Option<Vec<usize>>,
 }
 
 /// The examples of a file, or what cannot be read in it.
@@ -46,8 +56,9 @@ pub fn read(file: &str) -> Result<Vec<Example>, String> {
 
 impl Example {
     fn new(line: usize) -> Example {
-        let case = Case::new(Call::Match, b"", 0, b"", 10_000, 10);
-        Example { from: String::new(), line, case, same: None, rows: Vec::new(), ending: None, steps: None, names: None }
+        let case = Case { marks: 1_000, ..Case::new(Call::Match, b"", 0, b"", 10_000, 10) };
+        let (from, rows, told) = (String::new(), Vec::new(), Told::default());
+        Example { from, line, case, same: None, rows, ending: None, steps: None, names: None, told }
     }
 
     fn set(&mut self, field: &str, value: &str) -> Option<()> {
@@ -59,11 +70,14 @@ impl Example {
             "subject" => self.case.subject = text::unescaped(value)?,
             "flags" => self.case.flags = flags(value)?,
             "call" if value == "list" => self.case.call = Call::List,
+            "call" if value == "explain" => self.case.call = Call::Explain,
             "budget" => self.case.budget = value.parse().ok()?,
             "rows" => self.case.result_area = 66 * value.parse::<usize>().ok()?,
             "numbers" => self.case.result_area = value.parse().ok()?,
             "index" => self.case.name_index = value.parse().ok()?,
+            "marks" => self.case.marks = value.parse().ok()?,
             "names" => self.names = Some(value.to_string()),
+            "furthest" | "closest" | "marked" => self.told.set(field, &numbers(value)?)?,
             "steps" => self.steps = Some(value.parse().ok()?),
             "expect" => self.expect(value)?,
             _ => return None,
@@ -75,6 +89,7 @@ impl Example {
         let words: Vec<&str> = value.split(' ').collect();
         self.ending = Some(match words[..] {
             ["none"] => Ending::NotMatched,
+            ["matched"] if self.case.call == Call::Explain => Ending::Matched,
             ["complete"] => Ending::Complete,
             ["full"] => Ending::Full,
             ["exhausted", start] => Ending::Exhausted(start.parse().ok()?),
@@ -90,11 +105,11 @@ impl Example {
     /// The work area follows from the budget. An example expects something.
     fn finish(&mut self) -> Result<(), String> {
         self.case.work_area = if self.case.budget > 100_000 { 0 } else { 16 * self.case.budget as usize };
-        let listing = self.case.call == Call::List;
+        let (listing, explains) = (self.case.call == Call::List, self.case.call == Call::Explain);
         let fits = match self.ending {
             None => self.same.is_some(),
-            Some(Ending::Matched) => !listing && self.rows.len() == 1,
-            Some(Ending::NotMatched) => !listing && self.rows.is_empty(),
+            Some(Ending::Matched) => !listing && self.rows.len() == usize::from(!explains),
+            Some(Ending::NotMatched) => !listing && self.rows.is_empty() && self.told.explanation(&self.case).is_some() == explains,
             Some(Ending::Complete | Ending::Full) => listing,
             Some(Ending::Exhausted(_) | Ending::Refused(_)) => true,
         };
@@ -112,6 +127,10 @@ impl Example {
         if Some(answer.ending) != self.ending || rows != self.rows {
             faults.push(format!("{who} answers {}, expected {:?} {:?}", crate::case::shown(answer), self.ending, self.rows));
         }
+        let explanation = self.told.explanation(&self.case);
+        if answer.explanation != explanation {
+            faults.push(format!("{who} tells {:?}, expected {explanation:?}", answer.explanation));
+        }
         if self.steps.is_some_and(|steps| steps != answer.steps) {
             faults.push(format!("{who} takes {} steps, expected {:?}", answer.steps, self.steps));
         }
@@ -120,6 +139,25 @@ impl Example {
             faults.push(format!("{who} fills the index with {names:?}, expected {:?}", self.names));
         }
         faults
+    }
+}
+
+impl Told {
+    fn set(&mut self, field: &str, numbers: &[usize]) -> Option<()> {
+        match (field, numbers) {
+            ("furthest", &[at, item]) => self.furthest = Some(Miss { at, item }),
+            ("closest", &[start, at, item]) => self.closest = Some(Attempt { start, miss: Miss { at, item } }),
+            ("marked", _) => self.marked = Some(numbers.to_vec()),
+            _ => return None,
+        }
+        Some(())
+    }
+
+    /// The explanation, if all of it is written down.
+    fn explanation(&self, case: &Case) -> Option<Explanation> {
+        let marked = self.marked.as_ref()?;
+        let marks = (0..case.marks.min(case.rule.len())).map(|item| u8::from(marked.contains(&item))).collect();
+        Some(Explanation { furthest: self.furthest?, closest: self.closest?, marks })
     }
 }
 
@@ -134,6 +172,11 @@ fn shown_names(index: &independent::Index) -> String {
         }
     };
     (1..).zip(index.chunks_exact(independent::ENTRY_LENGTH)).filter_map(shown).collect::<Vec<_>>().join(" ")
+}
+
+/// Numbers with a blank between two of them; none in an empty text.
+fn numbers(value: &str) -> Option<Vec<usize>> {
+    value.split_terminator(' ').map(|number| number.parse().ok()).collect()
 }
 
 /// Flags as letters, each once, or as a number.

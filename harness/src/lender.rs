@@ -1,9 +1,11 @@
 //! Runs a call with the library on lent areas, and looks at all that the call left behind.
 
+use std::ops::Range;
+
 use crate::case::{shown, Case};
 use crate::fence::Fenced;
-use crate::independent::{self, Answer, Ending, INDEX_LENGTH, ROW_LENGTH, RULE_AREA, WORK_PER_STEP};
-use crate::raw::{self, Areas, Call, Question};
+use crate::independent::{self, Answer, Attempt, Ending, Explanation, Miss, INDEX_LENGTH, ROW_LENGTH, RULE_AREA, WORK_PER_STEP};
+use crate::raw::{self, Areas, Call, Question, ANSWER_LENGTH};
 
 /// Lends areas to the library and looks at every number of them, and of some around them, after the call. The rule and the subject end at a
 /// fence, so that a byte read behind them would end the program.
@@ -14,13 +16,18 @@ pub struct Lender {
     work: Vec<u32>,
     result: Vec<u32>,
     names: Vec<u8>,
+    marks: Vec<u8>,
     /// Where the rule and the subject stand for the library, each up to a fence.
     rule_text: Fenced,
     subject_text: Fenced,
 }
 
-/// Numbers before and behind each area, and bytes around the name index, that no call may touch.
+/// Numbers before and behind each area, and bytes around the name index and the marks, that no call may touch.
 const GUARD: usize = 32;
+
+/// What the numbers of an answer, and some behind them, are before a call.
+const UNWRITTEN: u32 = 0xA5A5_A5A5;
+type Numbers = [u32; ANSWER_LENGTH + 5];
 
 /// What the library did: its answer, and what is wrong with what it left behind.
 pub struct Run {
@@ -32,7 +39,7 @@ impl Default for Lender {
     fn default() -> Lender {
         let (rule_text, subject_text) = (Fenced::new(4_096), Fenced::new(70_000));
         let [pattern, rule, work, result] = [(); 4].map(|()| Vec::new());
-        Lender { pattern, rule, work, result, names: Vec::new(), rule_text, subject_text }
+        Lender { pattern, rule, work, result, names: Vec::new(), marks: Vec::new(), rule_text, subject_text }
     }
 }
 
@@ -40,9 +47,7 @@ impl Lender {
     /// Runs the case with the library and compares it with what the independent matcher expects; tells what differs.
     pub fn compare(&mut self, case: &Case, expected: &Answer) -> Vec<String> {
         let Run { answer, mut faults } = self.run(case);
-        let same =
-            (answer.ending, answer.steps) == (expected.ending, expected.steps) && answer.rows == expected.rows && answer.names == expected.names;
-        if !same {
+        if answer != *expected {
             faults.push(format!("library:     {}\nindependent: {}", shown(&answer), shown(expected)));
         }
         faults
@@ -51,7 +56,7 @@ impl Lender {
     /// Runs the case with the library. What it left in the areas is held against its own answer.
     pub fn run(&mut self, case: &Case) -> Run {
         self.fill(case);
-        let mut answer = [0xA5A5_A5A5; 6];
+        let mut numbers: Numbers = [UNWRITTEN; ANSWER_LENGTH + 5];
         let (rule, subject) = (self.rule_text.hold(&case.rule), self.subject_text.hold(&case.subject));
         let question = Question { rule, flags: case.flags, subject, budget: case.budget };
         let areas = Areas {
@@ -59,10 +64,11 @@ impl Lender {
             work: &mut self.work[GUARD..][..case.work_area],
             result: &mut self.result[GUARD..][..case.result_area],
             names: &mut self.names[GUARD..][..case.name_index],
+            marks: &mut self.marks[GUARD..][..case.marks],
         };
-        raw::call(case.call, question, areas, &mut answer);
+        raw::call(case.call, question, areas, numbers.first_chunk_mut().expect("there are more than an answer has"));
         let mut faults = Vec::new();
-        let answer = self.told(case.call, answer, &mut faults);
+        let answer = self.told(case, &numbers, &mut faults);
         self.look(case, &answer, &mut faults);
         Run { answer, faults }
     }
@@ -77,16 +83,18 @@ impl Lender {
             area.clear();
             area.extend_from_slice(&self.pattern[..length + 2 * GUARD]);
         }
-        self.names.clear();
-        self.names.extend((0..case.name_index + 2 * GUARD).map(byte_before));
+        for (area, length) in [&mut self.names, &mut self.marks].into_iter().zip([case.name_index, case.marks]) {
+            area.clear();
+            area.extend((0..length + 2 * GUARD).map(byte_before));
+        }
     }
 
-    /// The answer that six numbers are, with its rows from the result area.
-    fn told(&self, call: Call, numbers: [u32; 6], faults: &mut Vec<String>) -> Answer {
-        let [kind, detail, place, low, high, rows] = numbers;
-        let ending = match (call, kind) {
-            (Call::Match, 0) => Ending::Matched,
-            (Call::Match, 1) => Ending::NotMatched,
+    /// The answer that the numbers are, with its rows, names and marks from their areas. "What has nothing to say is 0".
+    fn told(&self, case: &Case, numbers: &Numbers, faults: &mut Vec<String>) -> Answer {
+        let [kind, detail, place, low, high, rows, explained @ ..] = *numbers;
+        let ending = match (case.call, kind) {
+            (Call::Match | Call::Explain, 0) => Ending::Matched,
+            (Call::Match | Call::Explain, 1) => Ending::NotMatched,
             (Call::List, 0) => Ending::Complete,
             (Call::List, 1) => Ending::Full,
             (_, 2) => Ending::Exhausted(detail as usize),
@@ -94,7 +102,7 @@ impl Lender {
         };
         let refused = matches!(ending, Ending::Refused(_));
         let no_detail = !refused && !matches!(ending, Ending::Exhausted(_));
-        let room = (self.result.len() - 2 * GUARD) / ROW_LENGTH;
+        let room = if case.call == Call::Explain { 0 } else { case.result_area / ROW_LENGTH };
         if kind > 3 || (no_detail && detail != 0) || (!refused && place != 0) || (refused && (low, high, rows) != (0, 0, 0)) || rows as usize > room {
             faults.push(format!("the answer's numbers are {numbers:?}"));
         }
@@ -102,12 +110,30 @@ impl Lender {
         let rows = written.chunks_exact(ROW_LENGTH).map(|row| row.try_into().expect("a chunk is a row")).collect();
         let filled = self.names.get(GUARD..GUARD + INDEX_LENGTH).and_then(|names| names.try_into().ok());
         let names = if refused { None } else { filled.map(Box::new) };
-        Answer { ending, steps: u64::from(high) << 32 | u64::from(low), rows, names }
+        let explanation = self.explained(case, ending, &explained, faults);
+        Answer { ending, steps: u64::from(high) << 32 | u64::from(low), rows, names, explanation }
+    }
+
+    /// The explanation that the numbers behind the first six are, with its marks. They are 0 where an explanation has none, and as they were where
+    /// the call is another one.
+    fn explained(&self, case: &Case, ending: Ending, numbers: &[u32], faults: &mut Vec<String>) -> Option<Explanation> {
+        let (numbers, behind) = numbers.split_at(ANSWER_LENGTH - 6);
+        let explains = case.call == Call::Explain && ending == Ending::NotMatched;
+        let nothing = if case.call == Call::Explain { 0 } else { UNWRITTEN };
+        if (!explains && numbers.iter().any(|&number| number != nothing)) || behind.iter().any(|&number| number != UNWRITTEN) {
+            faults.push(format!("the answer's numbers behind the sixth are {numbers:?}, and {behind:?} behind these"));
+        }
+        let [at, item, start, close_at, close_item] = [0, 1, 2, 3, 4].map(|index| numbers[index] as usize);
+        explains.then(|| Explanation {
+            furthest: Miss { at, item },
+            closest: Attempt { start, miss: Miss { at: close_at, item: close_item } },
+            marks: self.marks[GUARD..][..case.marks.min(case.rule.len())].to_vec(),
+        })
     }
 
     /// "After refusals 1 to 7 both areas are unchanged; after any other return their needed first part is zero and the rest unchanged."
     /// "All other numbers in the [result] area stay unchanged." "Each call fills a lent name index, bytes after it unchanged", "a refused call leaves
-    /// the index unchanged".
+    /// the index unchanged". Marks are written for "not matched" alone, and none behind the rule's length.
     fn look(&self, case: &Case, answer: &Answer, faults: &mut Vec<String>) {
         let (mut rule, mut work) = (0, 0);
         if answer.clears_areas() {
@@ -126,14 +152,21 @@ impl Lender {
         if !kept(&self.result, ROW_LENGTH * answer.rows.len()) {
             faults.push(format!("the result area is changed behind its {} rows", answer.rows.len()));
         }
-        let filled = if answer.names.is_some() { GUARD..GUARD + INDEX_LENGTH } else { 0..0 };
-        if (0..self.names.len()).any(|at| !filled.contains(&at) && self.names[at] != byte_before(at)) {
-            faults.push(format!("the name index is changed beside its {} bytes", filled.len()));
+        let filled = if answer.names.is_some() { INDEX_LENGTH } else { 0 };
+        let marked = answer.explanation.as_ref().map_or(0, |explanation| explanation.marks.len());
+        for (what, area, written) in [("name index", &self.names, filled), ("marks", &self.marks, marked)] {
+            if is_changed_beside(area, GUARD..GUARD + written) {
+                faults.push(format!("the {what} changed beside {written} bytes"));
+            }
         }
     }
 }
 
-/// What the name index, with what lies around it, holds before a call: no byte is 0, and neighbours differ.
+fn is_changed_beside(area: &[u8], written: Range<usize>) -> bool {
+    (0..area.len()).any(|at| !written.contains(&at) && area[at] != byte_before(at))
+}
+
+/// What the name index and the marks, with what lies around them, hold before a call: no byte is 0 or 1, which marks are, and neighbours differ.
 fn byte_before(at: usize) -> u8 {
-    (at % 255) as u8 + 1
+    (at % 254) as u8 + 2
 }

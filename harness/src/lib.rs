@@ -21,3 +21,4 @@ pub mod shapes;
 pub mod shrink;
 pub mod terravisco;
 pub mod text;
+pub mod trial;

@@ -1,15 +1,20 @@
 //! The library's C interface as it stands, and one call of it on lent areas. Tests use this; a program uses `terravisco::Matcher`.
 //!
-//! A library from before names, which `bench --before` may be given, takes no name index and has no lookup: `build.rs` sets `before_names` for it.
+//! A library from before names, which `bench --before` may be given, takes no name index and has no lookup: `build.rs` sets `before_names` for it, and
+//! `before_explanations` for one that has none.
 
 #![allow(unexpected_cfgs)]
 
-/// Which of the two calls.
+/// Which of the calls.
 #[derive(Clone, Copy, PartialEq, Eq, Debug)]
 pub enum Call {
     Match,
     List,
+    Explain,
 }
+
+/// The most numbers that an answer has: those of an explanation. A match and a listing have the first six.
+pub const ANSWER_LENGTH: usize = 11;
 
 extern "C" {
     fn terravisco_match(
@@ -46,6 +51,24 @@ extern "C" {
         #[cfg(not(before_names))] names_len: usize,
         answer: *mut u32,
     );
+    #[cfg(not(before_explanations))]
+    fn terravisco_explain(
+        rule: *const u8,
+        rule_len: usize,
+        flags: u32,
+        subject: *const u8,
+        subject_len: usize,
+        budget: u32,
+        rule_area: *mut u32,
+        rule_area_len: usize,
+        work_area: *mut u32,
+        work_area_len: usize,
+        names: *mut u8,
+        names_len: usize,
+        marks: *mut u8,
+        marks_len: usize,
+        answer: *mut u32,
+    );
     #[cfg(not(before_names))]
     fn terravisco_field(
         name: *const u8,
@@ -72,22 +95,30 @@ pub struct Question<'a> {
     pub budget: u32,
 }
 
-/// The areas that a call works in and writes its rows to.
+/// The areas that a call works in, and those that it writes rows, names and marks to.
 pub struct Areas<'a> {
     pub rule: &'a mut [u32],
     pub work: &'a mut [u32],
+    /// For rows. It is not lent to an explanation.
     pub result: &'a mut [u32],
     /// The name index.
     pub names: &'a mut [u8],
+    /// For an explanation's marks. It is lent to no other call.
+    pub marks: &'a mut [u8],
 }
 
-/// Calls the library. The six numbers of the answer are written over those handed in.
+/// Calls the library. The answer's numbers are written over those handed in, as many as the call has.
+pub fn call(call: Call, question: Question, areas: Areas, answer: &mut [u32; ANSWER_LENGTH]) {
+    match call {
+        Call::Match | Call::List => call_for_rows(call, question, areas, answer),
+        Call::Explain => explain(question, areas, answer),
+    }
+}
+
+/// A match or a listing.
 #[cfg_attr(before_names, allow(unused_variables))]
-pub fn call(call: Call, question: Question, areas: Areas, answer: &mut [u32; 6]) {
-    let function = match call {
-        Call::Match => terravisco_match,
-        Call::List => terravisco_list,
-    };
+fn call_for_rows(call: Call, question: Question, areas: Areas, answer: &mut [u32; ANSWER_LENGTH]) {
+    let function = if call == Call::List { terravisco_list } else { terravisco_match };
     let (rule, rule_len, subject, subject_len) = (question.rule.as_ptr(), question.rule.len(), question.subject.as_ptr(), question.subject.len());
     let (rule_area, rule_area_len, work_area, work_area_len) = (areas.rule.as_mut_ptr(), areas.rule.len(), areas.work.as_mut_ptr(), areas.work.len());
     let (result, result_len, names, names_len) = (areas.result.as_mut_ptr(), areas.result.len(), areas.names.as_mut_ptr(), areas.names.len());
@@ -128,6 +159,35 @@ pub fn call(call: Call, question: Question, areas: Areas, answer: &mut [u32; 6])
             answer.as_mut_ptr(),
         );
     }
+}
+
+#[cfg(not(before_explanations))]
+fn explain(question: Question, areas: Areas, answer: &mut [u32; ANSWER_LENGTH]) {
+    // Safety: every pointer leads to as many elements as the length beside it says, and the borrows keep the areas apart.
+    unsafe {
+        terravisco_explain(
+            question.rule.as_ptr(),
+            question.rule.len(),
+            question.flags,
+            question.subject.as_ptr(),
+            question.subject.len(),
+            question.budget,
+            areas.rule.as_mut_ptr(),
+            areas.rule.len(),
+            areas.work.as_mut_ptr(),
+            areas.work.len(),
+            areas.names.as_mut_ptr(),
+            areas.names.len(),
+            areas.marks.as_mut_ptr(),
+            areas.marks.len(),
+            answer.as_mut_ptr(),
+        );
+    }
+}
+
+#[cfg(before_explanations)]
+fn explain(_: Question, _: Areas, _: &mut [u32; ANSWER_LENGTH]) {
+    panic!("this library is from before explanations");
 }
 
 /// What a field is looked up by: its name, the index that a call filled, and the line with that call's answer, 0 for matched, and its row; and the

@@ -2,7 +2,7 @@
 
 use std::collections::BTreeSet;
 
-use crate::independent::tree::{Alternation, Part, Place, Repeat, Rule};
+use crate::independent::tree::{Alternation, Item, Kind, Part, Place, Repeat, Rule};
 
 /// Found by one walk over a rule's tree.
 #[derive(Default)]
@@ -46,7 +46,7 @@ pub fn shape(rule: &Rule) -> Shape {
 
 impl Shape {
     fn alternation(&mut self, alternation: &Alternation, around: Around) {
-        let is_s = |part: &Part| matches!(part, Part::Byte(set) if set.bytes() == b"Ss");
+        let is_s = |part: &Part| matches!(part, Part::Item(Item { kind: Kind::Byte(set), .. }) if set.bytes() == b"Ss");
         for part in alternation.branches.iter().flatten() {
             self.has_s_in_branch |= alternation.branches.len() > 1 && is_s(part);
             self.part(part, around);
@@ -55,12 +55,7 @@ impl Shape {
 
     fn part(&mut self, part: &Part, around: Around) {
         match part {
-            Part::Byte(set) => self.has_repeated_empty_class |= around.repeats > 0 && set.bytes().is_empty(),
-            Part::Place(_) => {}
-            Part::Reference(group) => {
-                self.referred_groups.insert(*group);
-                self.has_early_reference |= !self.closed.contains(group);
-            }
+            Part::Item(item) => self.item(&item.kind, around),
             Part::Group(group) => {
                 self.alternation(&group.inside, around);
                 if let Some(number) = group.number {
@@ -70,6 +65,17 @@ impl Shape {
                 }
             }
             Part::Repeat(repeat) => self.repeat(repeat, around),
+        }
+    }
+
+    fn item(&mut self, item: &Kind, around: Around) {
+        match item {
+            Kind::Byte(set) => self.has_repeated_empty_class |= around.repeats > 0 && set.bytes().is_empty(),
+            Kind::Place(_) => {}
+            Kind::Reference(group) => {
+                self.referred_groups.insert(*group);
+                self.has_early_reference |= !self.closed.contains(group);
+            }
         }
     }
 
@@ -91,7 +97,7 @@ fn has_later_start(body: &Part) -> bool {
 
 fn begins_with_start(part: &Part) -> bool {
     match part {
-        Part::Place(place) => matches!(place, Place::Start | Place::LineStart),
+        Part::Item(item) => matches!(item.kind, Kind::Place(Place::Start | Place::LineStart)),
         Part::Group(group) => group.inside.branches.iter().filter_map(|branch| branch.first()).any(begins_with_start),
         _ => false,
     }
@@ -100,8 +106,7 @@ fn begins_with_start(part: &Part) -> bool {
 /// Can the part take no bytes, places and references left out of account?
 fn can_be_empty(part: &Part) -> bool {
     match part {
-        Part::Byte(_) => false,
-        Part::Place(_) | Part::Reference(_) => true,
+        Part::Item(item) => !matches!(item.kind, Kind::Byte(_)),
         Part::Group(group) => group.inside.branches.iter().any(|branch| branch.iter().all(can_be_empty)),
         Part::Repeat(repeat) => repeat.least == 0 || can_be_empty(&repeat.body),
     }

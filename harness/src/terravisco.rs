@@ -3,7 +3,7 @@
 //! Copy this file with `refusal.rs` and `raw.rs`, and link `libterravisco.a`.
 //!
 //! ```no_run
-//! use harness::terravisco::{Listing, Matcher};
+//! use harness::terravisco::{Explanation, Listing, Matcher};
 //!
 //! let mut matcher = Matcher::new(1_000, 10);
 //! if let Listing::Complete { readings, .. } = matcher.list_readings(br"^(?:(\d{1,3},\d{3})|(\d+,\d+)) L$", 0, b"1,500 L") {
@@ -15,11 +15,15 @@
 //! let line = b"tank 7: 820 L";
 //! let litres = matcher.match_line(br"^tank \d+:(?: (?<litres>\d+) L)?$", 0, line).field(b"litres", line, b"600").to_vec();
 //! assert_eq!(litres, b"820");
+//! // Why a line does not fit: the attempt that got furthest, and what of the rule was wanted there.
+//! if let Explanation::NotMatched { closest, marks, .. } = matcher.explain(br"^tank \d+: \d+ L$", 0, b"tank 7 820 L") {
+//!     println!("from {} up to {}; wanted in the rule at {:?}", closest.start, closest.at, marks.collect::<Vec<_>>());
+//! }
 //! ```
 
 use std::ops::Range;
 
-use crate::raw::{self, Call, Lookup};
+use crate::raw::{self, Call, Lookup, ANSWER_LENGTH};
 pub use crate::refusal::{Reason, Refusal};
 
 /// `.` takes a newline too.
@@ -34,6 +38,7 @@ pub const FLAG_X: u32 = 8;
 const RULE_AREA: usize = 16_384;
 const WORK_PER_STEP: usize = 16;
 const MOST_BUDGET: u32 = 100_000;
+const LONGEST_RULE: usize = 1_000;
 const ROW_LENGTH: usize = 66;
 const GROUPS: usize = 32;
 const INDEX_LENGTH: usize = 544;
@@ -46,6 +51,8 @@ pub struct Matcher {
     work_area: Vec<u32>,
     rows: Vec<u32>,
     names: Vec<u8>,
+    /// One for each byte of the longest rule.
+    marks: Vec<u8>,
 }
 
 /// What a match answers.
@@ -89,6 +96,56 @@ pub enum Listing<'m> {
     Refused(Refusal),
 }
 
+/// What is told of a line that was to fit.
+#[derive(Debug)]
+pub enum Explanation<'m> {
+    /// The line fits; `match_line` has the reading.
+    Matched {
+        steps: u64,
+    },
+    NotMatched {
+        steps: u64,
+        /// The greatest place at which an item failed, from any start, and the first that did there. The line's end is a start too, so that
+        /// the place is always the line's length.
+        furthest: Failure,
+        /// The attempt that got furthest from its start, which is mostly what a person wants to know.
+        closest: Attempt,
+        /// All the items that failed where the closest attempt ended: what was wanted there.
+        marks: Marks<'m>,
+    },
+    /// The walk from this start needed more steps than the budget.
+    Exhausted {
+        start: usize,
+        steps: u64,
+    },
+    Refused(Refusal),
+}
+
+/// An item of the rule that failed: a byte, a class or another set, a place such as `^`, or a reference.
+#[derive(Clone, Copy, PartialEq, Eq, Debug)]
+pub struct Failure {
+    /// Where it was tried in the line.
+    pub at: usize,
+    /// Where it begins in the rule.
+    pub item: usize,
+}
+
+/// An attempt to fit the rule from one start.
+#[derive(Clone, Copy, PartialEq, Eq, Debug)]
+pub struct Attempt {
+    pub start: usize,
+    /// Where it ended in the line: where the first item failed of those that failed furthest from the start.
+    pub at: usize,
+    /// Where that item begins in the rule.
+    pub item: usize,
+}
+
+/// Where the items begin in the rule that failed at the end of an attempt, by rising places.
+#[derive(Clone, Debug)]
+pub struct Marks<'m> {
+    marks: std::iter::Enumerate<std::slice::Iter<'m, u8>>,
+}
+
 /// The readings that a listing wrote, in order.
 #[derive(Clone, Debug)]
 pub struct Readings<'m> {
@@ -113,6 +170,7 @@ impl Matcher {
             work_area: vec![0; WORK_PER_STEP * budget.min(MOST_BUDGET) as usize],
             rows: vec![0; ROW_LENGTH * readings.max(1)],
             names: vec![0; INDEX_LENGTH],
+            marks: vec![0; LONGEST_RULE],
         }
     }
 
@@ -141,23 +199,48 @@ impl Matcher {
         }
     }
 
+    /// Why the line does not fit, if it does not.
+    pub fn explain(&mut self, rule: &[u8], flags: u32, line: &[u8]) -> Explanation<'_> {
+        let answer = self.call(Call::Explain, rule, flags, line);
+        let steps = answer.steps;
+        match answer.kind {
+            0 => Explanation::Matched { steps },
+            1 => {
+                let [at, item, start, close_at, close_item] = answer.places;
+                let (furthest, closest) = (Failure { at, item }, Attempt { start, at: close_at, item: close_item });
+                Explanation::NotMatched { steps, furthest, closest, marks: Marks { marks: self.marks[..rule.len()].iter().enumerate() } }
+            }
+            2 => Explanation::Exhausted { start: answer.detail as usize, steps },
+            _ => Explanation::Refused(answer.refusal()),
+        }
+    }
+
     fn call(&mut self, call: Call, rule: &[u8], flags: u32, subject: &[u8]) -> Answer {
         let question = raw::Question { rule, flags, subject, budget: self.budget };
-        let areas = raw::Areas { rule: &mut self.rule_area, work: &mut self.work_area, result: &mut self.rows, names: &mut self.names };
-        let mut numbers = [0; 6];
+        let areas = raw::Areas {
+            rule: &mut self.rule_area,
+            work: &mut self.work_area,
+            result: &mut self.rows,
+            names: &mut self.names,
+            marks: &mut self.marks,
+        };
+        let mut numbers = [0; ANSWER_LENGTH];
         raw::call(call, question, areas, &mut numbers);
-        let [kind, detail, place, low, high, rows] = numbers;
-        Answer { kind, detail, place: place as usize, steps: u64::from(high) << 32 | u64::from(low), rows: rows as usize }
+        let [kind, detail, place, low, high, rows, places @ ..] = numbers;
+        let (steps, places) = (u64::from(high) << 32 | u64::from(low), places.map(|place| place as usize));
+        Answer { kind, detail, place: place as usize, steps, rows: rows as usize, places }
     }
 }
 
-/// The six numbers of an answer by their meaning.
+/// The numbers of an answer by their meaning.
 struct Answer {
     kind: u32,
     detail: u32,
     place: usize,
     steps: u64,
     rows: usize,
+    /// An explanation's own: the furthest failure's place in the line and in the rule, the closest attempt's start and its places.
+    places: [usize; 5],
 }
 
 impl Answer {
@@ -239,3 +322,11 @@ impl<'m> Iterator for Readings<'m> {
 }
 
 impl ExactSizeIterator for Readings<'_> {}
+
+impl Iterator for Marks<'_> {
+    type Item = usize;
+
+    fn next(&mut self) -> Option<usize> {
+        self.marks.find(|(_, mark)| **mark != 0).map(|(item, _)| item)
+    }
+}

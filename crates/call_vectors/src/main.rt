@@ -1,8 +1,10 @@
 // Runs the public calls and writes what they answer, with the rows.
 //
-// A line of input has nine words: the kind, 0 for a match and 1 for a listing; the flags, the budget and the lengths of the rule area, the work area,
-// the result area and the name index in decimal; the rule in hex; and how the subject is given, in hex, or 'x' and a count for so many bytes `a`.
-// Behind an answer and its rows the entries of the name index follow that are not all 00.
+// A line of input has nine words: the kind, 0 for a match, 1 for a listing and 2 for an explanation; the flags, the budget and the lengths of the rule
+// area, the work area, the result area (or of the marks) and the name index in decimal; the rule in hex; and how the subject is given, in hex, or 'x' and a count for so many bytes `a`.
+// Behind an answer and its rows the entries of the name index follow that are not all 00, and then why a line does not fit.
+use explaining::Explanation;
+use explaining::Failed;
 use frame::NAME_INDEX_NEED;
 use index::ROW_LENGTH;
 use index::SPANS_LENGTH;
@@ -14,6 +16,9 @@ use matching::Outcome;
 use syntax::Refusal;
 ghost use Prim.Native.Nat.{_≤_, _<_};
 ghost use lib.ListN.{length};
+
+// The kind of an explanation.
+const EXPLAIN: u32 = 2;
 
 // One byte more than a rule may have, and than a subject may have.
 const RULE_ROOM: usize = frame::RULE_LIMIT + 1;
@@ -213,7 +218,81 @@ fn put_listing(told: Listing, results: &[u32], names: &[u8]) {
     }
 }
 
-// A match, or a listing.
+// The lesser of two numbers.
+fn lesser(a: usize, b: usize) -> usize
+    ensures { λ r. ⌜ (r ≤ a) × (r ≤ b) ⌝ }
+{
+    if a < b { a } else { b }
+}
+
+// A digit for each mark.
+fn put_marks(marks: &[u8]) {
+    let mut i: usize = 0;
+    while i < marks.len() {
+        put_number(marks[i] as u64);
+        i += 1;
+    }
+}
+
+// Why a line does not fit: two failures and the marks.
+fn put_why(furthest: Failed, closest: Failed, marks: &[u8]) {
+    put(b"  furthest ");
+    put_word(furthest.at);
+    put(b" ");
+    put_word(furthest.place);
+    put(b"\n  closest ");
+    put_word(closest.start);
+    put(b" ");
+    put_word(closest.at);
+    put(b" ");
+    put_word(closest.place);
+    put(b"\n  marks ");
+    put_marks(marks);
+    put(b"\n");
+}
+
+// What an explanation tells, with the names and, of a line that is not matched, why.
+fn put_explanation(told: Explanation, marks: &[u8], names: &[u8]) {
+    match told {
+        Explanation::Matched(steps) => {
+            put(b"matched ");
+            put_steps(steps);
+            put_names(names);
+        }
+        Explanation::NotMatched(steps, furthest, closest) => {
+            put(b"not matched ");
+            put_steps(steps);
+            put_names(names);
+            put_why(furthest, closest, marks);
+        }
+        Explanation::Exhausted(start, steps) => {
+            put(b"exhausted at ");
+            put_word(start);
+            put(b" ");
+            put_steps(steps);
+            put_names(names);
+        }
+        Explanation::Refused(f) => put_refusal(f),
+    }
+}
+
+// An explanation. Marks that the rule has no byte for are not told.
+fn tell_why(
+    rule: &[u8],
+    flags: u32,
+    sub: &[u8],
+    budget: u32,
+    area: &mut [u32],
+    work: &mut [u32],
+    names: &mut [u8],
+    marks: &mut [u8],
+) {
+    let told = explaining::explain(rule, flags, sub, budget, area, work, names, marks);
+    let shown = lesser(marks.len(), rule.len());
+    put_explanation(told, &marks[..shown], names);
+}
+
+// A match, a listing or an explanation, whose marks are as many as there are numbers in the result area.
 fn tell(
     kind: u32,
     rule: &[u8],
@@ -225,6 +304,12 @@ fn tell(
     results: &mut [u32],
     names: &mut [u8],
 ) {
+    if kind == EXPLAIN {
+        let mut marks = [7u8; RULE_ROOM];
+        let k = lesser(results.len(), RULE_ROOM);
+        tell_why(rule, flags, sub, budget, area, work, names, &mut marks[..k]);
+        return;
+    }
     if kind == 0 {
         let outcome = matching::match_line(rule, flags, sub, budget, area, work, results, names);
         put_outcome(outcome, results, names);
@@ -270,11 +355,7 @@ fn number(input: &[u8], from: usize, to: usize, k: u32) -> u32
 fn within(n: u32, length: usize) -> usize
     ensures { λ r. ⌜ r ≤ length ⌝ }
 {
-    if (n as usize) < length {
-        n as usize
-    } else {
-        length
-    }
+    lesser(n as usize, length)
 }
 
 // The call that the line between two positions asks for, on a subject.

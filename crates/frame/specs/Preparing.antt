@@ -24,14 +24,14 @@ pub record Lends (rule : List ℕ) (budget : ℕ) (ruleArea workArea names : Lis
 
 -- a refused call, and its areas. "After refusals 1 to 7 both areas are unchanged; after any other return their needed first part is zero and the
 -- rest unchanged." 02: "a refused call leaves the index unchanged"
-pub data Denied (c : Call) (f : Refusal) (ruleArea workArea names : List ℕ) : Type 0 where
-  unread : f .place ≡ 0 → some (f .reason) ≡ unacceptable c → ruleArea ≡ c .ruleArea → workArea ≡ c .workArea → names ≡ c .names → Denied c f ruleArea workArea names
-  unsound : none ≡ unacceptable c → reading (c .rule) (c .flags) ≡ refused (f .place) (f .reason)
-      → ruleArea ≡ cleared ruleAreaNeed (c .ruleArea) → workArea ≡ cleared (workAreaNeed (c .budget)) (c .workArea) → names ≡ c .names → Denied c f ruleArea workArea names
+pub data Denied (need : ℕ) (c : Call) (f : Refusal) (ruleArea workArea names : List ℕ) : Type 0 where
+  unread : f .place ≡ 0 → some (f .reason) ≡ unacceptable need c → ruleArea ≡ c .ruleArea → workArea ≡ c .workArea → names ≡ c .names → Denied need c f ruleArea workArea names
+  unsound : none ≡ unacceptable need c → reading (c .rule) (c .flags) ≡ refused (f .place) (f .reason)
+      → ruleArea ≡ cleared ruleAreaNeed (c .ruleArea) → workArea ≡ cleared (workAreaNeed (c .budget)) (c .workArea) → names ≡ c .names → Denied need c f ruleArea workArea names
 
 -- a call that is answered: its rule stands compiled in the needed part of the rule area, the index is filled, and nothing else has changed
-pub record Readied (c : Call) (entry groups : ℕ) (ruleArea workArea names : List ℕ) : Type 0 where
-  pub accepted : none ≡ unacceptable c
+pub record Readied (need : ℕ) (c : Call) (entry groups : ℕ) (ruleArea workArea names : List ℕ) : Type 0 where
+  pub accepted : none ≡ unacceptable need c
   pub tree : Rule
   pub stop : ℕ
   pub reads : reading (c .rule) (c .flags) ≡ sound (tree, groups) stop
@@ -41,6 +41,6 @@ pub record Readied (c : Call) (entry groups : ℕ) (ruleArea workArea names : Li
   pub untouched : workArea ≡ c .workArea
   pub filled : names ≡ over (nameIndex (namesOf (c .rule) (c .flags))) (c .names)
 
-abbrev pub Prepares : Call → Preparation → (ruleArea workArea names : List ℕ) → Type 0
-Prepares c (Ready entry groups) ruleArea workArea names = Readied c entry groups ruleArea workArea names
-Prepares c (Refused f) ruleArea workArea names = Denied c f ruleArea workArea names
+abbrev pub Prepares : (need : ℕ) → Call → Preparation → (ruleArea workArea names : List ℕ) → Type 0
+Prepares need c (Ready entry groups) ruleArea workArea names = Readied need c entry groups ruleArea workArea names
+Prepares need c (Refused f) ruleArea workArea names = Denied need c f ruleArea workArea names

@@ -14,7 +14,6 @@ ghost use mathlib.Core.Option.{none};
 ghost use Prim.Native.Nat.{ℕ};
 ghost use lib.ListN.{length};
 ghost use lib.Dec.{ltb};
-ghost use Rattle.syntax.specs.Limits.{rowLength};
 ghost use Rattle.semantics.specs.Calls.{unacceptable};
 ghost use Rattle.frame.specs.Inputs.{callOf};
 ghost use Rattle.frame.specs.Preparing.{Lends, Prepares};
@@ -36,8 +35,8 @@ fn compile_or_clear(
     names: &mut [u8],
 ) -> Preparation
     requires { ⌜ Lends (now rule) budget (now «rule_area») (now «work_area») (now names) ⌝ }
-    ensures { λ r. ⌜ ((line results : List ℕ) → none ≡ unacceptable (callOf (now (rule .entry)) flags line budget (now («rule_area» .entry)) (now («work_area» .entry)) results (now (names .entry)))
-        → Prepares (callOf (now (rule .entry)) flags line budget (now («rule_area» .entry)) (now («work_area» .entry)) results (now (names .entry))) r (now («rule_area» .exit)) (now («work_area» .exit)) (now (names .exit))) ⌝ }
+    ensures { λ r. ⌜ ((need : ℕ) (line results : List ℕ) → none ≡ unacceptable need (callOf (now (rule .entry)) flags line budget (now («rule_area» .entry)) (now («work_area» .entry)) results (now (names .entry)))
+        → Prepares need (callOf (now (rule .entry)) flags line budget (now («rule_area» .entry)) (now («work_area» .entry)) results (now (names .entry))) r (now («rule_area» .exit)) (now («work_area» .exit)) (now (names .exit))) ⌝ }
 {
     let compiled = compile(rule, flags, rule_area);
     match compiled {
@@ -64,8 +63,8 @@ pub fn prepare(
     short: bool,
     names: &mut [u8],
 ) -> Preparation
-    ensures { λ r. ⌜ ((line results : List ℕ) → length line ≡ subject → ltb (length results) rowLength ≡ short
-        → Prepares (callOf (now (rule .entry)) flags line budget (now («rule_area» .entry)) (now («work_area» .entry)) results (now (names .entry))) r (now («rule_area» .exit)) (now («work_area» .exit)) (now (names .exit))) ⌝ }
+    ensures { λ r. ⌜ ((need : ℕ) (line results : List ℕ) → length line ≡ subject → ltb (length results) need ≡ short
+        → Prepares need (callOf (now (rule .entry)) flags line budget (now («rule_area» .entry)) (now («work_area» .entry)) results (now (names .entry))) r (now («rule_area» .exit)) (now («work_area» .exit)) (now (names .exit))) ⌝ }
 {
     match unfit(
         rule.len(),

@@ -2,6 +2,7 @@
 use naming::NAME_INDEX_NEED;
 use syntax::Reason;
 ghost use mathlib.Core.Path.{_≡_};
+ghost use Prim.Native.Nat.{ℕ};
 ghost use Rattle.semantics.specs.Calls.{Call, unacceptable};
 ghost use Rattle.frame.specs.Fitness.{fitnessOf, Sized};
 
@@ -34,7 +35,7 @@ pub fn unfit(
     short: bool,
     names: usize,
 ) -> Fitness
-    ensures { λ r. ⌜ ((c : Call) → Sized c rule flags subject budget «rule_area» «work_area» short names → fitnessOf r ≡ unacceptable c) ⌝ }
+    ensures { λ r. ⌜ ((need : ℕ) (c : Call) → Sized need c rule flags subject budget «rule_area» «work_area» short names → fitnessOf r ≡ unacceptable need c) ⌝ }
 {
     if RULE_LIMIT < rule {
         return Fitness::Unfit(Reason::RuleTooLong);

@@ -44,7 +44,7 @@ module _ (name names line standing : List ℕ) (groups : ℕ) (x : Row) (numbers
   }
 
 -- So they hold of the result area that a match leaves, whenever it is matched.
-pub fields-of-match : (name names standing : List ℕ) (c : Call) (r : Rule) (groups : ℕ) (accepted : Accepted c r groups) (n : ℕ) (t : State) → match-meets-demands c .answers r groups accepted .answer .outcome ≡ matched n t → FieldDemands name names (c .subject) standing (row n t) (matchCall c .resultArea)
+pub fields-of-match : (name names standing : List ℕ) (c : Call) (r : Rule) (groups : ℕ) (accepted : Accepted rowLength c r groups) (n : ℕ) (t : State) → match-meets-demands c .answers r groups accepted .answer .outcome ≡ matched n t → FieldDemands name names (c .subject) standing (row n t) (matchCall c .resultArea)
 fields-of-match name names standing c r groups accepted n t e =
     let m = match-meets-demands c .answers r groups accepted .when-matched n t e in
     let facts = m .2 in

@@ -6,6 +6,7 @@ use mathlib.Core.Bool.{false}
 use Prim.Native.Nat.{ℕ, _≤_}
 use lib.ListN.{length}
 use lib.Seq.{slice}
+use Rattle.syntax.specs.Limits.{rowLength}
 use Rattle.syntax.specs.Tree.{Rule}
 use Rattle.syntax.specs.Names.{Name, Names, isUsed}
 use Rattle.syntax.specs.Reading.{namesOf}
@@ -36,7 +37,7 @@ pub record NamedFields (c : Call) (standing : List ℕ) (x : Row) : Type 0 where
       → lookedUp c (nameOf (namesOf (c .rule) (c .flags)) group) ≡ Standing
   pub unknown-name : (name : Name) → 1 ≤ length name → isUsed name (namesOf (c .rule) (c .flags)) ≡ false → lookedUp c name ≡ Nothing
 
-module _ (c : Call) (r : Rule) (groups : ℕ) (accepted : Accepted c r groups) where
+module _ (c : Call) (r : Rule) (groups : ℕ) (accepted : Accepted rowLength c r groups) where
   abbrev ns : Names
   ns = namesOf (c .rule) (c .flags)
 

@@ -2,10 +2,6 @@
 //
 // A function carries its node out as the model does (`carried`), or falls back. It is one step, of the same cost whatever the subject; only a
 // reference makes a step more for each byte that it looks at.
-use crate::assertions::assertion_holds;
-use crate::references::Compared;
-use crate::references::compare;
-use crate::references::span_length;
 use machine::Machine;
 use machine::Ran;
 use machine::fall_back;
@@ -21,6 +17,11 @@ ghost use Rattle.machine.specs.Ready.{RanBy, StackFits};
 
 mod assertions;
 mod references;
+
+pub use assertions::assertion_holds;
+pub use references::Compared;
+pub use references::compare;
+pub use references::span_length;
 
 // A byte of a set.
 pub fn take_byte(

@@ -22,11 +22,11 @@ use Rattle.runs.proofs.Bytes.{length-strides}
 -- The run's own steps -----------------------------------------------------------
 
 module _ (p : Program) (pc k at : ℕ) (regs : List ℕ) (st : Stack) where
-  ran-few : k < getD p (pc + 2) 0 → ran p (repeatAt p (pc + 2)) k at regs st .after ≡ fall p regs st
+  pub ran-few : k < getD p (pc + 2) 0 → ran p (repeatAt p (pc + 2)) k at regs st .after ≡ fall p regs st
   unfolding ran repeatAt endsOf
   ran-few h = rw (lt-ltb k (getD p (pc + 2) 0) h)
 
-  ran-enough : getD p (pc + 2) 0 ≤ k → ran p (repeatAt p (pc + 2)) k at regs st .after ≡ go (getD p (pc + 7) 0) (at + k) regs (below (getD p (pc + 7) 0) (at + k) (at + getD p (pc + 2) 0) st)
+  pub ran-enough : getD p (pc + 2) 0 ≤ k → ran p (repeatAt p (pc + 2)) k at regs st .after ≡ go (getD p (pc + 7) 0) (at + k) regs (below (getD p (pc + 7) 0) (at + k) (at + getD p (pc + 2) 0) st)
   unfolding ran repeatAt endsOf fall
   ran-enough h = let e : pc + 2 + 5 ≡ pc + 7 = omega arith in rw (le-ltb k (getD p (pc + 2) 0) h, e)
 

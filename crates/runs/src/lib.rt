@@ -49,7 +49,7 @@ fn bytes_end(class: &[u32], sub: &[u8], at: usize, stop: usize) -> usize
 }
 
 // How many bytes the run at `pc` takes from `at` on; or fewer, if these already take more steps than are left.
-fn run_length(code: &[u32], sub: &[u8], pc: usize, at: u32, left: u32) -> u32
+pub fn run_length(code: &[u32], sub: &[u8], pc: usize, at: u32, left: u32) -> u32
     requires { ⌜ (pc + 8 ≤ length (now code)) × (getD (now code) (pc + 6) 0 + 11 ≤ length (now code)) × (length (now sub) < 2 ^ 32) ⌝ }
     ensures { λ r. ⌜ Measured (now (code .entry)) (now (sub .entry)) pc at left r × (at + r < 2 ^ 32) ⌝ }
 {

@@ -1,7 +1,7 @@
--- The two calls as a caller meets them: what is handed in, what is answered, and what is left behind.
+-- The calls as a caller meets them: what is handed in, what is answered, and what is left behind.
 use mathlib.Core.List.{List, [], _∷_, _++_}
 use mathlib.Core.Option.{Option, none, some}
-use Prim.Native.Nat.{ℕ, _*_, _/_, _^_}
+use Prim.Native.Nat.{ℕ, min, _*_, _/_, _^_}
 use lib.ListN.{length, drop, replicate}
 use lib.Dec.{ltb, leb}
 use Rattle.syntax.specs.declared.Reason.{Reason}
@@ -13,6 +13,7 @@ use Rattle.syntax.specs.Reading.{namesOf, reading}
 use Rattle.semantics.specs.States.{Row, row}
 use Rattle.semantics.specs.NameIndex.{nameIndex}
 use Rattle.semantics.specs.Answers.{Outcome, matched, notMatched, exhausted, Answer, answer, Ending, complete, full, exhaustedAt, Listing, listing}
+use Rattle.semantics.specs.Explanations.{Failure, failures, furthest, closest, marks}
 
 -- What is handed in ---------------------------------------------------------
 
@@ -23,23 +24,24 @@ pub record Call : Type 0 where
   pub budget : ℕ
   pub ruleArea : List ℕ  -- lent, with whatever stands in them
   pub workArea : List ℕ
-  pub resultArea : List ℕ
+  pub resultArea : List ℕ  -- of an explanation, which is lent none, the bytes that it is lent for its marks
   pub names : List ℕ  -- the name index, in bytes (02, request e)
 
 -- "the work area 16 x budget of them"
 unfoldable pub workAreaNeed : ℕ → ℕ
 workAreaNeed budget = workPerStep * budget
 
--- refusals 1 to 7, "tested in this order"; 02: "New refusal 8, after 7 .. index under 544 bytes"
-unfoldable pub unacceptable : Call → Option Reason
-unacceptable c =
+-- refusals 1 to 7, "tested in this order"; 02: "New refusal 8, after 7 .. index under 544 bytes". `need` is how many numbers the call needs in its
+-- result area: a row, or none for an explanation.
+unfoldable pub unacceptable : (need : ℕ) → Call → Option Reason
+unacceptable need c =
     if ltb ruleLimit (length (c .rule)) then some RuleTooLong
     else if ltb subjectLimit (length (c .subject)) then some SubjectTooLong
     else if leb (2 ^ flagBits) (c .flags) then some UnknownFlag
     else if ltb budgetLimit (c .budget) then some BudgetTooLarge
     else if ltb (length (c .ruleArea)) ruleAreaNeed then some RuleAreaShort
     else if ltb (length (c .workArea)) (workAreaNeed (c .budget)) then some WorkAreaShort
-    else if ltb (length (c .resultArea)) rowLength then some ResultAreaShort
+    else if ltb (length (c .resultArea)) need then some ResultAreaShort
     else if ltb (length (c .names)) nameIndexNeed then some NameIndexShort
     else none
 
@@ -86,8 +88,9 @@ module _ {A : Type 0} where
     names = over (nameIndex (namesOf (c .rule) (c .flags))) (c .names);
   }
 
--- A call of either kind: how it tells a refusal, by place and reason, and what it makes of a rule that is sound.
-module _ {A : Type 0} (refusal : ℕ → Reason → A) (answered : Call → Rule → Return A) where
+-- A call of any kind: how it tells a refusal, by place and reason, how many numbers it needs in its result area, and what it makes of a rule that
+-- is sound.
+module _ {A : Type 0} (refusal : ℕ → Reason → A) (need : ℕ) (answered : Call → Rule → Return A) where
   unfoldable pub withReading : Call → Read (Rule × ℕ) → Return A
   withReading c (sound r at) = answered c (r .0)
   withReading c (refused place why) = declined (refusal place why) c
@@ -98,7 +101,7 @@ module _ {A : Type 0} (refusal : ℕ → Reason → A) (answered : Call → Rule
   unlessRefused c none = withReading c (reading (c .rule) (c .flags))
 
   unfoldable pub call : Call → Return A
-  call c = unlessRefused c (unacceptable c)
+  call c = unlessRefused c (unacceptable need c)
 
 -- A match -----------------------------------------------------------------------
 
@@ -118,7 +121,7 @@ unfoldable pub matchRule : Call → Rule → Return MatchOutcome
 matchRule c r = let a = answer (c .subject) r (c .budget) in matchReturns c (a .outcome) (a .steps)
 
 unfoldable pub matchCall : Call → Return MatchOutcome
-matchCall c = call Refused matchRule c
+matchCall c = call Refused rowLength matchRule c
 
 -- A listing ---------------------------------------------------------------------
 
@@ -148,4 +151,32 @@ listRule c r =
     leaving (listOutcome (l .ending) (length (l .rows)) (l .steps)) (joined (l .rows)) c
 
 unfoldable pub listCall : Call → Return ListOutcome
-listCall c = call ListRefused listRule c
+listCall c = call ListRefused rowLength listRule c
+
+-- An explanation ----------------------------------------------------------------
+
+-- 02, request f)
+pub data ExplainOutcome : Type 0 where
+  Fits : ℕ → ExplainOutcome  -- "if matched, say that": the steps
+  Unfit : ℕ → Failure → Failure → ExplainOutcome  -- the steps, the furthest failure and the closest attempt
+  ExplainExhausted : ℕ → ℕ → ExplainOutcome  -- "If the walk is exhausted, say that and its start": the start and the steps
+  ExplainRefused : ℕ → Reason → ExplainOutcome  -- the place and the reason
+
+-- the bytes of the rule that there is room to mark
+unfoldable pub markable : Call → ℕ
+markable c = min (length (c .rule)) (length (c .resultArea))
+
+-- "For a line that isn't matched": only then are marks written
+unfoldable pub explainReturns : Call → Rule → Outcome → ℕ → Return ExplainOutcome
+explainReturns c r (matched start t) steps = leaving (Fits steps) [] c
+explainReturns c r notMatched steps =
+    let l = failures (c .subject) r in
+    leaving (Unfit steps (furthest l) (closest l)) (marks (c .subject) r (closest l) (markable c)) c
+explainReturns c r (exhausted start) steps = leaving (ExplainExhausted start steps) [] c
+
+unfoldable pub explainRule : Call → Rule → Return ExplainOutcome
+explainRule c r = let a = answer (c .subject) r (c .budget) in explainReturns c r (a .outcome) (a .steps)
+
+-- "No result area is lent, so 7 isn't given."
+unfoldable pub explainCall : Call → Return ExplainOutcome
+explainCall c = call ExplainRefused 0 explainRule c

@@ -10,8 +10,9 @@ use Rattle.semantics.specs.Walk.{_▹_, done, tried, paying, decide, rou
 use Rattle.semantics.specs.Runs.{moment, meets, spend, run, runs}
 use Rattle.semantics.specs.Answers.{unmatched, oneStepMore, first, answer, known, unless, fresh, unfilled, plainly, withRow, fill, listing}
 use Rattle.semantics.specs.NameIndex.{nameOf, entry, entries, nameIndex}
-use Rattle.semantics.specs.Calls.{workAreaNeed, unacceptable, over, cleared, untouched, declined, leaving, withReading, unlessRefused, call, matchReturns, matchRule, matchCall, listOutcome, joined, room, listRule, listCall}
+use Rattle.semantics.specs.Explanations.{failed, failedFrom, failures, greater, greatest, nowhere, orNowhere, furthest, closest, placesAt, marked, marks}
+use Rattle.semantics.specs.Calls.{workAreaNeed, unacceptable, over, cleared, untouched, declined, leaving, withReading, unlessRefused, call, matchReturns, matchRule, matchCall, listOutcome, joined, room, listRule, listCall, markable, explainReturns, explainRule, explainCall}
 
 unfoldable pub computing-calls : Unit {0}
-unfolding computing-readings ruleLimit subjectLimit budgetLimit ruleAreaNeed workPerStep flagBits unset spansLength rowLength nameEntry nameIndexNeed byteBefore isNewline isWord exactlyOne holds slot starting chose moved closed row when sameByte sameAt refer compared paidFor toll try isFull allowed decision branchCount _▹_ done tried paying decide rounds enough walk walks trace moment meets spend run runs unmatched oneStepMore first answer known unless fresh unfilled plainly withRow fill listing nameOf entry entries nameIndex workAreaNeed unacceptable over cleared untouched declined leaving withReading unlessRefused call matchReturns matchRule matchCall listOutcome joined room listRule listCall
+unfolding computing-readings ruleLimit subjectLimit budgetLimit ruleAreaNeed workPerStep flagBits unset spansLength rowLength nameEntry nameIndexNeed byteBefore isNewline isWord exactlyOne holds slot starting chose moved closed row when sameByte sameAt refer compared paidFor toll try isFull allowed decision branchCount _▹_ done tried paying decide rounds enough walk walks trace moment meets spend run runs unmatched oneStepMore first answer known unless fresh unfilled plainly withRow fill listing nameOf entry entries nameIndex failed failedFrom failures greater greatest nowhere orNowhere furthest closest placesAt marked marks workAreaNeed unacceptable over cleared untouched declined leaving withReading unlessRefused call matchReturns matchRule matchCall listOutcome joined room listRule listCall markable explainReturns explainRule explainCall
 computing-calls = tt

@@ -1,6 +1,6 @@
--- The demands on the two calls, sentence by sentence, as statements over derivations; DemandsHold proves them for all inputs.
+-- The demands on the calls, sentence by sentence, as statements over derivations; DemandsHold proves them for all inputs.
 --
--- n and m are starts, t and u states in which the rule's end is reached, j and k numbers of steps, x and y readings, as rows.
+-- n and m are starts, t and u states in which the rule's end is reached, j and k numbers of steps, x and y readings, as rows, or failures.
 use mathlib.Core.Path.{_≡_}
 use mathlib.Core.List.{List, [], _∷_}
 use mathlib.Core.Logic.{_⊎_, _↔_}
@@ -15,10 +15,11 @@ use Rattle.syntax.specs.Tree.{Rule}
 use Rattle.syntax.specs.Reading.{namesOf, reading}
 use Rattle.semantics.specs.States.{Before, State, Row, row}
 use Rattle.semantics.specs.Derivations.{Derivation}
-use Rattle.semantics.specs.Walk.{Trace, trace, Reaches}
+use Rattle.semantics.specs.Walk.{miss, Trace, trace, Reaches}
 use Rattle.semantics.specs.NameIndex.{nameIndex}
 use Rattle.semantics.specs.Answers.{matched, notMatched, exhausted, Answer, complete, full, exhaustedAt, Listing}
-use Rattle.semantics.specs.Calls.{Call, workAreaNeed, Return, MatchOutcome, Matched, NotMatched, Exhausted, Refused, ListOutcome, Complete, Full, ListExhausted, ListRefused, joined, room}
+use Rattle.semantics.specs.Explanations.{Failure, position, reach}
+use Rattle.semantics.specs.Calls.{Call, workAreaNeed, Return, MatchOutcome, Matched, NotMatched, Exhausted, Refused, ListOutcome, Complete, Full, ListExhausted, ListRefused, joined, room, ExplainOutcome, Fits, Unfit, ExplainExhausted, ExplainRefused, markable}
 
 -- Words that the demands share --------------------------------------------------
 
@@ -41,42 +42,48 @@ Start sub n = n ≤ length sub
 abbrev pub Earlier : ℕ → ℕ → ℕ → ℕ → Type 0
 Earlier n k m j = (n < m) ⊎ ((n ≡ m) × (k < j))
 
+-- with j steps taken, the next one tries the item at a place in the rule, which fails at a position in the subject
+abbrev pub Misses : Trace → ℕ → (place at : ℕ) → Type 0
+Misses [] j place at = ⊥
+Misses (e ∷ es) zero place at = e ≡ miss place at
+Misses (e ∷ es) (suc j) place at = Misses es j place at
+
 -- the steps of all walks before start n
 unfoldable pub stepsBefore : (ℕ → Trace) → ℕ → ℕ
 stepsBefore walkFrom zero = 0
 stepsBefore walkFrom (suc n) = stepsBefore walkFrom n + length (walkFrom n)
 
--- Demand 1, of a call of either kind ---------------------------------------------------
+-- Demand 1, of a call of any kind ------------------------------------------------------
 
--- 01, "Refusal numbers", 1 to 7, and 02's 8: "Given exactly when"
-pub data Fault (c : Call) : Reason → Type 0 where
-  ruleTooLong : ruleLimit < length (c .rule) → Fault c RuleTooLong  -- "rule over 1,000 bytes"
-  subjectTooLong : subjectLimit < length (c .subject) → Fault c SubjectTooLong  -- "subject over 65,535 bytes"
-  unknownFlag : 2 ^ flagBits ≤ c .flags → Fault c UnknownFlag  -- 02: "Refusal 3 now starts at bit 4": bits 0 to 3 alone make less than 16
-  budgetTooLarge : budgetLimit < c .budget → Fault c BudgetTooLarge  -- "budget over 100,000"
-  ruleAreaShort : length (c .ruleArea) < ruleAreaNeed → Fault c RuleAreaShort  -- "rule area short"
-  workAreaShort : length (c .workArea) < workAreaNeed (c .budget) → Fault c WorkAreaShort  -- "work area short"
-  resultAreaShort : length (c .resultArea) < rowLength → Fault c ResultAreaShort  -- "result area under 66 numbers"
-  nameIndexShort : length (c .names) < nameIndexNeed → Fault c NameIndexShort  -- 02: "index under 544 bytes"
+-- 01, "Refusal numbers", 1 to 7, and 02's 8: "Given exactly when". `need` is how many numbers the call needs in its result area.
+pub data Fault (need : ℕ) (c : Call) : Reason → Type 0 where
+  ruleTooLong : ruleLimit < length (c .rule) → Fault need c RuleTooLong  -- "rule over 1,000 bytes"
+  subjectTooLong : subjectLimit < length (c .subject) → Fault need c SubjectTooLong  -- "subject over 65,535 bytes"
+  unknownFlag : 2 ^ flagBits ≤ c .flags → Fault need c UnknownFlag  -- 02: "Refusal 3 now starts at bit 4": bits 0 to 3 alone make less than 16
+  budgetTooLarge : budgetLimit < c .budget → Fault need c BudgetTooLarge  -- "budget over 100,000"
+  ruleAreaShort : length (c .ruleArea) < ruleAreaNeed → Fault need c RuleAreaShort  -- "rule area short"
+  workAreaShort : length (c .workArea) < workAreaNeed (c .budget) → Fault need c WorkAreaShort  -- "work area short"
+  resultAreaShort : length (c .resultArea) < need → Fault need c ResultAreaShort  -- "result area under 66 numbers", where a row is needed
+  nameIndexShort : length (c .names) < nameIndexNeed → Fault need c NameIndexShort  -- 02: "index under 544 bytes"
 
-abbrev pub Faultless : Call → Type 0
-Faultless c = (why : Reason) → ¬ Fault c why
+abbrev pub Faultless : ℕ → Call → Type 0
+Faultless need c = (why : Reason) → ¬ Fault need c why
 
 -- "tested in this order"
-pub record FirstFault (c : Call) (why : Reason) : Type 0 where
-  pub fault : Fault c why
-  pub lowest : (other : Reason) → Fault c other → numberOf why ≤ numberOf other
+pub record FirstFault (need : ℕ) (c : Call) (why : Reason) : Type 0 where
+  pub fault : Fault need c why
+  pub lowest : (other : Reason) → Fault need c other → numberOf why ≤ numberOf other
 
 -- the refusal that 01 names for an input: its place and its reason
-pub data Refuses (c : Call) : ℕ → Reason → Type 0 where
+pub data Refuses (need : ℕ) (c : Call) : ℕ → Reason → Type 0 where
   -- "For 1 to 7, tested in this order, the place is 0." 8 is tested after 7, "and like it in place"
-  itself : {why : Reason} → FirstFault c why → Refuses c 0 why
+  itself : {why : Reason} → FirstFault need c why → Refuses need c 0 why
   -- from 10 on: "The first met reading left to right is given", which is how `reading` is defined
-  itsRule : {place : ℕ} {why : Reason} → Faultless c → reading (c .rule) (c .flags) ≡ refused place why → Refuses c place why
+  itsRule : {place : ℕ} {why : Reason} → Faultless need c → reading (c .rule) (c .flags) ≡ refused place why → Refuses need c place why
 
 -- none is named, and the rule's tree is r, with so many groups
-pub record Accepted (c : Call) (r : Rule) (groups : ℕ) : Type 0 where
-  pub faultless : Faultless c
+pub record Accepted (need : ℕ) (c : Call) (r : Rule) (groups : ℕ) : Type 0 where
+  pub faultless : Faultless need c
   pub stop : ℕ
   pub reads : reading (c .rule) (c .flags) ≡ sound (r, groups) stop
 
@@ -87,22 +94,22 @@ pub record Written (numbers before after : List ℕ) : Type 0 where
   pub rest : drop (length numbers) after ≡ drop (length numbers) before
 
 -- x is what a call of c returns
-pub record Demand1 {A : Type 0} (refusal : ℕ → Reason → A) (c : Call) (x : Return A) : Type 0 where
+pub record Demand1 {A : Type 0} (refusal : ℕ → Reason → A) (need : ℕ) (c : Call) (x : Return A) : Type 0 where
   -- "any rule, line, flags, budget and lent areas may be handed in, and each call answers or gives exactly the refusal that 01 names for
   -- that input, and none otherwise;
-  pub answers-or-refuses : ((r : Rule) × (groups : ℕ) × Accepted c r groups) ⊎ ((place : ℕ) × (why : Reason) × Refuses c place why)
-  pub refused-exactly : (place : ℕ) (why : Reason) → (x .outcome ≡ refusal place why) ↔ Refuses c place why
+  pub answers-or-refuses : ((r : Rule) × (groups : ℕ) × Accepted need c r groups) ⊎ ((place : ℕ) × (why : Reason) × Refuses need c place why)
+  pub refused-exactly : (place : ℕ) (why : Reason) → (x .outcome ≡ refusal place why) ↔ Refuses need c place why
   -- a refused call changes no row,
   pub no-row-changed : (place : ℕ) (why : Reason) → x .outcome ≡ refusal place why → x .resultArea ≡ c .resultArea
   -- and the areas are left as 01 says": "After refusals 1 to 7 both areas are unchanged;
-  pub areas-unchanged : (why : Reason) → Fault c why → (x .ruleArea ≡ c .ruleArea) × (x .workArea ≡ c .workArea)
+  pub areas-unchanged : (why : Reason) → Fault need c why → (x .ruleArea ≡ c .ruleArea) × (x .workArea ≡ c .workArea)
   -- 02: "a refused call leaves the index unchanged";
   pub index-unchanged : (place : ℕ) (why : Reason) → x .outcome ≡ refusal place why → x .names ≡ c .names
   -- "Each call fills a lent name index, bytes after it unchanged."
-  pub index-filled : (r : Rule) (groups : ℕ) → Accepted c r groups → Written (nameIndex (namesOf (c .rule) (c .flags))) (c .names) (x .names)
+  pub index-filled : (r : Rule) (groups : ℕ) → Accepted need c r groups → Written (nameIndex (namesOf (c .rule) (c .flags))) (c .names) (x .names)
   -- after any other return their needed first part is zero and the rest unchanged."
-  pub rule-area-zeroed : Faultless c → Written (replicate ruleAreaNeed 0) (c .ruleArea) (x .ruleArea)
-  pub work-area-zeroed : Faultless c → Written (replicate (workAreaNeed (c .budget)) 0) (c .workArea) (x .workArea)
+  pub rule-area-zeroed : Faultless need c → Written (replicate ruleAreaNeed 0) (c .ruleArea) (x .ruleArea)
+  pub work-area-zeroed : Faultless need c → Written (replicate (workAreaNeed (c .budget)) 0) (c .workArea) (x .workArea)
 
 -- Demand 2, of an answer -------------------------------------------------------------------
 
@@ -247,6 +254,25 @@ module _ (sub : List ℕ) (r : Rule) where
       pub steps-exhausted : (n : ℕ) → l .ending ≡ exhaustedAt n → l .steps ≡ stepsBefore (trace sub r) n + budget
       pub steps-full : (n j : ℕ) → CutByRoom n j → l .steps ≡ stepsBefore (trace sub r) n + suc j
 
+  -- 02, request f), of a line that isn't matched -------------------------------------------
+
+  -- the walk from its start, with k steps taken, tries an item that fails: y
+  abbrev pub FailsAfter : ℕ → Failure → Type 0
+  FailsAfter k y = Start sub (y .start) × Misses (trace sub r (y .start)) k (y .place) (y .at)
+
+  -- of all that fail the first that is greatest by a measure, "in walk order over all starts"
+  pub record FirstFailure (by : Failure → ℕ) (x : Failure) : Type 0 where
+    pub after : ℕ
+    pub fails : FailsAfter after x
+    pub greatest : (k : ℕ) (y : Failure) → FailsAfter k y → by y ≤ by x
+    pub first : (k : ℕ) (y : Failure) → FailsAfter k y → Earlier (y .start) k (x .start) after → by y < by x
+
+  -- a byte for each of so many bytes of the rule: 1 where an item begins that failed where x did, in the same attempt, else 0
+  pub record MarksOf (x : Failure) (many : ℕ) (marks : List ℕ) : Type 0 where
+    pub size : length marks ≡ many
+    pub one-where-failed : (i k : ℕ) → i < many → Misses (trace sub r (x .start)) k i (x .at) → getD marks i 0 ≡ 1
+    pub zero-elsewhere : (i : ℕ) → i < many → ((k : ℕ) → ¬ Misses (trace sub r (x .start)) k i (x .at)) → getD marks i 0 ≡ 0
+
 -- The agreement, of an answer and a listing ------------------------------------------
 
 pub record Agreement (a : Answer) (l : Listing) : Type 0 where
@@ -296,8 +322,8 @@ pub record MatchAnswers (c : Call) (r : Rule) (groups : ℕ) (x : Return MatchOu
   pub when-exhausted : (n : ℕ) → answer .outcome ≡ exhausted n → (x .outcome ≡ Exhausted n (answer .steps)) × (x .resultArea ≡ c .resultArea)
 
 pub record MatchDemands (c : Call) (x : Return MatchOutcome) : Type 0 where
-  pub demand-1 : Demand1 Refused c x
-  pub answers : (r : Rule) (groups : ℕ) → Accepted c r groups → MatchAnswers c r groups x
+  pub demand-1 : Demand1 Refused rowLength c x
+  pub answers : (r : Rule) (groups : ℕ) → Accepted rowLength c r groups → MatchAnswers c r groups x
 
 -- The whole of a listing --------------------------------------------------------------------
 
@@ -314,8 +340,46 @@ pub record ListAnswers (c : Call) (r : Rule) (groups : ℕ) (x : Return ListOutc
   pub rows-right : (y : Row) → In y (listing .rows) → RowFacts (c .subject) groups y
 
 pub record ListDemands (c : Call) (x : Return ListOutcome) : Type 0 where
-  pub demand-1 : Demand1 ListRefused c x
-  pub answers : (r : Rule) (groups : ℕ) → Accepted c r groups → ListAnswers c r groups x
+  pub demand-1 : Demand1 ListRefused rowLength c x
+  pub answers : (r : Rule) (groups : ℕ) → Accepted rowLength c r groups → ListAnswers c r groups x
+
+-- The whole of an explanation ------------------------------------------------------------------
+
+-- what is told of a line that isn't matched
+pub record TellsWhy (c : Call) (r : Rule) (steps : ℕ) (x : Return ExplainOutcome) : Type 0 where
+  pub far : Failure
+  pub near : Failure
+  pub told : x .outcome ≡ Unfit steps far near
+  -- 02: "the greatest place in the line at which the walk tried an item that failed, and the place in the rule of the first such item tried
+  -- there, in walk order over all starts";
+  pub furthest : FirstFailure (c .subject) r position far
+  -- our own addition (docs/DECISIONS.md), the closest attempt: of all failed items the first with the greatest distance from its start to where
+  -- it was tried,
+  pub closest : FirstFailure (c .subject) r reach near
+  -- and all that failed there in that attempt, marked in the bytes that are lent for it, as far as they go
+  pub marks : List ℕ
+  pub marks-right : MarksOf (c .subject) r near (markable c) marks
+  pub marks-written : Written marks (c .resultArea) (x .resultArea)
+
+-- what an explanation of a rule that is not refused returns: an answer that meets demand 2, and why
+pub record ExplainAnswers (c : Call) (r : Rule) (x : Return ExplainOutcome) : Type 0 where
+  pub answer : Answer
+  pub demand-2 : Demand2 (c .subject) r (c .budget) answer
+  pub steps-bounded : answer .steps ≤ stepLimit c
+  -- "For a line that isn't matched, give ..";
+  pub when-not-matched : answer .outcome ≡ notMatched → TellsWhy c r (answer .steps) x
+  -- "If the walk is exhausted, say that and its start;
+  pub when-exhausted : (n : ℕ) → answer .outcome ≡ exhausted n → (x .outcome ≡ ExplainExhausted n (answer .steps)) × (x .resultArea ≡ c .resultArea)
+  -- if matched, say that."
+  pub when-matched : (n : ℕ) (t : State) → answer .outcome ≡ matched n t → (x .outcome ≡ Fits (answer .steps)) × (x .resultArea ≡ c .resultArea)
+  -- "A walk that isn't exhausted and in which nothing failed always matches."
+  pub always-matches : (n : ℕ) → Start (c .subject) n → ((k place at : ℕ) → ¬ Misses (trace (c .subject) r n) k place at)
+      → ((m : ℕ) → ¬ (x .outcome ≡ ExplainExhausted m (answer .steps))) → x .outcome ≡ Fits (answer .steps)
+
+-- "No result area is lent, so 7 isn't given."
+pub record ExplainDemands (c : Call) (x : Return ExplainOutcome) : Type 0 where
+  pub demand-1 : Demand1 ExplainRefused 0 c x
+  pub answers : (r : Rule) (groups : ℕ) → Accepted 0 c r groups → ExplainAnswers c r x
 
 -- The agreement, of two calls ------------------------------------------------------------------
 
@@ -341,3 +405,10 @@ pub record CallsAgree (x : Return MatchOutcome) (y : Return ListOutcome) : Type 
   -- otherwise 'exhausted' at the same start, and either way with the same steps."
   pub exhausted-too : (n steps : ℕ) → y .outcome ≡ ListExhausted n 0 steps → x .outcome ≡ Exhausted n steps
   pub never-full : (steps : ℕ) → ¬ (y .outcome ≡ Full 0 steps)
+
+-- x is what a match returns and y what an explanation does, neither refused: "matched", "isn't matched" and "exhausted" are those of the match, with
+-- its steps
+pub record ExplanationAgrees (x : Return MatchOutcome) (y : Return ExplainOutcome) : Type 0 where
+  pub fits : (steps : ℕ) → (y .outcome ≡ Fits steps) ↔ (x .outcome ≡ Matched steps)
+  pub unfit : (steps : ℕ) → ((far : Failure) × (near : Failure) × (y .outcome ≡ Unfit steps far near)) ↔ (x .outcome ≡ NotMatched steps)
+  pub exhausted-too : (n steps : ℕ) → (y .outcome ≡ ExplainExhausted n steps) ↔ (x .outcome ≡ Exhausted n steps)

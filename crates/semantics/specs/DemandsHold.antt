@@ -1,14 +1,18 @@
 -- The demands hold for all inputs, and the calls are the only ones that meet them. Each is the last of a chain in Laws: Runs and Newness,
--- then Matches (demand 2), Readings and Listings (demand 3), Refusals and Calls (demand 1).
+-- then Matches (demand 2), Readings and Listings (demand 3), Refusals and Calls (demand 1), Failures, Misses and Explanations (02, request f).
 use mathlib.Core.Path.{_≡_}
 use mathlib.Core.List.{List}
 use mathlib.Core.Logic.{inl, inr}
 use Prim.Native.Nat.{ℕ, _≤_}
+use lib.ListN.{length}
 use Rattle.syntax.specs.declared.Reason.{Reason}
+use Rattle.syntax.specs.Limits.{rowLength}
 use Rattle.syntax.specs.Tree.{Rule}
 use Rattle.semantics.specs.Answers.{answer, listing}
-use Rattle.semantics.specs.Calls.{Call, Return, MatchOutcome, Refused, matchCall, ListOutcome, ListRefused, listCall}
-use Rattle.semantics.specs.Demands.{Demand2, Demand3, Agreement, MatchDemands, ListDemands, SameInputs, CallsAgree}
+use Rattle.semantics.specs.Explanations.{Failure}
+use Rattle.semantics.specs.Calls.{Call, Return, MatchOutcome, Refused, matchCall, ListOutcome, ListRefused, listCall, ExplainOutcome, Unfit, ExplainRefused, explainCall}
+use Rattle.semantics.specs.Demands.{Demand2, Demand3, Agreement, MatchDemands, ListDemands, ExplainDemands, SameInputs, CallsAgree, ExplanationAgrees}
+use Rattle.semantics.specs.Laws.Cases.{clash}
 use Rattle.semantics.specs.Laws.Matches.{demand-2}
 use Rattle.semantics.specs.Laws.Listings.{demand-3}
 use Rattle.semantics.specs.Laws.Agreements.{agreement}
@@ -16,7 +20,8 @@ use Rattle.semantics.specs.Laws.Calls.{verdict}
 use Rattle.semantics.specs.Laws.MatchCalls.{match-demand-1, match-answers}
 use Rattle.semantics.specs.Laws.ListCalls.{list-demand-1, list-answers}
 use Rattle.semantics.specs.Laws.AgreeingCalls.{accepted-same, agreeing}
-use Rattle.semantics.specs.Laws.SettledCalls.{match-settles, list-settles}
+use Rattle.semantics.specs.Laws.ExplainCalls.{explain-demand-1, explain-answers, explanation-agreeing, far-at-end}
+use Rattle.semantics.specs.Laws.SettledCalls.{match-settles, list-settles, explain-settles}
 
 -- Of any tree ------------------------------------------------------------------------
 
@@ -42,12 +47,33 @@ list-meets-demands c = record { demand-1 = list-demand-1 c; answers = list-answe
 -- "A match on the same inputs, not refused either"
 pub calls-agree : (c d : Call) → SameInputs c d → ((place : ℕ) (why : Reason) → ¬ (matchCall c .outcome ≡ Refused place why)) → ((place : ℕ) (why : Reason) → ¬ (listCall d .outcome ≡ ListRefused place why))
     → CallsAgree (matchCall c) (listCall d)
-calls-agree c d same f g = elim (verdict c) [
-  | inl a ↦ elim (verdict d) [
-    | inl b ↦ agreeing c d same (a .0) (a .1) (a .2) (accepted-same c d same (a .0) (a .1) (a .2) (b .2 .faultless))
+calls-agree c d same f g = elim (verdict rowLength c) [
+  | inl a ↦ elim (verdict rowLength d) [
+    | inl b ↦ agreeing c d same (a .0) (a .1) (a .2) (accepted-same rowLength c d same (a .0) (a .1) (a .2) (b .2 .faultless))
     | inr b ↦ absurd (g (b .0) (b .1) (list-demand-1 d .refused-exactly (b .0) (b .1) .1 (b .2)))
   ]
   | inr a ↦ absurd (f (a .0) (a .1) (match-demand-1 c .refused-exactly (a .0) (a .1) .1 (a .2)))
+]
+
+-- demand 1, and request f)
+pub explain-meets-demands : (c : Call) → ExplainDemands c (explainCall c)
+explain-meets-demands c = record { demand-1 = explain-demand-1 c; answers = explain-answers c }
+
+pub explanation-agrees : (c d : Call) → SameInputs c d → ((place : ℕ) (why : Reason) → ¬ (matchCall c .outcome ≡ Refused place why)) → ((place : ℕ) (why : Reason) → ¬ (explainCall d .outcome ≡ ExplainRefused place why))
+    → ExplanationAgrees (matchCall c) (explainCall d)
+explanation-agrees c d same f g = elim (verdict rowLength c) [
+  | inl a ↦ elim (verdict 0 d) [
+    | inl b ↦ explanation-agreeing c d same (a .0) (a .1) (a .2) (accepted-same 0 c d same (a .0) (a .1) (a .2) (b .2 .faultless))
+    | inr b ↦ absurd (g (b .0) (b .1) (explain-demand-1 d .refused-exactly (b .0) (b .1) .1 (b .2)))
+  ]
+  | inr a ↦ absurd (f (a .0) (a .1) (match-demand-1 c .refused-exactly (a .0) (a .1) .1 (a .2)))
+]
+
+-- the greatest place that is told is always the line's length: by 02's letter the starts go up to it
+pub furthest-at-line-end : (c : Call) (steps : ℕ) (far near : Failure) → explainCall c .outcome ≡ Unfit steps far near → far .at ≡ length (c .subject)
+furthest-at-line-end c steps far near e = elim (verdict 0 c) [
+  | inl a ↦ far-at-end c (a .0) (a .1) (a .2) steps far near e
+  | inr a ↦ absurd (clash (cc (e, explain-demand-1 c .refused-exactly (a .0) (a .1) .1 (a .2))))
 ]
 
 -- Nothing else meets them -------------------------------------------------------------
@@ -57,3 +83,6 @@ match-settled c x h = match-settles c x (matchCall c) h (match-meets-demands c)
 
 pub list-settled : (c : Call) (x : Return ListOutcome) → ListDemands c x → x ≡ listCall c
 list-settled c x h = list-settles c x (listCall c) h (list-meets-demands c)
+
+pub explain-settled : (c : Call) (x : Return ExplainOutcome) → ExplainDemands c x → x ≡ explainCall c
+explain-settled c x h = explain-settles c x (explainCall c) h (explain-meets-demands c)

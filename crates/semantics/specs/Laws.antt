@@ -19,6 +19,10 @@ pub mod Steps
 pub mod Budgets
 -- What loops over the starts keep.
 pub mod Loops
+-- What is proved of explanations: lists of failures, the misses of walks, and that they are what is told.
+pub mod Failures
+pub mod Misses
+pub mod Explanations
 -- What is proved of the calls.
 pub mod Refusals
 pub mod Rows
@@ -27,4 +31,5 @@ pub mod Calls
 pub mod MatchCalls
 pub mod ListCalls
 pub mod AgreeingCalls
+pub mod ExplainCalls
 pub mod SettledCalls

@@ -9,6 +9,7 @@ pub mod Theorem
 pub mod Runs
 pub mod Answers
 pub mod NameIndex
+pub mod Explanations
 pub mod Calls
 pub mod Demands
 pub mod DemandsHold

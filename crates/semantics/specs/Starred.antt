@@ -1,29 +1,29 @@
 -- 01, "Checked readings": those marked *, from the rules' bytes, of the calls themselves. One statement over one list.
 use mathlib.Core.Path.{_≡_, refl}
 use mathlib.Core.List.{List, [], _∷_, _++_, map}
-use Prim.Native.Nat.{ℕ, _+_, _-_, _*_}
+use Prim.Native.Nat.{ℕ, _-_, _*_}
 use Prim.Native.String.{String}
 use lib.ListN.{length, take, replicate}
-use Rattle.syntax.specs.declared.Reason.{Reason}
 use Rattle.syntax.specs.declared.Reason.the-variants.{UnclosedGroup, RepeatOnRepeat, NoSuchGroup, BadRange}
 use Rattle.syntax.specs.Limits.{ruleAreaNeed, unset, spansLength, rowLength, nameIndexNeed}
 use Rattle.syntax.specs.Read.{bytes}
 use Rattle.semantics.specs.States.{Row}
-use Rattle.semantics.specs.Calls.{Call, workAreaNeed, Return, MatchOutcome, Matched, NotMatched, Exhausted, Refused, matchCall, ListOutcome, Complete, listCall, joined}
+use Rattle.semantics.specs.Explanations.{Failure}
+use Rattle.semantics.specs.Calls.{Call, workAreaNeed, MatchOutcome, Matched, NotMatched, Exhausted, Refused, matchCall, ListOutcome, Complete, listCall, joined, ExplainOutcome, explainCall}
 use Rattle.semantics.specs.Computing.{computing-calls}
 
 -- One call and what it gives --------------------------------------------------
 
--- a rule, flags, a subject and a budget, with areas just large enough, the last for so many rows
+-- a rule, flags, a subject and a budget, with areas just large enough, and so many numbers to write the result into
 unfoldable pub lending : String → ℕ → String → ℕ → ℕ → Call
-lending rule flags subject budget rows = record {
+lending rule flags subject budget many = record {
   rule = bytes rule;
   flags = flags;
   subject = bytes subject;
   budget = budget;
   ruleArea = replicate ruleAreaNeed 7;
   workArea = replicate (workAreaNeed budget) 7;
-  resultArea = replicate (rows * rowLength) 7;
+  resultArea = replicate many 7;
   names = replicate nameIndexNeed 7;
 }
 
@@ -36,26 +36,37 @@ pub data Checked : Type 0 where
   matching : String → ℕ → String → ℕ → MatchOutcome → List Row → Checked
   -- the same, with the rows that there is room for
   listing : String → ℕ → String → ℕ → ℕ → ListOutcome → List Row → Checked
+  -- the same; the outcome, and all the bytes that are lent for marks, which held 7 before
+  explaining : String → ℕ → String → ℕ → ExplainOutcome → List ℕ → Checked
+
+-- a failure: the attempt's start, where in the line it was, and the item's place in the rule
+unfoldable pub missed : ℕ → ℕ → ℕ → Failure
+missed start at place = record { start = start; at = at; place = place }
 
 -- an outcome, and the first numbers of the result area
 pub data Gives : Type 0 where
   matches : MatchOutcome → List ℕ → Gives
   lists : ListOutcome → List ℕ → Gives
+  explains : ExplainOutcome → List ℕ → Gives
 
 unfoldable pub calls : Checked → Gives
 calls (matching rule flags subject budget outcome rows) =
-    let after = matchCall (lending rule flags subject budget 1) in
+    let after = matchCall (lending rule flags subject budget rowLength) in
     matches (after .outcome) (take (length (joined rows)) (after .resultArea))
 calls (listing rule flags subject budget limit outcome rows) =
-    let after = listCall (lending rule flags subject budget limit) in
+    let after = listCall (lending rule flags subject budget (limit * rowLength)) in
     lists (after .outcome) (take (length (joined rows)) (after .resultArea))
+calls (explaining rule flags subject budget outcome marks) =
+    let after = explainCall (lending rule flags subject budget (length marks)) in
+    explains (after .outcome) (after .resultArea)
 
 unfoldable pub expected : Checked → Gives
 expected (matching rule flags subject budget outcome rows) = matches outcome (joined rows)
 expected (listing rule flags subject budget limit outcome rows) = lists outcome (joined rows)
+expected (explaining rule flags subject budget outcome marks) = explains outcome marks
 
 unfoldable pub computing-checks : Unit {0}
-unfolding computing-calls lending rowOf calls expected
+unfolding computing-calls lending rowOf missed calls expected
 computing-checks = tt
 
 -- The list ------------------------------------------------------------------------

@@ -1,10 +1,11 @@
 -- 01's traps and the inputs that tell the readings of open points of 01 and 02 apart (docs/DECISIONS.md), of the calls themselves, as in Starred.
 use mathlib.Core.Path.{_≡_, refl}
-use mathlib.Core.List.{List, [], _∷_, map}
-use Rattle.syntax.specs.declared.Reason.the-variants.{UnknownFlag, BudgetTooLarge}
+use mathlib.Core.List.{List, [], _∷_, _++_, map}
+use lib.ListN.{replicate}
+use Rattle.syntax.specs.declared.Reason.the-variants.{UnknownFlag, BudgetTooLarge, UnclosedGroup}
 use Rattle.syntax.specs.Limits.{unset}
-use Rattle.semantics.specs.Calls.{Matched, NotMatched, Exhausted, Refused, Complete, Full, ListExhausted}
-use Rattle.semantics.specs.Starred.{rowOf, Checked, matching, listing, calls, expected, computing-checks}
+use Rattle.semantics.specs.Calls.{Matched, NotMatched, Exhausted, Refused, Complete, Full, ListExhausted, Fits, Unfit, ExplainExhausted, ExplainRefused}
+use Rattle.semantics.specs.Starred.{rowOf, Checked, matching, listing, explaining, missed, calls, expected, computing-checks}
 
 unfoldable pub traps : List Checked
 traps =
@@ -123,6 +124,26 @@ traps =
     ∷ matching "a| " 8 "" 99 (Matched 4) (rowOf 0 0 [] ∷ [])
     -- 02 C17: all four flags
     ∷ matching "A . b" 15 "a\nB" 99 (Matched 4) (rowOf 0 3 [] ∷ [])
+    -- 02 F0: the greatest place is the line's length, since the last start fails there; the closest attempt has the news
+    ∷ explaining "^abc$" 0 "abd" 99 (Unfit 7 (missed 3 3 0) (missed 0 2 3)) (0 ∷ 0 ∷ 0 ∷ 1 ∷ 0 ∷ [])
+    ∷ explaining "abc" 0 "abd" 99 (Unfit 6 (missed 3 3 0) (missed 0 2 2)) (0 ∷ 0 ∷ 1 ∷ [])
+    -- 02 F1: a reference fails where it was begun
+    ∷ explaining "(ab)\\1" 0 "aba" 99 (Unfit 13 (missed 2 3 2) (missed 0 2 4)) (0 ∷ 0 ∷ 0 ∷ 0 ∷ 1 ∷ 0 ∷ [])
+    -- 02 F2: an item that held there does not count, and of two the earlier in the walk is told
+    ∷ explaining "a$b" 0 "a" 99 (Unfit 4 (missed 0 1 2) (missed 0 1 2)) (0 ∷ 0 ∷ 1 ∷ [])
+    ∷ explaining "(?:a|b)c" 0 "a" 99 (Unfit 9 (missed 0 1 7) (missed 0 1 7)) (0 ∷ 0 ∷ 0 ∷ 0 ∷ 0 ∷ 0 ∷ 0 ∷ 1 ∷ [])
+    -- 02 F3: an item under a repeat has its own place
+    ∷ explaining "b*a" 0 "bb" 99 (Unfit 18 (missed 0 2 0) (missed 0 2 0)) (1 ∷ 0 ∷ 1 ∷ [])
+    -- 02 F4: steps as in a match; "matched", "exhausted" and a refusal leave the marks unchanged
+    ∷ explaining "a" 0 "a" 99 (Fits 2) (7 ∷ [])
+    ∷ explaining "a*" 0 "aa" 6 (ExplainExhausted 0 6) (7 ∷ 7 ∷ [])
+    ∷ explaining "(" 0 "" 99 (ExplainRefused 0 UnclosedGroup) (7 ∷ [])
+    -- marks for fewer bytes than the rule has, for more, and for none
+    ∷ explaining "abc" 0 "abd" 99 (Unfit 6 (missed 3 3 0) (missed 0 2 2)) (0 ∷ 0 ∷ [])
+    ∷ explaining "abc" 0 "abd" 99 (Unfit 6 (missed 3 3 0) (missed 0 2 2)) (0 ∷ 0 ∷ 1 ∷ 7 ∷ 7 ∷ [])
+    ∷ explaining "abc" 0 "abd" 99 (Unfit 6 (missed 3 3 0) (missed 0 2 2)) []
+    -- the `\w` of one more round failed first, but the `:` behind it is marked too
+    ∷ explaining "^tank (\\w+): (\\d+) L$" 0 "tank A1 820 L" 99 (Unfit 30 (missed 13 13 0) (missed 0 7 7)) (replicate 7 0 ++ 1 ∷ 0 ∷ 0 ∷ 0 ∷ 1 ∷ replicate 9 0)
     ∷ []
 
 pub traps-avoided : map calls traps ≡ map expected traps

@@ -1,10 +1,11 @@
--- An outcome as the six numbers that `include/terravisco.h` names, and a field as three.
+-- An outcome as the six numbers that `include/terravisco.h` names, an explanation as eleven, and a field as three.
 use mathlib.Core.Path.{_≡_}
-use mathlib.Core.List.{List, [], _∷_}
+use mathlib.Core.List.{List, [], _∷_, _++_}
 use Prim.Native.Nat.{ℕ, _/_, _%_, _^_}
 use Rattle.syntax.specs.declared.Reason.{Reason}
 use Rattle.syntax.specs.Refusals.{numberOf}
-use Rattle.semantics.specs.Calls.{Return, MatchOutcome, Matched, NotMatched, Exhausted, Refused, ListOutcome, Complete, Full, ListExhausted, ListRefused}
+use Rattle.semantics.specs.Explanations.{Failure, nowhere}
+use Rattle.semantics.specs.Calls.{Return, MatchOutcome, Matched, NotMatched, Exhausted, Refused, ListOutcome, Complete, Full, ListExhausted, ListRefused, ExplainOutcome, Fits, Unfit, ExplainExhausted, ExplainRefused}
 use Rattle.lookup.specs.declared.Found.{Found}
 use Rattle.lookup.specs.declared.Found.the-variants.{Taken, Standing, Nothing}
 
@@ -37,6 +38,17 @@ listNumbers (Complete rows steps) = numbers 0 0 0 steps rows
 listNumbers (Full rows steps) = numbers 1 0 0 steps rows
 listNumbers (ListExhausted start rows steps) = numbers 2 start 0 steps rows
 listNumbers (ListRefused place why) = refusalNumbers place why
+
+-- "[6] place in the line, [7] place in the rule; [8] to [10] the closest attempt: its start, its place in the line, its place in the rule"
+unfoldable pub failureNumbers : (far near : Failure) → List ℕ
+failureNumbers far near = far .at ∷ far .place ∷ near .start ∷ near .at ∷ near .place ∷ []
+
+-- the kinds of a match, no rows, and these places of a line that is not matched, else 0
+unfoldable pub explainNumbers : ExplainOutcome → List ℕ
+explainNumbers (Fits steps) = numbers 0 0 0 steps 0 ++ failureNumbers nowhere nowhere
+explainNumbers (Unfit steps far near) = numbers 1 0 0 steps 0 ++ failureNumbers far near
+explainNumbers (ExplainExhausted start steps) = numbers 2 start 0 steps 0 ++ failureNumbers nowhere nowhere
+explainNumbers (ExplainRefused place why) = refusalNumbers place why ++ failureNumbers nowhere nowhere
 
 -- "field: [0] 0 the line or 1 the standing text, [1] from, [2] to", of a standing text with so many bytes
 unfoldable pub fieldNumbers : (standing : ℕ) → Found → List ℕ

@@ -1,5 +1,6 @@
 -- What the numbers of an outcome are, by the code's own cases.
 use mathlib.Core.Path.{_≡_, refl}
+use mathlib.Core.List.{_++_}
 use Prim.Native.Nat.{ℕ, _≤_, _<_}
 use native.Mathlib.Omega.{arith}
 use native.Mathlib.Decide.{decLt}
@@ -7,20 +8,27 @@ use lib.ListN.{length}
 use Rattle.syntax.specs.declared.Refusal.{Refusal}
 use Rattle.syntax.specs.declared.Reason.{Reason}
 use Rattle.syntax.specs.declared.Reason.the-variants.{RuleTooLong}
-use Rattle.syntax.specs.Limits.{ruleLimit}
+use Rattle.syntax.specs.Limits.{ruleLimit, rowLength}
+use Rattle.syntax.specs.Refusals.{numberOf}
 use Rattle.syntax.specs.Read.{Read, refused}
 use Rattle.syntax.specs.Reading.{reading}
 use Rattle.syntax.specs.Laws.Places.{Placed, reading-placed}
-use Rattle.semantics.specs.Calls.{Call, matchCall, listCall, MatchOutcome, Matched as Answer·Matched, NotMatched as Answer·NotMatched, Exhausted as Answer·Exhausted, Refused as Answer·Refused, ListOutcome, Complete as Answer·Complete, Full as Answer·Full, ListExhausted, ListRefused}
+use Rattle.semantics.specs.Explanations.{nowhere}
+use Rattle.semantics.specs.Calls.{Call, matchCall, listCall, MatchOutcome, Matched as Answer·Matched, NotMatched as Answer·NotMatched, Exhausted as Answer·Exhausted, Refused as Answer·Refused, ListOutcome, Complete as Answer·Complete, Full as Answer·Full, ListExhausted, ListRefused, explainCall, ExplainOutcome, Fits, Unfit, ExplainExhausted, ExplainRefused}
 use Rattle.semantics.specs.Demands.{Faultless, ruleTooLong, Refuses, itself, itsRule}
-use Rattle.semantics.specs.DemandsHold.{match-meets-demands, list-meets-demands}
+use Rattle.semantics.specs.DemandsHold.{match-meets-demands, list-meets-demands, explain-meets-demands}
 use Rattle.matching.specs.declared.Outcome.{Outcome}
 use Rattle.matching.specs.declared.Outcome.the-variants.{Matched, NotMatched, Exhausted, Refused}
 use Rattle.listing.specs.declared.Listing.{Listing}
 use Rattle.listing.specs.declared.Listing.the-variants.{Complete, Full, Exhausted as Cut, Refused as Denied}
 use Rattle.matching.specs.Outcomes.{outcomeOf}
 use Rattle.listing.specs.Listing.{listingOf}
-use Rattle.terravisco.specs.Answers.{numbers, refusalNumbers, matchNumbers, listNumbers}
+use Rattle.explaining.specs.declared.greatest.Failed.{Failed}
+use Rattle.explaining.specs.declared.Explanation.{Explanation}
+use Rattle.explaining.specs.declared.Explanation.the-variants.{Matched as Fitting, NotMatched as Unfitting, Exhausted as Ended, Refused as Declined}
+use Rattle.explaining.specs.Best.{failureOf}
+use Rattle.explaining.specs.Explanations.{explanationOf}
+use Rattle.terravisco.specs.Answers.{numbers, refusalNumbers, matchNumbers, listNumbers, failureNumbers, explainNumbers}
 
 -- Places ------------------------------------------------------------------------
 
@@ -37,18 +45,24 @@ ListPlaced (Answer·Full rows steps) = Unit
 ListPlaced (ListExhausted start rows steps) = Unit
 ListPlaced (ListRefused place why) = place ≤ ruleLimit
 
+abbrev pub ExplainPlaced : ExplainOutcome → Type 0
+ExplainPlaced (Fits steps) = Unit
+ExplainPlaced (Unfit steps far near) = Unit
+ExplainPlaced (ExplainExhausted start steps) = Unit
+ExplainPlaced (ExplainRefused place why) = place ≤ ruleLimit
+
 of-reading : {A : Type 0} (n : ℕ) (x : Read A) (place : ℕ) (why : Reason) → x ≡ refused place why → Placed n x → place ≤ n
 of-reading n x place why e h = rw e at h
 
-short : (c : Call) → Faultless c → Dec (ruleLimit < length (c .rule)) → length (c .rule) ≤ ruleLimit
-short c f (yes h) = absurd (f RuleTooLong (ruleTooLong h))
-short c f (no h) = omega arith
+short : (need : ℕ) (c : Call) → Faultless need c → Dec (ruleLimit < length (c .rule)) → length (c .rule) ≤ ruleLimit
+short need c f (yes h) = absurd (f RuleTooLong (ruleTooLong h))
+short need c f (no h) = omega arith
 
-refuses-placed : (c : Call) (place : ℕ) (why : Reason) → Refuses c place why → place ≤ ruleLimit
-refuses-placed c place why (itself f) = omega arith
-refuses-placed c place why (itsRule f e) =
+refuses-placed : (need : ℕ) (c : Call) (place : ℕ) (why : Reason) → Refuses need c place why → place ≤ ruleLimit
+refuses-placed need c place why (itself f) = omega arith
+refuses-placed need c place why (itsRule f e) =
     let h = of-reading (length (c .rule)) (reading (c .rule) (c .flags)) place why e (reading-placed (c .rule) (c .flags)) in
-    omega (arith, h, short c f (decLt ruleLimit (length (c .rule))))
+    omega (arith, h, short need c f (decLt ruleLimit (length (c .rule))))
 
 match-placed : (c : Call) → MatchPlaced (matchCall c .outcome)
 match-placed c = of (matchCall c .outcome) refl
@@ -57,7 +71,7 @@ match-placed c = of (matchCall c .outcome) refl
     of (Answer·Matched steps) e = tt
     of (Answer·NotMatched steps) e = tt
     of (Answer·Exhausted start steps) e = tt
-    of (Answer·Refused place why) e = refuses-placed c place why (match-meets-demands c .demand-1 .refused-exactly place why .0 e)
+    of (Answer·Refused place why) e = refuses-placed rowLength c place why (match-meets-demands c .demand-1 .refused-exactly place why .0 e)
 
 list-placed : (c : Call) → ListPlaced (listCall c .outcome)
 list-placed c = of (listCall c .outcome) refl
@@ -66,7 +80,16 @@ list-placed c = of (listCall c .outcome) refl
     of (Answer·Complete rows steps) e = tt
     of (Answer·Full rows steps) e = tt
     of (ListExhausted start rows steps) e = tt
-    of (ListRefused place why) e = refuses-placed c place why (list-meets-demands c .demand-1 .refused-exactly place why .0 e)
+    of (ListRefused place why) e = refuses-placed rowLength c place why (list-meets-demands c .demand-1 .refused-exactly place why .0 e)
+
+explain-placed : (c : Call) → ExplainPlaced (explainCall c .outcome)
+explain-placed c = of (explainCall c .outcome) refl
+  where
+    of : (o : ExplainOutcome) → explainCall c .outcome ≡ o → ExplainPlaced o
+    of (Fits steps) e = tt
+    of (Unfit steps far near) e = tt
+    of (ExplainExhausted start steps) e = tt
+    of (ExplainRefused place why) e = refuses-placed 0 c place why (explain-meets-demands c .demand-1 .refused-exactly place why .0 e)
 
 -- what the code's outcome is, a place in it fits
 pub match-told : (o : Outcome) (c : Call) → outcomeOf o ≡ matchCall c .outcome → MatchPlaced (outcomeOf o)
@@ -75,6 +98,9 @@ match-told o c e = rw e (match-placed c)
 pub list-told : (o : Listing) (c : Call) → listingOf o ≡ listCall c .outcome → ListPlaced (listingOf o)
 list-told o c e = rw e (list-placed c)
 
+pub explain-told : (o : Explanation) (c : Call) → explanationOf o ≡ explainCall c .outcome → ExplainPlaced (explanationOf o)
+explain-told o c e = rw e (explain-placed c)
+
 pub match-place : (o : Outcome) (f : Refusal) → o ≡ Refused f → MatchPlaced (outcomeOf o) → f .place ≤ ruleLimit
 unfolding outcomeOf
 match-place o f e h = rw e at h
@@ -82,6 +108,10 @@ match-place o f e h = rw e at h
 pub list-place : (o : Listing) (f : Refusal) → o ≡ Denied f → ListPlaced (listingOf o) → f .place ≤ ruleLimit
 unfolding listingOf
 list-place o f e h = rw e at h
+
+pub explain-place : (o : Explanation) (f : Refusal) → o ≡ Declined f → ExplainPlaced (explanationOf o) → f .place ≤ ruleLimit
+unfolding explanationOf
+explain-place o f e h = rw e at h
 
 -- A match -----------------------------------------------------------------------
 
@@ -118,3 +148,21 @@ of-cut o start rows steps e = rw e refl
 pub of-denied : (o : Listing) (f : Refusal) → o ≡ Denied f → refusalNumbers (f .place) (f .reason) ≡ listNumbers (listingOf o)
 unfolding listNumbers listingOf
 of-denied o f e = rw e refl
+
+-- An explanation ------------------------------------------------------------------
+
+pub of-fitting : (o : Explanation) (steps : ℕ) → o ≡ Fitting steps → numbers 0 0 0 steps 0 ++ failureNumbers nowhere nowhere ≡ explainNumbers (explanationOf o)
+unfolding explainNumbers explanationOf
+of-fitting o steps e = rw e refl
+
+pub of-unfitting : (o : Explanation) (steps : ℕ) (far near : Failed) → o ≡ Unfitting steps far near → numbers 1 0 0 steps 0 ++ failureNumbers (failureOf far) (failureOf near) ≡ explainNumbers (explanationOf o)
+unfolding explainNumbers explanationOf
+of-unfitting o steps far near e = rw e refl
+
+pub of-ended : (o : Explanation) (start steps : ℕ) → o ≡ Ended start steps → numbers 2 start 0 steps 0 ++ failureNumbers nowhere nowhere ≡ explainNumbers (explanationOf o)
+unfolding explainNumbers explanationOf
+of-ended o start steps e = rw e refl
+
+pub of-declined : (o : Explanation) (f : Refusal) (number : ℕ) → o ≡ Declined f → number ≡ numberOf (f .reason) → numbers 3 number (f .place) 0 0 ++ failureNumbers nowhere nowhere ≡ explainNumbers (explanationOf o)
+unfolding explainNumbers explanationOf refusalNumbers
+of-declined o f number e h = rw (e, h) refl

@@ -1,22 +1,42 @@
-// The C interface: the two calls, with each outcome as six numbers, and the field lookup. `include/terravisco.h` is its header.
+// The C interface: the calls, with each outcome as six numbers, or eleven for an explanation, and the field lookup. `include/terravisco.h` is its header.
+use explaining::Explanation;
+use explaining::Failed;
 use listing::Listing;
 use lookup::Found;
 use matching::Outcome;
 use syntax::Refusal;
 ghost use mathlib.Core.Path.{_≡_};
+ghost use mathlib.Core.List.{_++_};
 ghost use Prim.Native.Nat.{_≤_};
 ghost use lib.ListN.{length};
 ghost use Rattle.syntax.specs.Limits.{ruleLimit};
-ghost use Rattle.semantics.specs.Calls.{matchCall, listCall};
+ghost use Rattle.semantics.specs.Explanations.{nowhere as nothing};
+ghost use Rattle.semantics.specs.Calls.{matchCall, listCall, explainCall};
 ghost use Rattle.frame.specs.Inputs.{callOf};
 ghost use Rattle.matching.specs.Outcomes.{outcomeOf};
 ghost use Rattle.listing.specs.Listing.{listingOf};
+ghost use Rattle.explaining.specs.Best.{failureOf};
+ghost use Rattle.explaining.specs.Explanations.{explanationOf};
 ghost use Rattle.lookup.specs.Lookup.{lookup};
-ghost use Rattle.terravisco.specs.Answers.{numbers, refusalNumbers, matchNumbers, listNumbers, fieldNumbers, Answered};
-ghost use Rattle.terravisco.specs.Laws.{MatchPlaced, ListPlaced};
+ghost use Rattle.terravisco.specs.Answers.{low, high, numbers, refusalNumbers, matchNumbers, listNumbers, failureNumbers, explainNumbers, fieldNumbers, Answered};
+ghost use Rattle.terravisco.specs.Laws.{MatchPlaced, ListPlaced, ExplainPlaced};
 
 // 2^32
 const WORD: u64 = 4294967296;
+
+// What a number of 32 bits keeps of a larger one.
+fn low_half(n: u64) -> u32
+    ensures { λ r. ⌜ r ≡ low n ⌝ }
+{
+    (n % WORD) as u32
+}
+
+// The rest of it.
+fn high_half(n: u64) -> u32
+    ensures { λ r. ⌜ r ≡ high n ⌝ }
+{
+    (n / WORD) as u32
+}
 
 // Writes an answer: the kind, the start or refusal number, the place, the steps in two halves and the rows.
 fn tell(answer: &mut [u32; 6], kind: u32, which: u32, place: u32, steps: u64, rows: usize)
@@ -26,13 +46,13 @@ fn tell(answer: &mut [u32; 6], kind: u32, which: u32, place: u32, steps: u64, ro
         kind,
         which,
         place,
-        (steps % WORD) as u32,
-        (steps / WORD) as u32,
-        (rows as u64 % WORD) as u32,
+        low_half(steps),
+        high_half(steps),
+        low_half(rows as u64),
     ];
 }
 
-// A refusal has the same numbers from both calls.
+// A refusal has the same numbers from a match and a listing.
 fn tell_refusal(answer: &mut [u32; 6], f: Refusal)
     requires { ⌜ f .place ≤ ruleLimit ⌝ }
     ensures { λ _. ⌜ now (answer .exit) ≡ refusalNumbers (f .place) (f .reason) ⌝ }
@@ -62,6 +82,70 @@ fn tell_listing(answer: &mut [u32; 6], outcome: Listing)
         Listing::Full(rows, steps) => tell(answer, 1, 0, 0, steps, rows),
         Listing::Exhausted(start, rows, steps) => tell(answer, 2, start, 0, steps, rows),
         Listing::Refused(f) => tell_refusal(answer, f),
+    }
+}
+
+// Nothing failed that could be told.
+fn nowhere() -> Failed
+    ensures { λ r. ⌜ failureOf r ≡ nothing ⌝ }
+{
+    Failed {
+        start: 0,
+        at: 0,
+        place: 0,
+    }
+}
+
+// Writes an explanation's numbers: those of an answer without rows, then the furthest failure and the closest attempt.
+fn tell_failures(
+    answer: &mut [u32; 11],
+    kind: u32,
+    which: u32,
+    place: u32,
+    steps: u64,
+    furthest: Failed,
+    closest: Failed,
+)
+    ensures { λ _. ⌜ now (answer .exit) ≡ numbers kind which place steps 0 ++ failureNumbers (failureOf furthest) (failureOf closest) ⌝ }
+{
+    *answer = [
+        kind,
+        which,
+        place,
+        low_half(steps),
+        high_half(steps),
+        0,
+        furthest.at,
+        furthest.place,
+        closest.start,
+        closest.at,
+        closest.place,
+    ];
+}
+
+// The numbers of an explanation that has no failure to tell.
+fn tell_no_failure(answer: &mut [u32; 11], kind: u32, which: u32, place: u32, steps: u64)
+    ensures { λ _. ⌜ now (answer .exit) ≡ numbers kind which place steps 0 ++ failureNumbers nothing nothing ⌝ }
+{
+    let none = nowhere();
+    tell_failures(answer, kind, which, place, steps, none, none);
+}
+
+fn tell_explanation(answer: &mut [u32; 11], outcome: Explanation)
+    requires { ⌜ ExplainPlaced (explanationOf outcome) ⌝ }
+    ensures { λ _. ⌜ now (answer .exit) ≡ explainNumbers (explanationOf outcome) ⌝ }
+{
+    match outcome {
+        Explanation::Matched(steps) => tell_no_failure(answer, 0, 0, 0, steps),
+        Explanation::NotMatched(steps, furthest, closest) => {
+            tell_failures(answer, 1, 0, 0, steps, furthest, closest);
+        }
+        Explanation::Exhausted(start, steps) => tell_no_failure(answer, 2, start, 0, steps),
+        Explanation::Refused(f) => {
+            let reason = f.reason;
+            let number = syntax::number(reason);
+            tell_no_failure(answer, 3, number, f.place as u32, 0);
+        }
     }
 }
 
@@ -119,6 +203,34 @@ pub extern "C" fn terravisco_list(
         names,
     );
     tell_listing(answer, outcome);
+}
+
+// One explanation of why a line does not fit.
+#[no_mangle]
+pub extern "C" fn terravisco_explain(
+    rule: &[u8],
+    flags: u32,
+    subject: &[u8],
+    budget: u32,
+    rule_area: &mut [u32],
+    work_area: &mut [u32],
+    names: &mut [u8],
+    marks: &mut [u8],
+    answer: &mut [u32; 11],
+)
+    ensures { λ _. ⌜ Answered explainNumbers (explainCall (callOf (now (rule .entry)) flags (now (subject .entry)) budget (now («rule_area» .entry)) (now («work_area» .entry)) (now (marks .entry)) (now (names .entry)))) (now (answer .exit)) (now («rule_area» .exit)) (now («work_area» .exit)) (now (marks .exit)) (now (names .exit)) ⌝ }
+{
+    let outcome = explaining::explain(
+        rule,
+        flags,
+        subject,
+        budget,
+        rule_area,
+        work_area,
+        names,
+        marks,
+    );
+    tell_explanation(answer, outcome);
 }
 
 // One field: which text it is a part of, from where and up to where. C cannot be handed a slice of Rattle's, so it gets the numbers.

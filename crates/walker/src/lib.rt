@@ -44,7 +44,7 @@ struct Standing {
 }
 
 // One node that is no end, no run, no reference and no branch but the last; `kind` is its first number.
-fn step(
+pub fn step(
     code: &[u32],
     sub: &[u8],
     regs: &mut [u32],

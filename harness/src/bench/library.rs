@@ -4,7 +4,7 @@ use std::hint::black_box;
 
 use super::{Case, Reply};
 use crate::independent::{INDEX_LENGTH, ROW_LENGTH, RULE_AREA, WORK_PER_STEP};
-use crate::raw::{self, Areas, Call, Question};
+use crate::raw::{self, Areas, Call, Question, ANSWER_LENGTH};
 
 /// An answer's kind when the call is refused, and the reasons for which a library from before a flag, `\k` or `(?<` refuses one that has it.
 const REFUSED: u32 = 3;
@@ -16,7 +16,7 @@ pub struct Library<'c> {
     work_area: Vec<u32>,
     result: Vec<u32>,
     names: Vec<u8>,
-    answer: [u32; 6],
+    answer: [u32; ANSWER_LENGTH],
 }
 
 impl<'c> Library<'c> {
@@ -27,7 +27,7 @@ impl<'c> Library<'c> {
             work_area: vec![0; WORK_PER_STEP * case.budget as usize],
             result: vec![0; ROW_LENGTH * case.room],
             names: vec![0; INDEX_LENGTH],
-            answer: [0; 6],
+            answer: [0; ANSWER_LENGTH],
         }
     }
 
@@ -35,7 +35,7 @@ impl<'c> Library<'c> {
     /// the empty line is taken off that of the walk.
     pub fn call(&mut self, subject: &[u8]) {
         let question = Question { rule: &self.case.rule, flags: self.case.flags, subject, budget: self.case.budget };
-        let areas = Areas { rule: &mut self.rule_area, work: &mut self.work_area, result: &mut self.result, names: &mut self.names };
+        let areas = Areas { rule: &mut self.rule_area, work: &mut self.work_area, result: &mut self.result, names: &mut self.names, marks: &mut [] };
         raw::call(self.case.call, black_box(question), areas, &mut self.answer);
         black_box(&self.answer);
         black_box(&self.result);
@@ -50,14 +50,14 @@ impl<'c> Library<'c> {
     /// What a call answers, and after how many steps.
     pub fn reply(&mut self, subject: &[u8]) -> (Reply, u64) {
         self.call(subject);
-        let [kind, detail, place, low, high, rows] = self.answer;
+        let [kind, detail, place, low, high, rows, ..] = self.answer;
         let steps = u64::from(high) << 32 | u64::from(low);
         let rows = match (self.case.call, kind) {
             (_, REFUSED) => panic!("a case of the benchmark is refused: {detail} at {place}"),
             (Call::List, 1) => panic!("a case of the benchmark has too few rows"),
             (_, 2) => return (Reply::GaveUp, steps),
             (Call::Match, 0) => 1,
-            (Call::Match, _) => 0,
+            (Call::Match | Call::Explain, _) => 0,
             (Call::List, _) => rows as usize,
         };
         (Reply::Rows(self.result[..ROW_LENGTH * rows].to_vec()), steps)

@@ -1,6 +1,6 @@
 //! Calls at the limits of documents 01 and 02: each of refusals 1 to 8 at its last good and first bad value, all of them together in their order,
 //! subjects of 65,535 bytes, the greatest budget, also within a reference, every flag setting, rules of 1,000 bytes that `x` mostly skips, the
-//! longest names and the most, and lookups at the edges of an index and of a row.
+//! longest names and the most, marks of every length around a rule's, and lookups at the edges of an index and of a row.
 
 use harness::case::{shown, Case};
 use harness::independent::{Ending, FLAG_I, FLAG_X, UNSET};
@@ -9,7 +9,7 @@ use harness::looker::{self, Looker};
 use harness::raw::{Call, Lookup};
 use harness::report::Group;
 
-const CALLS: [Call; 2] = [Call::Match, Call::List];
+const CALLS: [Call; 3] = [Call::Match, Call::List, Call::Explain];
 
 fn main() -> std::process::ExitCode {
     let mut group = Group::new("boundaries");
@@ -26,6 +26,8 @@ fn main() -> std::process::ExitCode {
         names(&mut group, &mut lender, call);
         index_lengths(&mut group, &mut lender, call);
     }
+    marks(&mut group, &mut lender);
+    far_attempts(&mut group, &mut lender);
     lookups_by_index(&mut group);
     lookups_by_row(&mut group);
     group.end("")
@@ -38,7 +40,8 @@ fn judge(group: &mut Group, lender: &mut Lender, case: &Case) {
     group.judge(&shown, &faults);
 }
 
-/// All 256 ways to break some of the eight limits by one: the lowest number is given, and nothing is changed.
+/// All 256 ways to break some of the eight limits by one: the lowest number is given, and nothing is changed. An explanation is lent no result area
+/// and so never refused by 7; in place of that one, its marks have no room, which refuses nothing.
 fn refusals_in_order(group: &mut Group, lender: &mut Lender, call: Call) {
     for broken in 0u32..256 {
         let breaks = |number: u32| broken >> (number - 1) & 1;
@@ -53,10 +56,11 @@ fn refusals_in_order(group: &mut Group, lender: &mut Lender, call: Call) {
             work_area: 16 * budget as usize - breaks(6) as usize,
             result_area: 66 - breaks(7) as usize,
             name_index: 544 - breaks(8) as usize,
+            marks: 1_000 * (1 - breaks(7) as usize),
         };
         let run = lender.run(&case);
         let mut faults = run.faults;
-        let expected = (1..=8).find(|&number| breaks(number) == 1);
+        let expected = (1..=8).find(|&number| breaks(number) == 1 && (call != Call::Explain || number != 7));
         let told = match run.answer.ending {
             Ending::Refused(refusal) => Some(refusal.number),
             _ => None,
@@ -128,7 +132,7 @@ fn long_reference(group: &mut Group, lender: &mut Lender, call: Call) {
     }
 }
 
-/// Result areas around a whole number of rows.
+/// Result areas around a whole number of rows; an explanation is lent none of them.
 fn rooms(group: &mut Group, lender: &mut Lender, call: Call) {
     for numbers in [65, 66, 67, 131, 132, 133, 197, 198] {
         for rule in ["", "a|a|(a)", "(a?)*"] {
@@ -214,6 +218,45 @@ fn index_lengths(group: &mut Group, lender: &mut Lender, call: Call) {
             judge(group, lender, &Case { name_index, budget: 1, ..case.clone() });
             judge(group, lender, &Case { name_index, ..case });
         }
+    }
+}
+
+/// Marks of every length around the rule's, after each answer: written as far as they go, and for "not matched" alone.
+fn marks(group: &mut Group, lender: &mut Lender) {
+    let tank = &br"^tank (\w+): (\d+) L$"[..];
+    for (rule, subject, budget) in [
+        (tank, &b"tank A1 820 L"[..], 100),
+        (tank, b"tank A1: 820 L", 100),
+        (tank, b"tank A1 820 L", 16),
+        (br"^tank (\w+: (\d+) L$", b"tank A1 820 L", 100),
+        (b"", b"", 100),
+        (b"a", b"", 100),
+        (br"(?<a>a)\k<a>", b"ab", 100),
+    ] {
+        for marks in 0..=rule.len() + 40 {
+            judge(group, lender, &Case { marks, ..Case::new(Call::Explain, rule, 0, subject, budget, 1) });
+        }
+    }
+    // The longest rules: each of their items fails, from the first to the last or the other way round; the last alone; and one byte too many.
+    let many =
+        [format!("{}b", "a?".repeat(499)), "a|".repeat(499) + "aa", format!("{}a", "[^a]*?".repeat(166)), "a".repeat(1_000), "a".repeat(1_001)];
+    for rule in &many {
+        for marks in [0, 1, 998, 999, 1_000, 1_001, 1_002, 2_000] {
+            for subject in [&b""[..], b"b", &[b'a'; 999]] {
+                judge(group, lender, &Case { marks, ..Case::new(Call::Explain, rule.as_bytes(), 0, subject, 2_000, 1) });
+            }
+        }
+    }
+}
+
+/// The closest attempt at the beginning, within and at the end of the longest line, and one over all of it.
+fn far_attempts(group: &mut Group, lender: &mut Lender) {
+    for start in [0, 1, 32_767, 32_768, 65_529, 65_530, 65_534, 65_535] {
+        let subject = [&vec![b'a'; start][..], b"tank ", &vec![b'a'; 65_535 - start]].concat();
+        judge(group, lender, &Case::new(Call::Explain, br"tank \d", 0, &subject[..65_535], 1_000, 1));
+    }
+    for (rule, length) in [(&br"\A(?:a{255}){128}b"[..], 32_640), (br"\A(?:a{255}){128}b", 32_641), (br"^((?:a{100}){100})\1b", 20_000)] {
+        judge(group, lender, &Case::new(Call::Explain, rule, 0, &vec![b'a'; length], 100_000, 1));
     }
 }
 

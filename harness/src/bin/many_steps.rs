@@ -1,8 +1,8 @@
-//! A call that takes more steps than 32 bits can count, so that the answer's second number of steps is not 0. It takes some 20 seconds. What
+//! Calls that take more steps than 32 bits can count, so that the answer's second number of steps is not 0. Each takes some 20 seconds. What
 //! is expected is worked out by hand, since the independent matcher would take very long.
 
-use harness::case::Case;
-use harness::independent::Ending;
+use harness::case::{shown, Case};
+use harness::independent::{Attempt, Ending, Explanation, Miss};
 use harness::lender::Lender;
 use harness::raw::Call;
 use harness::report::Group;
@@ -15,15 +15,24 @@ const STEPS_PER_START: u64 = 65_537;
 fn main() -> std::process::ExitCode {
     let mut group = Group::new("steps beyond 32 bits");
     let mut lender = Lender::default();
-    for length in [0, 65_535] {
-        let case = Case::new(Call::Match, RULE, 0, &vec![b'a'; length], 65_537, 1);
-        let run = lender.run(&case);
-        let expected = STEPS_PER_START * (length as u64 + 1);
-        let mut faults = run.faults;
-        if run.answer.ending != Ending::NotMatched || run.answer.steps != expected {
-            faults.push(format!("{:?} after {} steps, expected {expected}", run.answer.ending, run.answer.steps));
+    for call in [Call::Match, Call::Explain] {
+        for length in [0, 65_535] {
+            let run = lender.run(&Case::new(call, RULE, 0, &vec![b'a'; length], 65_537, 1));
+            let expected = STEPS_PER_START * (length as u64 + 1);
+            let explanation = (call == Call::Explain).then(|| explanation(length));
+            let mut faults = run.faults;
+            if run.answer.ending != Ending::NotMatched || run.answer.steps != expected || run.answer.explanation != explanation {
+                faults.push(format!("library: {}, expected {expected} steps and {explanation:?}", shown(&run.answer)));
+            }
+            group.judge(&format!("{call:?} on {length} bytes"), &faults);
         }
-        group.judge(&format!("on {length} bytes"), &faults);
     }
     group.end("")
+}
+
+/// The `b` fails at each start, where it is the only item: it is the first at the line's end there, and no start gets further than another.
+fn explanation(length: usize) -> Explanation {
+    let item = RULE.len() - 1;
+    let marks = RULE.iter().map(|&byte| u8::from(byte == b'b')).collect();
+    Explanation { furthest: Miss { at: length, item }, closest: Attempt { start: 0, miss: Miss { at: 0, item } }, marks }
 }

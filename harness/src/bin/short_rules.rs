@@ -1,6 +1,7 @@
 //! All short rules against the independent matcher: every escape with every byte, every named set with every byte, with and without `i`, and every
 //! rule of up to four bytes over those that mean something, also over those that mean something under `x`; every beginning of a name with up to four
-//! bytes behind it, and up to four pieces with names in every order. Where faults hide in the order of refusals, a short rule shows them.
+//! bytes behind it, and up to four pieces with names in every order. Each is matched or listed, and explained, with marks of each length up to one
+//! more than the rule has bytes. Where faults hide in the order of refusals, a short rule shows them.
 
 use harness::case::Case;
 use harness::independent::{FLAG_I, FLAG_X};
@@ -20,7 +21,7 @@ const NAMES: [&str; 16] =
     ["alpha", "upper", "lower", "alnum", "xdigit", "blank", "cntrl", "ascii", "print", "graph", "punct", "digit", "word", "space", "h", ""];
 
 fn main() -> std::process::ExitCode {
-    let mut tester = Tester { group: Group::new("all short rules"), lender: Lender::default() };
+    let mut tester = Tester { group: Group::new("all short rules"), lender: Lender::default(), number: 0 };
     tester.escapes();
     tester.named_sets();
     tester.rules(MEANT, 0, &mut Vec::new(), 4);
@@ -36,10 +37,20 @@ fn main() -> std::process::ExitCode {
 struct Tester {
     group: Group,
     lender: Lender,
+    /// How many rules there were so far.
+    number: usize,
 }
 
 impl Tester {
+    /// The call, and the explanation of the same.
     fn judge(&mut self, case: &Case) {
+        let marks = self.number % (case.rule.len() + 2);
+        self.number += 1;
+        self.judge_call(case);
+        self.judge_call(&Case { call: Call::Explain, marks, ..case.clone() });
+    }
+
+    fn judge_call(&mut self, case: &Case) {
         let faults = self.lender.compare(case, &case.expected());
         if faults.is_empty() {
             self.group.pass();

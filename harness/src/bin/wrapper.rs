@@ -6,7 +6,7 @@ use harness::independent::Answer;
 use harness::random::calls;
 use harness::raw::Call;
 use harness::report::Group;
-use harness::terravisco::{Listing, Matcher, Outcome, Reading, Reason, Refusal, FLAG_I, FLAG_M, FLAG_S, FLAG_X};
+use harness::terravisco::{Attempt, Explanation, Failure, Listing, Matcher, Outcome, Reading, Reason, Refusal, FLAG_I, FLAG_M, FLAG_S, FLAG_X};
 
 const BUDGET: u32 = 1_000;
 const ROWS: usize = 5;
@@ -17,6 +17,7 @@ fn main() -> std::process::ExitCode {
     litres(&mut group, &mut matcher);
     flags(&mut group, &mut matcher);
     fields(&mut group, &mut matcher);
+    explanations(&mut group, &mut matcher);
     let greedy =
         matches!(Matcher::new(u32::MAX, 1).match_line(b"a", 0, b"a"), Outcome::Refused(Refusal { reason: Reason::BudgetTooGreat, place: 0 }));
     group.judge("a budget over its limit", &if greedy { Vec::new() } else { vec!["it is not refused".to_string()] });
@@ -37,10 +38,12 @@ fn random_calls(seed: u64) -> Vec<(String, Vec<String>)> {
     for number in 0..2_000 {
         let random = calls::case(seed, number);
         let flags = random.flags & (FLAG_S | FLAG_M | FLAG_I | FLAG_X);
-        let case = Case::new(random.call, &random.rule, flags, &random.subject, BUDGET, ROWS);
-        // The words have no names: fields are looked up on the examples.
-        let (ours, expected) = (told(&mut matcher, &case), shown(&Answer { names: None, ..case.expected() }));
-        judged.push((case.shown(), if ours == expected { Vec::new() } else { vec![format!("matcher: {ours}\nexpected: {expected}")] }));
+        for call in [random.call, Call::Explain] {
+            let case = Case::new(call, &random.rule, flags, &random.subject, BUDGET, ROWS);
+            // The words have no names: fields are looked up on the examples.
+            let (ours, expected) = (told(&mut matcher, &case), shown(&Answer { names: None, ..case.expected() }));
+            judged.push((case.shown(), if ours == expected { Vec::new() } else { vec![format!("matcher: {ours}\nexpected: {expected}")] }));
+        }
     }
     judged
 }
@@ -107,6 +110,27 @@ fn fields(group: &mut Group, matcher: &mut Matcher) {
     group.judge("a field of each reading", &if litres == [&b"none"[..], b"1,500"] { Vec::new() } else { vec![format!("{litres:?}")] });
 }
 
+/// Why a line does not fit: the `:` behind the tank's number is missing, or one more byte of the number. A line that fits, one that is given up and
+/// a rule that is refused say so.
+fn explanations(group: &mut Group, matcher: &mut Matcher) {
+    let rule = br"^tank (\w+): (\d+) L$";
+    let is_right = match matcher.explain(rule, 0, b"tank A1 820 L") {
+        Explanation::NotMatched { steps: 30, furthest: Failure { at: 13, item: 0 }, closest: Attempt { start: 0, at: 7, item: 7 }, marks } => {
+            marks.eq([7, 11])
+        }
+        _ => false,
+    };
+    group.judge("why `tank A1 820 L` does not fit", &if is_right { Vec::new() } else { vec!["it tells something else".to_string()] });
+    let others = [
+        matches!(matcher.explain(rule, 0, b"tank A1: 820 L"), Explanation::Matched { .. }),
+        matches!(matcher.explain(b"(a*)*b", 0, &[b'a'; 40]), Explanation::Exhausted { start: 0, steps: 1_000 }),
+        matches!(matcher.explain(b"a**", 0, b""), Explanation::Refused(Refusal { reason: Reason::RepeatOnRepeat, place: 2 })),
+        matches!(matcher.explain(&[b'a'; 1_001], 0, b""), Explanation::Refused(Refusal { reason: Reason::RuleTooLong, place: 0 })),
+        matches!(matcher.explain(&[b'a'; 1_000], 0, b"a"), Explanation::NotMatched { marks, .. } if marks.clone().eq([1])),
+    ];
+    group.judge("other explanations", &if others == [true; 5] { Vec::new() } else { vec![format!("{others:?}")] });
+}
+
 /// What the matcher says, in the words of `shown`.
 fn told(matcher: &mut Matcher, case: &Case) -> String {
     let rows = |readings: &mut dyn Iterator<Item = Reading>| readings.map(|reading| format!("{reading:?}")).collect::<Vec<_>>().join("; ");
@@ -123,6 +147,17 @@ fn told(matcher: &mut Matcher, case: &Case) -> String {
             Listing::Full { mut readings, steps } => format!("full, {steps} steps [{}]", rows(&mut readings)),
             Listing::Exhausted { start, mut readings, steps } => format!("exhausted at {start}, {steps} steps [{}]", rows(&mut readings)),
             Listing::Refused(refusal) => refused(refusal),
+        },
+        Call::Explain => match matcher.explain(&case.rule, case.flags, &case.subject) {
+            Explanation::Matched { steps } => format!("matched, {steps} steps []"),
+            Explanation::NotMatched { steps, furthest, closest, marks } => {
+                let marked: Vec<usize> = marks.collect();
+                let marks: String = (0..case.rule.len()).map(|item| if marked.contains(&item) { '1' } else { '0' }).collect();
+                let (Failure { at, item }, Attempt { start, at: close_at, item: close_item }) = (furthest, closest);
+                format!("not matched, {steps} steps [] furthest {at} {item} closest {start} {close_at} {close_item} marks {marks}")
+            }
+            Explanation::Exhausted { start, steps } => format!("exhausted at {start}, {steps} steps []"),
+            Explanation::Refused(refusal) => refused(refusal),
         },
     }
 }

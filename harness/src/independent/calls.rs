@@ -1,9 +1,10 @@
-//! The two calls: refusals 1 to 8, the starts one after another, rows, the name index, and how a call ends.
+//! The calls: refusals 1 to 8, the starts one after another, rows, what failed, the name index, and how a call ends.
 
 use std::collections::HashSet;
 
 use crate::raw::Call;
 
+use super::explain::{Explanation, Log};
 use super::names::{self, Index, INDEX_LENGTH};
 use super::reader::{self, Refusal, ALL_FLAGS};
 use super::tree::Rule;
@@ -25,9 +26,12 @@ pub struct Inputs<'a> {
     pub budget: u32,
     pub rule_area: usize,
     pub work_area: usize,
+    /// Not lent to an explanation.
     pub result_area: usize,
     /// In bytes.
     pub name_index: usize,
+    /// The marks' length in bytes; lent to an explanation alone.
+    pub marks: usize,
 }
 
 #[derive(Clone, Copy, PartialEq, Eq, Debug)]
@@ -41,13 +45,16 @@ pub enum Ending {
     Refused(Refusal),
 }
 
-/// What a call answers and the rows that it writes. A refusal has no steps.
+/// What a call answers, and the rows or marks that it writes. A refusal has no steps.
+#[derive(PartialEq, Eq)]
 pub struct Answer {
     pub ending: Ending,
     pub steps: u64,
     pub rows: Vec<Row>,
     /// "Each call fills a lent name index", and "a refused call leaves the index unchanged".
     pub names: Option<Box<Index>>,
+    /// What an explanation tells where it says "not matched".
+    pub explanation: Option<Explanation>,
 }
 
 impl Answer {
@@ -60,23 +67,30 @@ impl Answer {
 
 /// The answer of one call.
 pub fn answer(call: Call, inputs: &Inputs) -> Answer {
-    let refused = |refusal| Answer { ending: Ending::Refused(refusal), steps: 0, rows: Vec::new(), names: None };
-    if let Some(number) = unacceptable(inputs) {
+    let refused = |refusal| Answer { ending: Ending::Refused(refusal), steps: 0, rows: Vec::new(), names: None, explanation: None };
+    if let Some(number) = unacceptable(call, inputs) {
         return refused(Refusal { number, place: 0 });
     }
     let rule = match reader::read(inputs.rule, inputs.flags) {
         Err(refusal) => return refused(refusal),
         Ok(rule) => rule,
     };
-    let (ending, steps, rows) = match call {
-        Call::Match => first_reading(&rule, inputs),
+    let mut log = Log::default();
+    let (ending, steps, mut rows) = match call {
+        Call::Match | Call::Explain => first_reading(&rule, inputs, &mut log),
         Call::List => all_readings(&rule, inputs),
     };
-    Answer { ending, steps, rows, names: Some(Box::new(names::index(&rule))) }
+    let mut explanation = None;
+    if call == Call::Explain {
+        // "if matched, say that": there is no row.
+        rows.clear();
+        explanation = (ending == Ending::NotMatched).then(|| log.explanation(inputs.marks.min(inputs.rule.len())));
+    }
+    Answer { ending, steps, rows, names: Some(Box::new(names::index(&rule))), explanation }
 }
 
-/// The steps that a call takes at one start, where its budget allows for so many: those up to the first end in a match, and in a listing those
-/// of the whole walk.
+/// The steps that a call takes at one start, where its budget allows for so many: those up to the first end in a match or an explanation, and in
+/// a listing those of the whole walk.
 pub fn steps_at(call: Call, rule: &Rule, subject: &[u8], start: usize, budget: u64) -> u64 {
     walked(call, rule, subject, start, budget).steps
 }
@@ -92,8 +106,8 @@ fn walked<'r>(call: Call, rule: &'r Rule, subject: &'r [u8], start: usize, budge
     walk
 }
 
-/// The first of refusals 1 to 8 that is due, "tested in this order".
-fn unacceptable(inputs: &Inputs) -> Option<u32> {
+/// The first of refusals 1 to 8 that is due, "tested in this order". 02 f): "No result area is lent, so 7 isn't given."
+fn unacceptable(call: Call, inputs: &Inputs) -> Option<u32> {
     let tests = [
         inputs.rule.len() > 1_000,
         inputs.subject.len() > 65_535,
@@ -101,14 +115,14 @@ fn unacceptable(inputs: &Inputs) -> Option<u32> {
         inputs.budget > 100_000,
         inputs.rule_area < RULE_AREA,
         inputs.work_area < WORK_PER_STEP * inputs.budget as usize,
-        inputs.result_area < ROW_LENGTH,
+        call != Call::Explain && inputs.result_area < ROW_LENGTH,
         inputs.name_index < INDEX_LENGTH,
     ];
     (1..).zip(tests).find(|&(_, due)| due).map(|(number, _)| number)
 }
 
-/// "A match stops at the first end reached". The budget holds afresh at each start.
-fn first_reading(rule: &Rule, inputs: &Inputs) -> (Ending, u64, Vec<Row>) {
+/// "A match stops at the first end reached". The budget holds afresh at each start. What failed at a start without an end goes into the log.
+fn first_reading(rule: &Rule, inputs: &Inputs, log: &mut Log) -> (Ending, u64, Vec<Row>) {
     let mut steps = 0;
     for start in 0..=inputs.subject.len() {
         let mut walk = Walk::new(rule, inputs.subject, start, u64::from(inputs.budget));
@@ -117,7 +131,7 @@ fn first_reading(rule: &Rule, inputs: &Inputs) -> (Ending, u64, Vec<Row>) {
         match event {
             Event::End(end) => return (Ending::Matched, steps, vec![row(start, &end)]),
             Event::Exhausted => return (Ending::Exhausted(start), steps, Vec::new()),
-            Event::Over => {}
+            Event::Over => log.add(start, &walk.misses),
         }
     }
     (Ending::NotMatched, steps, Vec::new())

@@ -4,6 +4,7 @@
 mod calls;
 mod classes;
 mod escapes;
+mod explain;
 pub mod lookup;
 mod names;
 mod reader;
@@ -12,6 +13,8 @@ pub mod tree;
 mod walk;
 
 pub use calls::{answer, references_at, steps_at, Answer, Ending, Inputs, Row, ROW_LENGTH, RULE_AREA, UNSET, WORK_PER_STEP};
+pub use explain::{Attempt, Explanation};
 pub use names::{named, Index, ENTRIES, ENTRY_LENGTH, INDEX_LENGTH};
 pub use reader::{read, Refusal, ALL_FLAGS, FLAG_I, FLAG_M, FLAG_S, FLAG_X};
 pub use sets::ByteSet;
+pub use walk::Miss;

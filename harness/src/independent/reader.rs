@@ -2,7 +2,7 @@
 
 use super::escapes::Escape;
 use super::sets::ByteSet;
-use super::tree::{Alternation, Group, Part, Place, Repeat, Rule};
+use super::tree::{Alternation, Group, Item, Kind, Part, Place, Repeat, Rule};
 
 /// A refusal's number and its place in the rule, counted from 0.
 #[derive(Clone, Copy, PartialEq, Eq, Debug)]
@@ -165,7 +165,8 @@ impl<'r> Reader<'r> {
             self.no_repeat_here()?;
             let part = self.item(depth)?;
             self.skip_blanks();
-            parts.push(if matches!(part, Part::Place(_)) { part } else { self.with_repeat(part)? });
+            let is_place = matches!(part, Part::Item(Item { kind: Kind::Place(_), .. }));
+            parts.push(if is_place { part } else { self.with_repeat(part)? });
         }
         Ok(parts)
     }
@@ -181,34 +182,42 @@ impl<'r> Reader<'r> {
 
     /// Reads one item without its repeat.
     fn item(&mut self, depth: usize) -> Result<Part, Refusal> {
-        let place = self.at;
-        let several_lines = self.flags & FLAG_M != 0;
-        match self.peek().expect("the caller has looked") {
+        let at = self.at;
+        let kind = match self.peek().expect("the caller has looked") {
             b'(' => return self.group(depth),
-            b'[' => return Ok(Part::Byte(self.class()?)),
-            b'\\' => return self.escaped(place),
-            _ => {}
-        }
-        Ok(match self.take().expect("the caller has looked") {
-            b'^' if several_lines => Part::Place(Place::LineStart),
-            b'^' => Part::Place(Place::Start),
-            b'$' if several_lines => Part::Place(Place::LineEnd),
-            b'$' => Part::Place(Place::EndOrLastNewline),
-            b'.' if self.flags & FLAG_S != 0 => Part::Byte(ByteSet::empty().complement()),
-            b'.' => Part::Byte(ByteSet::one(0x0A).complement()),
-            byte => Part::Byte(self.folded(ByteSet::one(byte))),
-        })
+            b'[' => Kind::Byte(self.class()?),
+            b'\\' => self.escaped(at)?,
+            byte => {
+                self.at += 1;
+                self.plain(byte)
+            }
+        };
+        Ok(Part::Item(Item { at, kind }))
     }
 
-    fn escaped(&mut self, place: usize) -> Result<Part, Refusal> {
+    /// The item that a byte is by itself.
+    fn plain(&self, byte: u8) -> Kind {
+        let several_lines = self.flags & FLAG_M != 0;
+        match byte {
+            b'^' if several_lines => Kind::Place(Place::LineStart),
+            b'^' => Kind::Place(Place::Start),
+            b'$' if several_lines => Kind::Place(Place::LineEnd),
+            b'$' => Kind::Place(Place::EndOrLastNewline),
+            b'.' if self.flags & FLAG_S != 0 => Kind::Byte(ByteSet::empty().complement()),
+            b'.' => Kind::Byte(ByteSet::one(0x0A).complement()),
+            _ => Kind::Byte(self.folded(ByteSet::one(byte))),
+        }
+    }
+
+    fn escaped(&mut self, place: usize) -> Result<Kind, Refusal> {
         Ok(match self.escape_outside()? {
-            Escape::Byte(byte) => Part::Byte(self.folded(ByteSet::one(byte))),
-            Escape::Set(set) => Part::Byte(set),
-            Escape::Place(place) => Part::Place(place),
+            Escape::Byte(byte) => Kind::Byte(self.folded(ByteSet::one(byte))),
+            Escape::Set(set) => Kind::Byte(set),
+            Escape::Place(place) => Kind::Place(place),
             Escape::Reference(group) => {
                 self.references.push((place, group));
                 // A group that is not there is refused before the tree is used.
-                Part::Reference(group.and_then(|number| usize::try_from(number).ok()).unwrap_or(0))
+                Kind::Reference(group.and_then(|number| usize::try_from(number).ok()).unwrap_or(0))
             }
         })
     }

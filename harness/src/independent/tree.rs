@@ -18,12 +18,23 @@ pub struct Alternation {
 }
 
 pub enum Part {
+    Item(Item),
+    Group(Group),
+    Repeat(Box<Repeat>),
+}
+
+/// What can fail by itself. 02 f): "A failed item is a byte item, a place or a reference."
+pub struct Item {
+    /// Where it begins in the rule.
+    pub at: usize,
+    pub kind: Kind,
+}
+
+pub enum Kind {
     Byte(ByteSet),
     Place(Place),
     /// The group referred to, counted from 1.
     Reference(usize),
-    Group(Group),
-    Repeat(Box<Repeat>),
 }
 
 pub struct Group {

@@ -6,7 +6,7 @@
 use std::rc::Rc;
 
 use super::sets;
-use super::tree::{Alternation, Part, Place, Repeat, Rule};
+use super::tree::{Alternation, Item, Kind, Part, Place, Repeat, Rule};
 
 /// The spans of the groups that are set, by number; entry 0 is not used.
 pub type Spans = Vec<Option<(usize, usize)>>;
@@ -24,6 +24,15 @@ pub enum Event {
     Over,
 }
 
+/// An item that failed.
+#[derive(Clone, Copy, PartialEq, Eq, Debug)]
+pub struct Miss {
+    /// Where it was tried in the line; a reference where it was begun.
+    pub at: usize,
+    /// Where it begins in the rule.
+    pub item: usize,
+}
+
 pub struct Walk<'r> {
     subject: &'r [u8],
     /// References compare letters without their case.
@@ -32,6 +41,8 @@ pub struct Walk<'r> {
     pub steps: u64,
     /// The steps before and behind each reference tried, for budgets that end within one.
     pub references: Vec<(u64, u64)>,
+    /// The items that failed so far, in the order in which they were tried.
+    pub misses: Vec<Miss>,
     /// Tries put off, the next one last.
     pending: Vec<State<'r>>,
 }
@@ -78,7 +89,7 @@ impl<'r> Walk<'r> {
     pub fn new(rule: &'r Rule, subject: &'r [u8], start: usize, budget: u64) -> Walk<'r> {
         let todo = push(Task::Branch(&rule.whole, 0), &None);
         let begin = State { at: start, spans: Rc::new(vec![None; rule.groups + 1]), todo };
-        Walk { subject, folds: rule.folds, budget, steps: 0, references: Vec::new(), pending: vec![begin] }
+        Walk { subject, folds: rule.folds, budget, steps: 0, references: Vec::new(), misses: Vec::new(), pending: vec![begin] }
     }
 
     /// Goes on until the rule's end is reached, the budget is used or nothing is left.
@@ -144,21 +155,13 @@ impl<'r> Walk<'r> {
 
     fn try_part(&mut self, part: &'r Part, mut state: State<'r>) -> Result<Tried<'r>, NoStepLeft> {
         match part {
-            Part::Byte(set) => {
-                self.step()?;
-                let fits = self.subject.get(state.at).is_some_and(|&byte| set.has(byte));
-                state.at += 1;
-                Ok(if fits { Tried::On(state) } else { Tried::Failed })
-            }
-            Part::Place(place) => {
-                self.step()?;
-                Ok(if holds(*place, self.subject, state.at) { Tried::On(state) } else { Tried::Failed })
-            }
-            Part::Reference(group) => {
-                let before = self.steps;
-                let tried = self.refer(*group, state);
-                self.references.push((before, self.steps));
-                tried
+            Part::Item(item) => {
+                let at = state.at;
+                let tried = self.try_item(item, state)?;
+                if matches!(tried, Tried::Failed) {
+                    self.misses.push(Miss { at, item: item.at });
+                }
+                Ok(tried)
             }
             Part::Group(group) => {
                 if let Some(number) = group.number {
@@ -171,6 +174,27 @@ impl<'r> Walk<'r> {
             Part::Repeat(repeat) => {
                 state.todo = push(Task::Decide { repeat, rounds: 0, last_from: None }, &state.todo);
                 Ok(Tried::On(state))
+            }
+        }
+    }
+
+    fn try_item(&mut self, item: &Item, mut state: State<'r>) -> Result<Tried<'r>, NoStepLeft> {
+        match &item.kind {
+            Kind::Byte(set) => {
+                self.step()?;
+                let fits = self.subject.get(state.at).is_some_and(|&byte| set.has(byte));
+                state.at += 1;
+                Ok(if fits { Tried::On(state) } else { Tried::Failed })
+            }
+            Kind::Place(place) => {
+                self.step()?;
+                Ok(if holds(*place, self.subject, state.at) { Tried::On(state) } else { Tried::Failed })
+            }
+            Kind::Reference(group) => {
+                let before = self.steps;
+                let tried = self.refer(*group, state);
+                self.references.push((before, self.steps));
+                tried
             }
         }
     }

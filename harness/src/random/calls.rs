@@ -35,7 +35,8 @@ pub fn case(seed: u64, number: u64) -> Case {
     };
     let (rule_area, work_area, result_area) = areas(rng, budget);
     let name_index = if rng.percent(2) { *rng.pick(&[0, 1, 16, 17, 543]) } else { length(rng, INDEX_LENGTH) };
-    Case { call, rule, flags, subject, budget, rule_area, work_area, result_area, name_index }
+    let marks = rule.len();
+    Case { call, rule, flags, subject, budget, rule_area, work_area, result_area, name_index, marks }
 }
 
 /// The steps up to a reference that the call tries, or to one of the bytes that it compares; none where no reference is tried. Many compare no

@@ -2,6 +2,7 @@
 
 pub mod calls;
 pub mod damage;
+pub mod explanations;
 pub mod fast;
 pub mod lookups;
 pub mod rules;

@@ -1,7 +1,7 @@
 //! Random subjects: bytes of a small alphabet, and lines that a rule nearly fits.
 
 use super::Rng;
-use crate::independent::tree::{Alternation, Part, Rule};
+use crate::independent::tree::{Alternation, Kind, Part, Rule};
 
 /// Lines that grow from a rule are cut here.
 const LONGEST: usize = 40;
@@ -13,14 +13,7 @@ pub fn subject(rng: &mut Rng, rule: Option<&Rule>, alphabet: &[u8]) -> Vec<u8> {
         _ => any(rng, alphabet),
     };
     if rng.percent(35) {
-        let at = rng.between(0, subject.len());
-        let byte = if rng.percent(90) { *rng.pick(alphabet) } else { rng.byte() };
-        match rng.below(3) {
-            0 => subject.insert(at, byte),
-            1 => subject.truncate(at),
-            _ if at < subject.len() => subject[at] = byte,
-            _ => subject.push(byte),
-        }
+        damage(rng, &mut subject, alphabet);
     }
     if rng.percent(if rule.is_some_and(|rule| rule.folds) { 40 } else { 5 }) {
         mix_case(rng, &mut subject);
@@ -29,6 +22,18 @@ pub fn subject(rng: &mut Rng, rule: Option<&Rule>, alphabet: &[u8]) -> Vec<u8> {
         subject.push(b'\n');
     }
     subject
+}
+
+/// Puts a byte in, changes one or adds one, or cuts the rest off.
+pub fn damage(rng: &mut Rng, subject: &mut Vec<u8>, alphabet: &[u8]) {
+    let at = rng.between(0, subject.len());
+    let byte = if rng.percent(90) { *rng.pick(alphabet) } else { rng.byte() };
+    match rng.below(3) {
+        0 => subject.insert(at, byte),
+        1 => subject.truncate(at),
+        _ if at < subject.len() => subject[at] = byte,
+        _ => subject.push(byte),
+    }
 }
 
 /// Gives about half of the letters the other case.
@@ -76,20 +81,7 @@ impl Line {
             return;
         }
         match part {
-            Part::Byte(set) => {
-                let bytes = set.bytes();
-                if !bytes.is_empty() {
-                    self.text.push(*rng.pick(&bytes));
-                }
-            }
-            Part::Place(_) => {}
-            Part::Reference(group) => {
-                let mut same = self.groups[*group].clone();
-                if self.folds {
-                    mix_case(rng, &mut same);
-                }
-                self.text.extend(same);
-            }
+            Part::Item(item) => self.item(rng, &item.kind),
             Part::Group(group) => {
                 let from = self.text.len();
                 self.alternation(rng, &group.inside);
@@ -101,6 +93,25 @@ impl Line {
                 for _ in 0..rounds {
                     self.part(rng, &repeat.body);
                 }
+            }
+        }
+    }
+
+    fn item(&mut self, rng: &mut Rng, item: &Kind) {
+        match item {
+            Kind::Byte(set) => {
+                let bytes = set.bytes();
+                if !bytes.is_empty() {
+                    self.text.push(*rng.pick(&bytes));
+                }
+            }
+            Kind::Place(_) => {}
+            Kind::Reference(group) => {
+                let mut same = self.groups[*group].clone();
+                if self.folds {
+                    mix_case(rng, &mut same);
+                }
+                self.text.extend(same);
             }
         }
     }

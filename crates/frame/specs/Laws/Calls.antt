@@ -4,12 +4,9 @@ use mathlib.Core.Bool.{Bool, true, false}
 use mathlib.Core.List.{List, []}
 use mathlib.Core.Option.{none, some}
 use Prim.Native.Nat.{ℕ}
-use native.Mathlib.Omega.{arith}
-use borrow.Author.Tests.{le-ltb}
-use lib.ListN.{length, replicate, length-replicate}
+use lib.ListN.{length}
 use lib.Dec.{ltb}
 use Rattle.syntax.specs.declared.Reason.{Reason}
-use Rattle.syntax.specs.Limits.{rowLength}
 use Rattle.syntax.specs.Read.{sound, refused}
 use Rattle.syntax.specs.Tree.{Rule}
 use Rattle.syntax.specs.Reading.{reading}
@@ -20,41 +17,40 @@ use Rattle.frame.specs.Fitness.{fitnessOf, Sized}
 use Rattle.frame.specs.Inputs.{callOf}
 
 -- the sizes of a call are those of the code's arguments
-pub sized : (rule : List ℕ) (flags : ℕ) (subject : List ℕ) (budget : ℕ) (ruleArea workArea resultArea names : List ℕ) {long : ℕ} {short : Bool} → length subject ≡ long → ltb (length resultArea) rowLength ≡ short
-    → Sized (callOf rule flags subject budget ruleArea workArea resultArea names) (length rule) flags long budget (length ruleArea) (length workArea) short (length names)
-sized rule flags subject budget ruleArea workArea resultArea names l s = record { rule-is = refl; flags-is = refl; subject-is = l; budget-is = refl; rule-area-is = refl; work-area-is = refl; short-is = s; names-is = refl }
+pub sized : (need : ℕ) (rule : List ℕ) (flags : ℕ) (subject : List ℕ) (budget : ℕ) (ruleArea workArea resultArea names : List ℕ) {long : ℕ} {short : Bool} → length subject ≡ long → ltb (length resultArea) need ≡ short
+    → Sized need (callOf rule flags subject budget ruleArea workArea resultArea names) (length rule) flags long budget (length ruleArea) (length workArea) short (length names)
+sized need rule flags subject budget ruleArea workArea resultArea names l s = record { rule-is = refl; flags-is = refl; subject-is = l; budget-is = refl; rule-area-is = refl; work-area-is = refl; short-is = s; names-is = refl }
 
--- there is a result area that is short, and one that is not
-pub some-results : (short : Bool) → (results : List ℕ) × (ltb (length results) rowLength ≡ short)
-unfolding rowLength
-some-results true = ([], refl)
-some-results false = let l : List ℕ = replicate rowLength 0 in (l, le-ltb (length l) rowLength (omega (arith, length-replicate {A = ℕ} rowLength 0)))
+-- some need has a result area that is short of it, and some has one that is not
+pub some-results : (short : Bool) → (need : ℕ) × (results : List ℕ) × (ltb (length results) need ≡ short)
+some-results true = (1, [], refl)
+some-results false = (0, [], refl)
 
-module _ (c : Call) {f : Fitness} (is : fitnessOf f ≡ unacceptable c) where
-  pub is-fit : f ≡ Fits → none ≡ unacceptable c
+module _ (need : ℕ) (c : Call) {f : Fitness} (is : fitnessOf f ≡ unacceptable need c) where
+  pub is-fit : f ≡ Fits → none ≡ unacceptable need c
   unfolding fitnessOf
   is-fit e = rw e at is
 
-  pub is-unfit : (why : Reason) → f ≡ Unfit why → some why ≡ unacceptable c
+  pub is-unfit : (why : Reason) → f ≡ Unfit why → some why ≡ unacceptable need c
   unfolding fitnessOf
   is-unfit why e = rw e at is
 
-module _ {A : Type 0} (refusal : ℕ → Reason → A) (answered : Call → Rule → Return A) (c : Call) where
-  pub refused-call : (why : Reason) → some why ≡ unacceptable c → untouched (refusal 0 why) c ≡ call refusal answered c
+module _ {A : Type 0} (refusal : ℕ → Reason → A) (need : ℕ) (answered : Call → Rule → Return A) (c : Call) where
+  pub refused-call : (why : Reason) → some why ≡ unacceptable need c → untouched (refusal 0 why) c ≡ call refusal need answered c
   unfolding call unlessRefused
   refused-call why e = rw (← e)
 
-  pub accepted-call : none ≡ unacceptable c → withReading refusal answered c (reading (c .rule) (c .flags)) ≡ call refusal answered c
+  pub accepted-call : none ≡ unacceptable need c → withReading refusal need answered c (reading (c .rule) (c .flags)) ≡ call refusal need answered c
   unfolding call unlessRefused
   accepted-call e = rw (← e)
 
   -- a rule that is refused, and one that is sound
   pub refused-rule : (place : ℕ) (why : Reason) → reading (c .rule) (c .flags) ≡ refused place why
-      → declined (refusal place why) c ≡ withReading refusal answered c (reading (c .rule) (c .flags))
+      → declined (refusal place why) c ≡ withReading refusal need answered c (reading (c .rule) (c .flags))
   unfolding withReading
   refused-rule place why e = rw e
 
   pub sound-rule : (x : Rule) (groups at : ℕ) → reading (c .rule) (c .flags) ≡ sound (x, groups) at
-      → answered c x ≡ withReading refusal answered c (reading (c .rule) (c .flags))
+      → answered c x ≡ withReading refusal need answered c (reading (c .rule) (c .flags))
   unfolding withReading
   sound-rule x groups at e = rw e

@@ -7,7 +7,7 @@ use lib.ListN.{length, take, drop}
 use lib.Seq.{length-take-le}
 use Rattle.syntax.specs.declared.Reason.{Reason}
 use Rattle.syntax.specs.declared.Refusal.{Refusal}
-use Rattle.syntax.specs.Limits.{ruleAreaNeed, rowLength}
+use Rattle.syntax.specs.Limits.{ruleAreaNeed}
 use Rattle.syntax.specs.Tree.{Rule}
 use Rattle.syntax.specs.Reading.{namesOf}
 use Rattle.semantics.specs.Calls.{Call, Return, workAreaNeed, over, cleared, untouched, declined, call}
@@ -21,16 +21,16 @@ use Rattle.frame.specs.Laws.Refusals.{Acceptable, accepted}
 use Rattle.frame.specs.Laws.Calls.{refused-call, accepted-call, refused-rule, sound-rule}
 
 -- what preparing says, once its answer is known
-module _ {c : Call} {r : Preparation} {ruleArea workArea names : List ℕ} (h : Prepares c r ruleArea workArea names) where
-  pub is-ready : (entry groups : ℕ) → r ≡ Ready entry groups → Readied c entry groups ruleArea workArea names
-  is-ready entry groups e = subst (λ (x : Preparation). Prepares c x ruleArea workArea names) e h
+module _ {need : ℕ} {c : Call} {r : Preparation} {ruleArea workArea names : List ℕ} (h : Prepares need c r ruleArea workArea names) where
+  pub is-ready : (entry groups : ℕ) → r ≡ Ready entry groups → Readied need c entry groups ruleArea workArea names
+  is-ready entry groups e = subst (λ (x : Preparation). Prepares need c x ruleArea workArea names) e h
 
-  pub is-denied : (f : Refusal) → r ≡ Refused f → Denied c f ruleArea workArea names
-  is-denied f e = subst (λ (x : Preparation). Prepares c x ruleArea workArea names) e h
+  pub is-denied : (f : Refusal) → r ≡ Refused f → Denied need c f ruleArea workArea names
+  is-denied f e = subst (λ (x : Preparation). Prepares need c x ruleArea workArea names) e h
 
-module _ {c : Call} {entry groups : ℕ} {ruleArea workArea names : List ℕ} (h : Readied c entry groups ruleArea workArea names) where
-  fit : Acceptable c
-  fit = accepted c (h .accepted)
+module _ {need : ℕ} {c : Call} {entry groups : ℕ} {ruleArea workArea names : List ℕ} (h : Readied need c entry groups ruleArea workArea names) where
+  fit : Acceptable need c
+  fit = accepted need c (h .accepted)
 
   -- the areas are as long as is needed
   pub rule-area-long : ruleAreaNeed ≤ length ruleArea
@@ -39,7 +39,7 @@ module _ {c : Call} {entry groups : ℕ} {ruleArea workArea names : List ℕ} (h
   pub work-area-long : workAreaNeed (c .budget) ≤ length workArea
   work-area-long = rw (h .untouched) (fit .work-area-fits)
 
-  pub results-long : rowLength ≤ length (c .resultArea)
+  pub results-long : need ≤ length (c .resultArea)
   results-long = fit .results-fit
 
   -- an inside finds its rule, its line and its work area
@@ -52,28 +52,28 @@ module _ {c : Call} {entry groups : ℕ} {ruleArea workArea names : List ℕ} (h
     work-fits = work-area-long;
   }
 
-module _ {A : Type 0} (refusal : ℕ → Reason → A) (answered : Call → Rule → Return A) {c : Call} where
+module _ {A : Type 0} (refusal : ℕ → Reason → A) (need : ℕ) (answered : Call → Rule → Return A) {c : Call} where
   -- a refused call
-  pub denied-returns : {f : Refusal} {ruleArea workArea names : List ℕ} → Denied c f ruleArea workArea names → Returned (call refusal answered c) (refusal (f .place) (f .reason)) ruleArea workArea (c .resultArea) names
+  pub denied-returns : {f : Refusal} {ruleArea workArea names : List ℕ} → Denied need c f ruleArea workArea names → Returned (call refusal need answered c) (refusal (f .place) (f .reason)) ruleArea workArea (c .resultArea) names
   unfolding untouched declined
   denied-returns {f} {ruleArea} {workArea} {names} (unread p e r w n) =
       rw p
-      (subst (λ (x : Return A). Returned x (refusal 0 (f .reason)) ruleArea workArea (c .resultArea) names) (refused-call refusal answered c (f .reason) e)
+      (subst (λ (x : Return A). Returned x (refusal 0 (f .reason)) ruleArea workArea (c .resultArea) names) (refused-call refusal need answered c (f .reason) e)
       (record { outcome-is = refl; rule-area-is = r; work-area-is = w; result-area-is = refl; names-is = n }))
   denied-returns {f} {ruleArea} {workArea} {names} (unsound a e r w n) =
-      subst (λ (x : Return A). Returned x (refusal (f .place) (f .reason)) ruleArea workArea (c .resultArea) names) (refused-rule refusal answered c (f .place) (f .reason) e ∙ accepted-call refusal answered c a)
+      subst (λ (x : Return A). Returned x (refusal (f .place) (f .reason)) ruleArea workArea (c .resultArea) names) (refused-rule refusal need answered c (f .place) (f .reason) e ∙ accepted-call refusal need answered c a)
       (record { outcome-is = refl; rule-area-is = r; work-area-is = w; result-area-is = refl; names-is = n })
 
   -- a call that is answered, where every answer leaves the areas cleared and the index filled. Its inside wrote `worked` into the work area, and no
   -- more than it needs.
   pub readied-returns : ((x : Rule) → (answered c x .ruleArea ≡ cleared ruleAreaNeed (c .ruleArea)) × (answered c x .workArea ≡ cleared (workAreaNeed (c .budget)) (c .workArea)) × (answered c x .names ≡ over (nameIndex (namesOf (c .rule) (c .flags))) (c .names)))
-      → {entry groups : ℕ} {ruled workArea names : List ℕ} (h : Readied c entry groups ruled workArea names) (worked : List ℕ) → drop (workAreaNeed (c .budget)) worked ≡ drop (workAreaNeed (c .budget)) workArea
+      → {entry groups : ℕ} {ruled workArea names : List ℕ} (h : Readied need c entry groups ruled workArea names) (worked : List ℕ) → drop (workAreaNeed (c .budget)) worked ≡ drop (workAreaNeed (c .budget)) workArea
       → {told : A} {ruleArea′ workArea′ resultArea : List ℕ} → Told (answered c (h .tree)) told resultArea
       → ruleArea′ ≡ cleared ruleAreaNeed ruled → workArea′ ≡ cleared (workAreaNeed (c .budget)) worked
-      → Returned (call refusal answered c) told ruleArea′ workArea′ resultArea names
+      → Returned (call refusal need answered c) told ruleArea′ workArea′ resultArea names
   readied-returns clears {entry} {groups} {ruled} {workArea} {names} h worked kept {told} {ruleArea′} {workArea′} {resultArea} t r w =
       let z = clears (h .tree) in
-      subst (λ (x : Return A). Returned x told ruleArea′ workArea′ resultArea names) (sound-rule refusal answered c (h .tree) groups (h .stop) (h .reads) ∙ accepted-call refusal answered c (h .accepted))
+      subst (λ (x : Return A). Returned x told ruleArea′ workArea′ resultArea names) (sound-rule refusal need answered c (h .tree) groups (h .stop) (h .reads) ∙ accepted-call refusal need answered c (h .accepted))
       (record {
         outcome-is = t .outcome-is;
         rule-area-is = r ∙ cleared-alike ruleAreaNeed _ _ (h .rest) ∙ sym (z .0);

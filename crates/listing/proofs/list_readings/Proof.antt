@@ -25,28 +25,28 @@ slice-reshare-prefix-list-held : tie.Need-slice-reshare-prefix-list-held
 unfolding ruleAreaNeed rowLength
 slice-reshare-prefix-list-held c =
     let a = c .before .before .before .before .before .before .before .before .before .before .before .before .before .before .before .before .before .before .before .args in
-    let p = is-ready (c .before .before .before .before .before .before .before .before .before .prepare .ensures (now (a .subject)) (now (a .results)) refl refl) _ _ (c .before .entry .given .1) in
+    let p = is-ready (c .before .before .before .before .before .before .before .before .before .prepare .ensures rowLength (now (a .subject)) (now (a .results)) refl refl) _ _ (c .before .entry .given .1) in
     rule-area-long p
 
 slice-aggregate-list-held : tie.Need-slice-aggregate-list-held
 unfolding ruleAreaNeed rowLength
 slice-aggregate-list-held c =
     let a = c .before .before .before .before .before .before .before .before .before .before .before .before .before .before .before .before .before .before .before .before .args in
-    let p = is-ready (c .before .before .before .before .before .before .before .before .before .before .prepare .ensures (now (a .subject)) (now (a .results)) refl refl) _ _ (c .before .before .entry .given .1) in
+    let p = is-ready (c .before .before .before .before .before .before .before .before .before .before .prepare .ensures rowLength (now (a .subject)) (now (a .results)) refl refl) _ _ (c .before .before .entry .given .1) in
     sym (readied-held p .code-size)
 
 list-held-requires : tie.Need-list-held-requires
 unfolding ruleAreaNeed rowLength
 list-held-requires c κs =
     let a = c .before .before .before .before .before .before .before .before .before .before .before .before .before .before .before .before .before .before .before .before .before .before .args in
-    let p = is-ready (c .before .before .before .before .before .before .before .before .before .before .before .before .prepare .ensures (now (a .subject)) (now (a .results)) refl refl) _ _ (c .before .before .before .before .entry .given .1) in
+    let p = is-ready (c .before .before .before .before .before .before .before .before .before .before .before .before .prepare .ensures rowLength (now (a .subject)) (now (a .results)) refl refl) _ _ (c .before .before .before .before .entry .given .1) in
     readied-held p
 
 finish-requires : tie.Need-finish-requires
 unfolding rowLength workAreaNeed workPerStep
 finish-requires c κs =
     let a = c .before .before .before .before .before .before .before .before .before .before .before .before .before .before .before .before .before .before .before .before .before .before .before .before .before .before .before .before .before .args in
-    let p = is-ready (c .before .before .before .before .before .before .before .before .before .before .before .before .before .before .before .before .before .before .before .prepare .ensures (now (a .subject)) (now (a .results)) refl refl) _ _ (c .before .before .before .before .before .before .before .before .before .before .before .entry .given .1) in
+    let p = is-ready (c .before .before .before .before .before .before .before .before .before .before .before .before .before .before .before .before .before .before .before .prepare .ensures rowLength (now (a .subject)) (now (a .results)) refl refl) _ _ (c .before .before .before .before .before .before .before .before .before .before .before .entry .given .1) in
     (rule-area-long p, omega (arith, work-area-long p, c .before .before .before .before .before .before .list-held .kept .1 .1 .1 .1 .1 .0))
 
 same-length : tie.Need-same-length
@@ -62,8 +62,8 @@ returns : tie.Need-returns
 unfolding rowLength listCall listingOf
 returns c =
     let a = c .before .before .before .before .before .before .before .before .before .before .before .before .before .before .before .before .before .before .before .args in
-    let p = c .before .before .before .before .before .before .before .before .before .prepare .ensures (now (a .subject)) (now (a .results)) refl refl in
-    denied-returns ListRefused listRule (is-denied p _ (c .before .f .given .1))
+    let p = c .before .before .before .before .before .before .before .before .before .prepare .ensures rowLength (now (a .subject)) (now (a .results)) refl refl in
+    denied-returns ListRefused rowLength listRule (is-denied p _ (c .before .f .given .1))
 
 same-length-4 : tie.Need-same-length-4
 same-length-4 c = search needs
@@ -82,8 +82,8 @@ unfolding ruleAreaNeed rowLength listCall
 returns-2 c =
     let a = c .before .before .before .before .before .before .before .before .before .before .before .before .before .before .before .before .before .before .before .before .before .before .before .before .before .before .before .before .before .before .before .before .before .before .args in
     let d = callOf (now (a .rule)) (a .flags) (now (a .subject)) (a .budget) (now (a .rule-area)) (now (a .work-area)) (now (a .results)) (now (a .names)) in
-    let p = is-ready (c .before .before .before .before .before .before .before .before .before .before .before .before .before .before .before .before .before .before .before .before .before .before .before .before .prepare .ensures (now (a .subject)) (now (a .results)) refl refl) _ _ (c .before .before .before .before .before .before .before .before .before .before .before .before .before .before .before .before .entry .given .1) in
-    readied-returns ListRefused listRule (list-clears d) p _ (c .before .before .before .before .before .before .before .before .before .before .before .list-held .ensures .1) (lists-told d (p .tree) _ _ (c .before .before .before .before .before .before .before .before .before .before .before .list-held .ensures .0 (p .tree) (p .stands))) (c .before .before .before .before .finish .ensures .0) (c .before .before .before .before .finish .ensures .1)
+    let p = is-ready (c .before .before .before .before .before .before .before .before .before .before .before .before .before .before .before .before .before .before .before .before .before .before .before .before .prepare .ensures rowLength (now (a .subject)) (now (a .results)) refl refl) _ _ (c .before .before .before .before .before .before .before .before .before .before .before .before .before .before .before .before .entry .given .1) in
+    readied-returns ListRefused rowLength listRule (list-clears d) p _ (c .before .before .before .before .before .before .before .before .before .before .before .list-held .ensures .1) (lists-told d (p .tree) _ _ (c .before .before .before .before .before .before .before .before .before .before .before .list-held .ensures .0 (p .tree) (p .stands))) (c .before .before .before .before .finish .ensures .0) (c .before .before .before .before .finish .ensures .1)
 
 pub list-readings-spec : {M : Type 1} → statement M
 list-readings-spec =

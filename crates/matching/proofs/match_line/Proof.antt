@@ -25,28 +25,28 @@ slice-reshare-prefix-match-held : tie.Need-slice-reshare-prefix-match-held
 unfolding ruleAreaNeed rowLength
 slice-reshare-prefix-match-held c =
     let a = c .before .before .before .before .before .before .before .before .before .before .before .before .before .before .before .before .before .before .before .args in
-    let p = c .before .before .before .before .before .before .before .before .before .prepare .ensures (now (a .subject)) (now (a .results)) refl refl in
+    let p = c .before .before .before .before .before .before .before .before .before .prepare .ensures rowLength (now (a .subject)) (now (a .results)) refl refl in
     rule-area-long (is-ready p _ _ (c .before .entry .given .1))
 
 slice-aggregate-match-held : tie.Need-slice-aggregate-match-held
 unfolding ruleAreaNeed rowLength
 slice-aggregate-match-held c =
     let a = c .before .before .before .before .before .before .before .before .before .before .before .before .before .before .before .before .before .before .before .before .args in
-    let p = c .before .before .before .before .before .before .before .before .before .before .prepare .ensures (now (a .subject)) (now (a .results)) refl refl in
+    let p = c .before .before .before .before .before .before .before .before .before .before .prepare .ensures rowLength (now (a .subject)) (now (a .results)) refl refl in
     sym (readied-held (is-ready p _ _ (c .before .before .entry .given .1)) .code-size)
 
 match-held-requires : tie.Need-match-held-requires
 unfolding ruleAreaNeed rowLength
 match-held-requires c κs =
     let a = c .before .before .before .before .before .before .before .before .before .before .before .before .before .before .before .before .before .before .before .before .before .before .args in
-    let p = is-ready (c .before .before .before .before .before .before .before .before .before .before .before .before .prepare .ensures (now (a .subject)) (now (a .results)) refl refl) _ _ (c .before .before .before .before .entry .given .1) in
+    let p = is-ready (c .before .before .before .before .before .before .before .before .before .before .before .before .prepare .ensures rowLength (now (a .subject)) (now (a .results)) refl refl) _ _ (c .before .before .before .before .entry .given .1) in
     (readied-held p, results-long p)
 
 finish-requires : tie.Need-finish-requires
 unfolding rowLength workAreaNeed workPerStep
 finish-requires c κs =
     let a = c .before .before .before .before .before .before .before .before .before .before .before .before .before .before .before .before .before .before .before .before .before .before .before .before .before .before .before .before .before .args in
-    let p = is-ready (c .before .before .before .before .before .before .before .before .before .before .before .before .before .before .before .before .before .before .before .prepare .ensures (now (a .subject)) (now (a .results)) refl refl) _ _ (c .before .before .before .before .before .before .before .before .before .before .before .entry .given .1) in
+    let p = is-ready (c .before .before .before .before .before .before .before .before .before .before .before .before .before .before .before .before .before .before .before .prepare .ensures rowLength (now (a .subject)) (now (a .results)) refl refl) _ _ (c .before .before .before .before .before .before .before .before .before .before .before .entry .given .1) in
     (rule-area-long p, omega (arith, work-area-long p, c .before .before .before .before .before .before .match-held .kept .1 .1 .1 .1 .0))
 
 same-length : tie.Need-same-length
@@ -62,8 +62,8 @@ returns : tie.Need-returns
 unfolding rowLength matchCall outcomeOf
 returns c =
     let a = c .before .before .before .before .before .before .before .before .before .before .before .before .before .before .before .before .before .before .before .args in
-    let p = c .before .before .before .before .before .before .before .before .before .prepare .ensures (now (a .subject)) (now (a .results)) refl refl in
-    denied-returns Refused matchRule (is-denied p _ (c .before .f .given .1))
+    let p = c .before .before .before .before .before .before .before .before .before .prepare .ensures rowLength (now (a .subject)) (now (a .results)) refl refl in
+    denied-returns Refused rowLength matchRule (is-denied p _ (c .before .f .given .1))
 
 same-length-4 : tie.Need-same-length-4
 same-length-4 c = search needs
@@ -82,8 +82,8 @@ unfolding ruleAreaNeed rowLength matchCall
 returns-2 c =
     let a = c .before .before .before .before .before .before .before .before .before .before .before .before .before .before .before .before .before .before .before .before .before .before .before .before .before .before .before .before .before .before .before .before .before .before .args in
     let d = callOf (now (a .rule)) (a .flags) (now (a .subject)) (a .budget) (now (a .rule-area)) (now (a .work-area)) (now (a .results)) (now (a .names)) in
-    let p = is-ready (c .before .before .before .before .before .before .before .before .before .before .before .before .before .before .before .before .before .before .before .before .before .before .before .before .prepare .ensures (now (a .subject)) (now (a .results)) refl refl) _ _ (c .before .before .before .before .before .before .before .before .before .before .before .before .before .before .before .before .entry .given .1) in
-    readied-returns Refused matchRule (match-clears d) p _ (c .before .before .before .before .before .before .before .before .before .before .before .match-held .ensures .1) (reports-told d (p .tree) _ _ (c .before .before .before .before .before .before .before .before .before .before .before .match-held .ensures .0 (p .tree) (p .stands))) (c .before .before .before .before .finish .ensures .0) (c .before .before .before .before .finish .ensures .1)
+    let p = is-ready (c .before .before .before .before .before .before .before .before .before .before .before .before .before .before .before .before .before .before .before .before .before .before .before .before .prepare .ensures rowLength (now (a .subject)) (now (a .results)) refl refl) _ _ (c .before .before .before .before .before .before .before .before .before .before .before .before .before .before .before .before .entry .given .1) in
+    readied-returns Refused rowLength matchRule (match-clears d) p _ (c .before .before .before .before .before .before .before .before .before .before .before .match-held .ensures .1) (reports-told d (p .tree) _ _ (c .before .before .before .before .before .before .before .before .before .before .before .match-held .ensures .0 (p .tree) (p .stands))) (c .before .before .before .before .finish .ensures .0) (c .before .before .before .before .finish .ensures .1)
 
 pub match-line-spec : {M : Type 1} → statement M
 match-line-spec =

@@ -1,10 +1,8 @@
--- A rule that is ready is held: so `prepare` promises, of any line and of any result area that is not too short.
+-- A rule that is ready is held: so `prepare` promises, of any line and of any result area that is not too short, and so of none where nothing is needed in it.
 use mathlib.Core.Path.{refl}
-use mathlib.Core.Bool.{false}
 use mathlib.Core.List.{[]}
 use native.Mathlib.Omega.{arith}
 use Rattle.syntax.specs.Limits.{ruleAreaNeed}
-use Rattle.frame.specs.Laws.Calls.{some-results}
 use Rattle.frame.specs.Laws.Preparing.{is-ready}
 use Rattle.readings.proofs.Holding.{readied-holds}
 use borrow.Author.Needs.{needs}
@@ -32,8 +30,7 @@ open-requires c κs = search needs
 report-lines-requires : tie.Need-report-lines-requires
 unfolding ruleAreaNeed
 report-lines-requires c κs =
-    let results = some-results false in
-    readied-holds (is-ready (c .before .before .before .before .before .before .before .before .before .before .prepare .ensures [] (results .0) refl (results .1)) _ _ (c .before .before .before .before .before .before .before .entry .given .1)) (omega arith)
+    readied-holds (is-ready (c .before .before .before .before .before .before .before .before .before .before .prepare .ensures 0 [] [] refl refl) _ _ (c .before .before .before .before .before .before .before .entry .given .1)) (omega arith)
 
 returns : tie.Need-returns
 returns c = search needs

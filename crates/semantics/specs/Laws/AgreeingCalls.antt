@@ -48,13 +48,13 @@ no-rows : (rows : List Row) → length rows ≡ 0 → rows ≡ []
 no-rows [] e = refl
 no-rows (x ∷ rows) e = absurd (omega arith)
 
--- the same inputs have one tree
-pub accepted-same : (c d : Call) → SameInputs c d → (r : Rule) (groups : ℕ) → Accepted c r groups → Faultless d → Accepted d r groups
-accepted-same c d same r groups a f = record { faultless = f; stop = a .stop; reads = rw (← (same .rule), ← (same .flags)) (a .reads) }
+-- the same inputs have one tree, whatever the calls need
+pub accepted-same : {need : ℕ} (other : ℕ) (c d : Call) → SameInputs c d → (r : Rule) (groups : ℕ) → Accepted need c r groups → Faultless other d → Accepted other d r groups
+accepted-same other c d same r groups a f = record { faultless = f; stop = a .stop; reads = rw (← (same .rule), ← (same .flags)) (a .reads) }
 
 -- Two calls --------------------------------------------------------------------------
 
-module _ (c d : Call) (same : SameInputs c d) (r : Rule) (groups : ℕ) (a : Accepted c r groups) (b : Accepted d r groups) where
+module _ (c d : Call) (same : SameInputs c d) (r : Rule) (groups : ℕ) (a : Accepted rowLength c r groups) (b : Accepted rowLength d r groups) where
   abbrev told : Answer
   told = answer (c .subject) r (c .budget)
 
@@ -63,7 +63,7 @@ module _ (c d : Call) (same : SameInputs c d) (r : Rule) (groups : ℕ) (a : Acc
 
   agree : Agreement told listed
   agree =
-      rw (same .subject, same .budget) (agreement (d .subject) r (d .budget) (room (d .resultArea)) (room-for-one (d .resultArea) (result-area-enough d (b .faultless))))
+      rw (same .subject, same .budget) (agreement (d .subject) r (d .budget) (room (d .resultArea)) (room-for-one (d .resultArea) (result-area-enough rowLength d (b .faultless))))
 
   outcome-is : listCall d .outcome ≡ listOutcome (listed .ending) (length (listed .rows)) (listed .steps)
   unfolding leaving

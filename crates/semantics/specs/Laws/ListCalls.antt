@@ -6,6 +6,7 @@ use Prim.Native.Nat.{ℕ, _≤_}
 use native.Mathlib.Omega.{arith}
 use lib.ListN.{length}
 use Rattle.syntax.specs.declared.Reason.{Reason}
+use Rattle.syntax.specs.Limits.{rowLength}
 use Rattle.syntax.specs.Tree.{Rule}
 use Rattle.semantics.specs.States.{Row}
 use Rattle.semantics.specs.Answers.{Ending, complete, full, exhaustedAt, Listing, listing}
@@ -26,9 +27,9 @@ never complete rows steps p w e = clash (cc)
 never full rows steps p w e = clash (cc)
 never (exhaustedAt n) rows steps p w e = clash (cc)
 
-pub list-demand-1 : (c : Call) → Demand1 ListRefused c (listCall c)
+pub list-demand-1 : (c : Call) → Demand1 ListRefused rowLength c (listCall c)
 unfolding listCall listRule leaving
-list-demand-1 c = demand-1 ListRefused listRule (λ p q v w e. (cc, cc)) (λ d r p w. never _ _ _ p w) (λ d r. (refl, refl, refl)) c
+list-demand-1 c = demand-1 ListRefused rowLength listRule (λ p q v w e. (cc, cc)) (λ d r p w. never _ _ _ p w) (λ d r. (refl, refl, refl)) c
 
 -- each row is a reading
 module _ (sub : List ℕ) (r : Rule) (budget limit : ℕ) where
@@ -45,13 +46,13 @@ module _ (sub : List ℕ) (r : Rule) (budget limit : ℕ) where
       go full e = let w = d .cut-by-room .0 e in reached-reads (w .0) (w .1) x (w .2 .full-at .start) (d .rows-before-room (w .0) (w .1) (w .2) x .0 i)
       go (exhaustedAt n) e = reached-reads n budget x (d .cut-by-budget n .0 e .start) (d .rows-before-budget n e x .0 i)
 
-module _ (c : Call) (r : Rule) (groups : ℕ) (a : Accepted c r groups) where
+module _ (c : Call) (r : Rule) (groups : ℕ) (a : Accepted rowLength c r groups) where
   abbrev listed : Listing
   listed = listing (c .subject) r (c .budget) (room (c .resultArea))
 
   pub list-is : listCall c ≡ leaving (listOutcome (listed .ending) (length (listed .rows)) (listed .steps)) (joined (listed .rows)) c
   unfolding listCall listRule
-  list-is = call-answered ListRefused listRule c r groups a
+  list-is = call-answered ListRefused rowLength listRule c r groups a
 
   list-demand-3 : Demand3 (c .subject) r (c .budget) (room (c .resultArea)) listed
   list-demand-3 = demand-3 (c .subject) r (c .budget) (room (c .resultArea))

@@ -2,7 +2,7 @@
 use mathlib.Core.Path.{_≡_, refl, ap, _∙_}
 use Prim.Native.Nat.{ℕ}
 use Rattle.syntax.specs.declared.Reason.{Reason}
-use Rattle.syntax.specs.Limits.{ruleAreaNeed}
+use Rattle.syntax.specs.Limits.{ruleAreaNeed, rowLength}
 use Rattle.syntax.specs.Tree.{Rule}
 use Rattle.syntax.specs.WellFormed.{WellFormed}
 use Rattle.syntax.specs.Reading.{namesOf}
@@ -21,7 +21,7 @@ use Rattle.semantics.specs.Laws.Areas.{over-nothing, written}
 use Rattle.semantics.specs.Laws.Calls.{call-answered, demand-1}
 
 -- the tree of an accepted call is well formed
-pub accepted-formed : (c : Call) (r : Rule) (groups : ℕ) → Accepted c r groups → WellFormed groups r
+pub accepted-formed : (c : Call) (r : Rule) (groups : ℕ) → Accepted rowLength c r groups → WellFormed groups r
 accepted-formed c r groups a = rw (a .reads) at (well-formed (c .rule) (c .flags))
 
 never : (c : Call) (o : Outcome) (steps p : ℕ) (w : Reason) → ¬ (matchReturns c o steps .outcome ≡ Refused p w)
@@ -36,17 +36,17 @@ clears c (matched n t) steps = (refl, refl, refl)
 clears c notMatched steps = (refl, refl, refl)
 clears c (exhausted n) steps = (refl, refl, refl)
 
-pub match-demand-1 : (c : Call) → Demand1 Refused c (matchCall c)
+pub match-demand-1 : (c : Call) → Demand1 Refused rowLength c (matchCall c)
 unfolding matchCall matchRule
-match-demand-1 c = demand-1 Refused matchRule (λ p q v w e. (cc, cc)) (λ d r p w. never d _ _ p w) (λ d r. clears d _ _) c
+match-demand-1 c = demand-1 Refused rowLength matchRule (λ p q v w e. (cc, cc)) (λ d r p w. never d _ _ p w) (λ d r. clears d _ _) c
 
-module _ (c : Call) (r : Rule) (groups : ℕ) (a : Accepted c r groups) where
+module _ (c : Call) (r : Rule) (groups : ℕ) (a : Accepted rowLength c r groups) where
   abbrev told : Answer
   told = answer (c .subject) r (c .budget)
 
   match-is : matchCall c ≡ matchReturns c (told .outcome) (told .steps)
   unfolding matchCall matchRule
-  match-is = call-answered Refused matchRule c r groups a
+  match-is = call-answered Refused rowLength matchRule c r groups a
 
   match-as : (o : Outcome) → told .outcome ≡ o → matchCall c ≡ matchReturns c o (told .steps)
   match-as o e = match-is ∙ ap (λ (x : Outcome). matchReturns c x (told .steps)) e
@@ -60,7 +60,7 @@ module _ (c : Call) (r : Rule) (groups : ℕ) (a : Accepted c r groups) where
 
   pub returns-matched : (n : ℕ) (t : State) → told .outcome ≡ matched n t → (matchCall c .outcome ≡ Matched (told .steps)) × Written (row n t) (c .resultArea) (matchCall c .resultArea)
   unfolding matchReturns leaving
-  returns-matched n t e = rw (match-as (matched n t) e) (refl, written (row n t) (c .resultArea) (rw (match-row n t e .size) (result-area-enough c (a .faultless))))
+  returns-matched n t e = rw (match-as (matched n t) e) (refl, written (row n t) (c .resultArea) (rw (match-row n t e .size) (result-area-enough rowLength c (a .faultless))))
 
   pub returns-not-matched : told .outcome ≡ notMatched → (matchCall c .outcome ≡ NotMatched (told .steps)) × (matchCall c .resultArea ≡ c .resultArea)
   unfolding matchReturns leaving

@@ -5,17 +5,19 @@ use mathlib.Core.Logic.{inl, inr}
 use Prim.Native.Nat.{ℕ}
 use lib.ListN.{replicate}
 use Rattle.syntax.specs.declared.Reason.{Reason}
-use Rattle.syntax.specs.Limits.{ruleAreaNeed}
+use Rattle.syntax.specs.Limits.{ruleAreaNeed, rowLength}
 use Rattle.syntax.specs.Tree.{Rule}
 use Rattle.syntax.specs.Reading.{namesOf}
 use Rattle.semantics.specs.NameIndex.{nameIndex}
 use Rattle.semantics.specs.States.{row}
 use Rattle.semantics.specs.Answers.{Outcome, matched, notMatched, exhausted, Answer, Ending, complete, full, exhaustedAt, Listing}
-use Rattle.semantics.specs.Calls.{Call, workAreaNeed, Return, MatchOutcome, Refused, ListOutcome, ListRefused, joined, room}
-use Rattle.semantics.specs.Demands.{Accepted, Written, Demand1, MatchAnswers, MatchDemands, ListAnswers, ListDemands}
+use Rattle.semantics.specs.Explanations.{position, reach}
+use Rattle.semantics.specs.Calls.{Call, workAreaNeed, Return, MatchOutcome, Refused, ListOutcome, ListRefused, joined, room, ExplainOutcome, ExplainRefused, markable}
+use Rattle.semantics.specs.Demands.{Accepted, Written, Demand1, MatchAnswers, MatchDemands, ListAnswers, ListDemands, TellsWhy, ExplainAnswers, ExplainDemands}
 use Rattle.semantics.specs.Laws.Refusals.{found}
 use Rattle.semantics.specs.Laws.Areas.{written-over}
 use Rattle.semantics.specs.Laws.Settled.{demand-2-settles, demand-3-settles}
+use Rattle.semantics.specs.Laws.Explanations.{first-failure-once, marks-once}
 
 written-once : (numbers before x y : List ℕ) → Written numbers before x → Written numbers before y → x ≡ y
 written-once numbers before x y v w = written-over numbers before x v ∙ sym (written-over numbers before y w)
@@ -28,9 +30,9 @@ module _ {A : Type 0} where
   all-five : (x y : Return A) → x .ruleArea ≡ y .ruleArea → x .workArea ≡ y .workArea → x .names ≡ y .names → Told x y → x ≡ y
   all-five x y e f g t = rw (e, f, g, t .0, t .1)
 
-  module _ (refusal : ℕ → Reason → A) (c : Call) (x y : Return A) (v : Demand1 refusal c x) (w : Demand1 refusal c y) where
+  module _ (refusal : ℕ → Reason → A) (need : ℕ) (c : Call) (x y : Return A) (v : Demand1 refusal need c x) (w : Demand1 refusal need c y) where
     areas-same : (x .ruleArea ≡ y .ruleArea) × (x .workArea ≡ y .workArea)
-    areas-same = elim (found c) [
+    areas-same = elim (found need c) [
       | inl z ↦ (written-once (replicate ruleAreaNeed 0) (c .ruleArea) (x .ruleArea) (y .ruleArea) (v .rule-area-zeroed (z .1)) (w .rule-area-zeroed (z .1)), written-once (replicate (workAreaNeed (c .budget)) 0) (c .workArea) (x .workArea) (y .workArea) (v .work-area-zeroed (z .1)) (w .work-area-zeroed (z .1)))
       | inr z ↦ (
           let p = v .areas-unchanged (z .0) (z .2 .fault) in
@@ -45,7 +47,7 @@ module _ {A : Type 0} where
     ]
 
     -- it is enough that accepted calls are told alike
-    returns-same : ((r : Rule) (groups : ℕ) → Accepted c r groups → Told x y) → x ≡ y
+    returns-same : ((r : Rule) (groups : ℕ) → Accepted need c r groups → Told x y) → x ≡ y
     returns-same f =
         let s = areas-same in
         let t : Told x y = elim (v .answers-or-refuses) [
@@ -95,8 +97,39 @@ module _ (c : Call) (r : Rule) (groups : ℕ) where
       go full e = cc (v .when-full e, w .when-full (ending-too full e), same)
       go (exhaustedAt n) e = cc (v .when-exhausted n e, w .when-exhausted n (ending-too (exhaustedAt n) e), same)
 
+  -- a line that isn't matched is told in one way
+  why-told : (steps : ℕ) (x y : Return ExplainOutcome) → TellsWhy c r steps x → TellsWhy c r steps y → Told x y
+  why-told steps x y v w =
+      let far = first-failure-once (c .subject) r position (v .far) (w .far) (v .furthest) (w .furthest) in
+      let near = first-failure-once (c .subject) r reach (v .near) (w .near) (v .closest) (w .closest) in
+      let marks = marks-once (c .subject) r (v .near) (markable c) (v .marks) (w .marks) (v .marks-right) (rw near (w .marks-right)) in
+      (cc (v .told, w .told), written-once (v .marks) (c .resultArea) (x .resultArea) (y .resultArea) (v .marks-written) (rw marks (w .marks-written)))
+
+  explain-told : (x y : Return ExplainOutcome) → ExplainAnswers c r x → ExplainAnswers c r y → Told x y
+  explain-told x y v w = go (v .answer .outcome) refl
+    where
+      same : v .answer ≡ w .answer
+      same = demand-2-settles (c .subject) r (c .budget) (v .answer) (w .answer) (v .demand-2) (w .demand-2)
+
+      outcome-too : (o : Outcome) → v .answer .outcome ≡ o → w .answer .outcome ≡ o
+      outcome-too o e = ap (λ (a : Answer). a .outcome) (sym same) ∙ e
+
+      go : (o : Outcome) → v .answer .outcome ≡ o → Told x y
+      go (matched n t) e =
+          let p = v .when-matched n t e in
+          let q = w .when-matched n t (outcome-too (matched n t) e) in
+          (cc (p .0, q .0, same), p .1 ∙ sym (q .1))
+      go notMatched e = why-told (v .answer .steps) x y (v .when-not-matched e) (rw same (w .when-not-matched (outcome-too notMatched e)))
+      go (exhausted n) e =
+          let p = v .when-exhausted n e in
+          let q = w .when-exhausted n (outcome-too (exhausted n) e) in
+          (cc (p .0, q .0, same), p .1 ∙ sym (q .1))
+
 pub match-settles : (c : Call) (x y : Return MatchOutcome) → MatchDemands c x → MatchDemands c y → x ≡ y
-match-settles c x y v w = returns-same Refused c x y (v .demand-1) (w .demand-1) (λ r groups a. match-told c r groups x y (v .answers r groups a) (w .answers r groups a))
+match-settles c x y v w = returns-same Refused rowLength c x y (v .demand-1) (w .demand-1) (λ r groups a. match-told c r groups x y (v .answers r groups a) (w .answers r groups a))
 
 pub list-settles : (c : Call) (x y : Return ListOutcome) → ListDemands c x → ListDemands c y → x ≡ y
-list-settles c x y v w = returns-same ListRefused c x y (v .demand-1) (w .demand-1) (λ r groups a. list-told c r groups x y (v .answers r groups a) (w .answers r groups a))
+list-settles c x y v w = returns-same ListRefused rowLength c x y (v .demand-1) (w .demand-1) (λ r groups a. list-told c r groups x y (v .answers r groups a) (w .answers r groups a))
+
+pub explain-settles : (c : Call) (x y : Return ExplainOutcome) → ExplainDemands c x → ExplainDemands c y → x ≡ y
+explain-settles c x y v w = returns-same ExplainRefused 0 c x y (v .demand-1) (w .demand-1) (λ r groups a. explain-told c r groups x y (v .answers r groups a) (w .answers r groups a))

@@ -1,24 +1,26 @@
 -- `tell` meets its contract: the six numbers are written as the definition lists them.
 use mathlib.Core.Path.{refl}
-use Rattle.terravisco.specs.Answers.{numbers, low, high}
+use Rattle.terravisco.specs.Answers.{numbers}
 use borrow.Author.Needs.{needs}
 use Rattle.terravisco.proofs.tell.Statement.{statement}
 use Rattle.terravisco.proofs.tell.Tie as tie
 use Rattle.terravisco.proofs.tell.Reads as reads
 use Rattle.terravisco.proofs.tell.Lts as lts
+use Rattle.terravisco.proofs.high_half.Reads as high-half-reads
+use Rattle.terravisco.proofs.low_half.Reads as low-half-reads
 
-cast-t8 : tie.Need-cast-t8
-cast-t8 c = search needs
+low-half-requires : tie.Need-low-half-requires
+low-half-requires c κs = search needs
 
-cast-t10 : tie.Need-cast-t10
-cast-t10 c = search needs
+high-half-requires : tie.Need-high-half-requires
+high-half-requires c κs = search needs
 
-cast-t13 : tie.Need-cast-t13
-cast-t13 c = search needs
+low-half-requires-2 : tie.Need-low-half-requires-2
+low-half-requires-2 c κs = search needs
 
 returns : tie.Need-returns
-unfolding numbers low high
-returns c = refl
+unfolding numbers
+returns c = rw (c .before .before .before .low-half .ensures, c .before .before .high-half .ensures, c .before .low-half2 .ensures) refl
 
 pub tell-spec : {M : Type 1} → statement M
-tell-spec = tie.close (tie.spec cast-t8 cast-t10 cast-t13 returns)
+tell-spec = tie.close (tie.spec low-half-requires high-half-requires low-half-requires-2 returns)

@@ -1,6 +1,6 @@
 //! Subjects of stretches: the same byte over and over, bytes that the rule cannot begin with, and pieces grown along the rule.
 
-use crate::independent::tree::{Alternation, Part, Rule};
+use crate::independent::tree::{Alternation, Item, Kind, Part, Rule};
 use crate::independent::ByteSet;
 use crate::random::subjects::fitting;
 use crate::random::Rng;
@@ -108,11 +108,11 @@ fn add_first_of_branches(alternation: &Alternation, first: &mut ByteSet) -> bool
 /// The same for parts that follow one another; a place or a reference takes no byte here.
 fn add_first(parts: &[Part], first: &mut ByteSet) -> bool {
     parts.iter().all(|part| match part {
-        Part::Byte(set) => {
+        Part::Item(Item { kind: Kind::Byte(set), .. }) => {
             first.add_all(set);
             false
         }
-        Part::Place(_) | Part::Reference(_) => true,
+        Part::Item(_) => true,
         Part::Group(group) => add_first_of_branches(&group.inside, first),
         Part::Repeat(repeat) => repeat.most == Some(0) || add_first(std::slice::from_ref(&repeat.body), first) || repeat.least == 0,
     })

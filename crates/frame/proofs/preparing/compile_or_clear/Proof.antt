@@ -59,7 +59,7 @@ same-length-2 c = search needs
 returns : tie.Need-returns
 unfolding tableStart ruleAreaNeed spansLength groupLimit
 returns c =
-    λ line results e.
+    λ need line results e.
     (let m = c .before .before .before .before .before .before .before .before .before .before .before .compile .ensures in
     let z = compile-sound m _ _ (c .before .before .before .before .before .before .before .compiled .given .1) (omega (arith, m .long, c .before .before .before .before .before .before .before .before .before .before .before .before .before .before .before .before .before .pre .rule-area-fits)) in
     let w = compile-named m _ _ (c .before .before .before .before .before .before .before .compiled .given .1) (omega (arith, m .long, c .before .before .before .before .before .before .before .before .before .before .before .before .before .before .before .before .before .pre .rule-area-fits)) in
@@ -73,7 +73,7 @@ same-length-4 c = search needs
 
 returns-2 : tie.Need-returns-2
 returns-2 c =
-    λ line results e.
+    λ need line results e.
     (let m = c .before .before .before .before .before .before .before .before .before .before .before .before .compile .ensures in
     unsound e (compile-refused m _ (c .before .before .before .before .before .before .before .before .compiled2 .given .1)) (c .before .before .before .before .finish .ensures .0 ∙ cleared-alike ruleAreaNeed _ _ (m .rest)) (c .before .before .before .before .finish .ensures .1) refl)
 

@@ -25,19 +25,20 @@ compile-or-clear-requires : tie.Need-compile-or-clear-requires
 compile-or-clear-requires c κs =
     let a = c .before .before .before .before .before .before .before .before .before .before .args in
     let line : List ℕ = replicate (a .subject) 0 in
-    let results = some-results (a .short) in
-    let d = callOf (now (a .rule)) (a .flags) line (a .budget) (now (a .rule-area)) (now (a .work-area)) (results .0) (now (a .names)) in
-    let f = c .before .before .before .before .before .unfit .ensures d (sized (now (a .rule)) (a .flags) line (a .budget) (now (a .rule-area)) (now (a .work-area)) (results .0) (now (a .names)) (length-replicate {A = ℕ} (a .subject) 0) (results .1)) in
-    let z = accepted d (is-fit d f (c .before .before .before .enum-told .given .1)) in
+    let lent = some-results (a .short) in
+    let need = lent .0 in
+    let d = callOf (now (a .rule)) (a .flags) line (a .budget) (now (a .rule-area)) (now (a .work-area)) (lent .1) (now (a .names)) in
+    let f = c .before .before .before .before .before .unfit .ensures need d (sized need (now (a .rule)) (a .flags) line (a .budget) (now (a .rule-area)) (now (a .work-area)) (lent .1) (now (a .names)) (length-replicate {A = ℕ} (a .subject) 0) (lent .2)) in
+    let z = accepted need d (is-fit need d f (c .before .before .before .enum-told .given .1)) in
     record { rule-fits = z .rule-fits; rule-area-fits = z .rule-area-fits; work-area-fits = z .work-area-fits; names-fit = z .names-fit }
 
 returns : tie.Need-returns
 returns c =
-    λ line results l s.
+    λ need line results l s.
     (let a = c .before .before .before .before .before .before .before .before .args in
     let d = callOf (now (a .rule)) (a .flags) line (a .budget) (now (a .rule-area)) (now (a .work-area)) results (now (a .names)) in
-    let f = c .before .before .before .unfit .ensures d (sized (now (a .rule)) (a .flags) line (a .budget) (now (a .rule-area)) (now (a .work-area)) results (now (a .names)) l s) in
-    unread refl (is-unfit d f _ (c .before .reason .given .1)) refl refl refl)
+    let f = c .before .before .before .unfit .ensures need d (sized need (now (a .rule)) (a .flags) line (a .budget) (now (a .rule-area)) (now (a .work-area)) results (now (a .names)) l s) in
+    unread refl (is-unfit need d f _ (c .before .reason .given .1)) refl refl refl)
 
 same-length : tie.Need-same-length
 same-length c = search needs
@@ -50,11 +51,11 @@ same-length-3 c = search needs
 
 returns-2 : tie.Need-returns-2
 returns-2 c =
-    λ line results l s.
+    λ need line results l s.
     (let a = c .before .before .before .before .before .before .before .before .before .before .before .before .before .before .before .before .before .args in
     let d = callOf (now (a .rule)) (a .flags) line (a .budget) (now (a .rule-area)) (now (a .work-area)) results (now (a .names)) in
-    let f = c .before .before .before .before .before .before .before .before .before .before .before .before .unfit .ensures d (sized (now (a .rule)) (a .flags) line (a .budget) (now (a .rule-area)) (now (a .work-area)) results (now (a .names)) l s) in
-    c .before .before .before .before .before .before .compile-or-clear .ensures line results (is-fit d f (c .before .before .before .before .before .before .before .before .before .before .enum-told .given .1)))
+    let f = c .before .before .before .before .before .before .before .before .before .before .before .before .unfit .ensures need d (sized need (now (a .rule)) (a .flags) line (a .budget) (now (a .rule-area)) (now (a .work-area)) results (now (a .names)) l s) in
+    c .before .before .before .before .before .before .compile-or-clear .ensures need line results (is-fit need d f (c .before .before .before .before .before .before .before .before .before .before .enum-told .given .1)))
 
 pub prepare-spec : {M : Type 1} → statement M
 prepare-spec =

@@ -1,0 +1,2 @@
+-- What a move tells an explanation.
+pub mod Misses

@@ -1,0 +1,18 @@
+-- `low_half` meets its contract: the remainder is the definition's.
+use mathlib.Core.Path.{refl}
+use Rattle.terravisco.specs.Answers.{low}
+use borrow.Author.Needs.{needs}
+use Rattle.terravisco.proofs.low_half.Statement.{statement}
+use Rattle.terravisco.proofs.low_half.Tie as tie
+use Rattle.terravisco.proofs.low_half.Reads as reads
+use Rattle.terravisco.proofs.low_half.Lts as lts
+
+cast-result : tie.Need-cast-result
+cast-result c = search needs
+
+returns : tie.Need-returns
+unfolding low
+returns c = refl
+
+pub low-half-spec : {M : Type 1} → statement M
+low-half-spec = tie.close (tie.spec cast-result returns)

@@ -1,0 +1,71 @@
+//! A random test of the library against the independent matcher: many cases, each made from a seed and a number, and how many had which answer.
+
+use crate::arguments::Arguments;
+use crate::case::Case;
+use crate::independent::{Answer, Ending};
+use crate::lender::Lender;
+use crate::report::Group;
+use crate::shrink::shrunk;
+
+/// Runs the cases that `make` makes, and hands on each with what is expected of it.
+pub fn run(name: &'static str, arguments: &Arguments, make: impl Fn(u64, u64) -> Case, mut count: impl FnMut(&Case, &Answer)) -> Group {
+    let mut group = Group::new(name);
+    let mut lender = Lender::default();
+    for seed in arguments.seeds.clone() {
+        for number in 0..arguments.cases {
+            let case = make(seed, number);
+            let expected = case.expected();
+            let faults = lender.compare(&case, &expected);
+            count(&case, &expected);
+            if faults.is_empty() {
+                group.pass();
+            } else {
+                group.fail_with(|| told(&mut lender, seed, number, &case, &faults));
+            }
+        }
+    }
+    group
+}
+
+/// The case with its faults, and the smallest case like it.
+fn told(lender: &mut Lender, seed: u64, number: u64, case: &Case, faults: &[String]) -> String {
+    let small = shrunk(case, |smaller| !lender.compare(smaller, &smaller.expected()).is_empty());
+    let small_faults = lender.compare(&small, &small.expected());
+    format!("case {number} of seed {seed}\n{}\n{}\nsmaller: {}\n{}", case.shown(), faults.join("\n"), small.shown(), small_faults.join("\n"))
+}
+
+/// How many cases had which answer: a test that meets only some of them shows little.
+pub struct Kinds {
+    endings: [u64; 5],
+    refusals: [u64; 27],
+    /// Numbers that are not given.
+    never: &'static [usize],
+}
+
+impl Kinds {
+    pub fn new(never: &'static [usize]) -> Kinds {
+        Kinds { endings: [0; 5], refusals: [0; 27], never }
+    }
+
+    pub fn count(&mut self, answer: &Answer) {
+        match answer.ending {
+            Ending::Matched => self.endings[0] += 1,
+            Ending::NotMatched => self.endings[1] += 1,
+            Ending::Complete => self.endings[2] += 1,
+            Ending::Full => self.endings[3] += 1,
+            Ending::Exhausted(_) => self.endings[4] += 1,
+            Ending::Refused(refusal) => self.refusals[refusal.number as usize] += 1,
+        }
+    }
+
+    pub fn told(&self) -> String {
+        let [matched, not, complete, full, exhausted] = self.endings;
+        let listed = if complete + full == 0 { String::new() } else { format!(", {complete} complete, {full} full") };
+        let walked = format!("{matched} matched, {not} not{listed}, {exhausted} exhausted");
+        let rarest = (1..27).filter(|number| !self.never.contains(number)).map(|number| self.refusals[number]).min().unwrap_or(0);
+        match self.refusals.iter().sum::<u64>() {
+            0 => walked,
+            refused => format!("{walked}, {refused} refused, each refusal at least {rarest} times"),
+        }
+    }
+}
