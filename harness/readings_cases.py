@@ -26,23 +26,89 @@ LITRES = rb"^(?:(\d{1,3},\d{3})|(\d+,\d+)) L$"
 # The report written a second time ---------------------------------------------
 
 
-def spans(number, row):
+def labels(rule, flags):
+    """What each group is called, from 1 on, and how wide the labels are."""
+    index = reference.index(rule, flags)
+    names = [index[at + 1:at + 1 + index[at]].decode() for at in range(0, len(index), 17)]
+    return [name or "group %d" % group for group, name in enumerate(names, 1)], max(12, *map(len, names))
+
+
+def spans(number, row, groups):
     yield "reading %d" % number, "-", row[0], row[1]
-    for group in range(1, 33):
+    for group, label in enumerate(groups, 1):
         if row[2 * group] != reference.U:
-            yield "group %d" % group, "^", row[2 * group], row[2 * group + 1]
+            yield label, "^", row[2 * group], row[2 * group + 1]
 
 
-def block(line, rows):
+def block(line, rows, groups, margin):
     """A line in its windows, each with the readings that have something there."""
     for at in range(0, max(len(line), 1), WIDTH):
         window = line[at:at + WIDTH]
-        yield "%12s  %s" % ("column %d" % at if len(line) > WIDTH else "", "".join(chr(b) if 32 <= b <= 126 else "." for b in window))
+        yield "%*s  %s" % (margin, "column %d" % at if len(line) > WIDTH else "", shown(window))
         for number, row in enumerate(rows, 1):
-            for label, mark, first, end in spans(number, row):
+            for label, mark, first, end in spans(number, row, groups):
                 if at <= first <= at + WIDTH if first == end else first < at + WIDTH and at < end:
                     marks = "".join(mark if first <= at + k < end else " " for k in range(len(window)))
-                    yield "%12s  %s  %d-%d%s" % (label, marks, first, end, " empty" if first == end else "")
+                    yield "%*s  %s  %d-%d%s" % (margin, label, marks, first, end, " empty" if first == end else "")
+
+
+# Why a line does not fit, written a second time -------------------------------
+
+
+def item(rule, flags, place):
+    """The own text of the item at a place, repeats and all."""
+    p = reference.Parser(rule, flags)
+    p.i = place
+    p.atom()
+    end = p.i
+    p.blanks()
+    repeat = p.quant()
+    if repeat is not None:
+        end = repeat[3] + (rule[repeat[3]:repeat[3] + 1] == b"?")
+    return rule[place:end]
+
+
+def shown(text):
+    return "".join(chr(b) if 32 <= b <= 126 else "." for b in text)
+
+
+def byte(b):
+    return {32: "a blank", 9: "a tab"}.get(b) or ("`%c`" % b if 32 < b < 127 else "the byte %02X" % b)
+
+
+def sentence(line, start, stop, items):
+    """How far the line fits, which items could have come next, each text once, and what stands there."""
+    taken = line[start:stop]
+    texts = [byte(text[0]) if len(text) == 1 else "`%s`" % shown(text[:32]) + ".." * (len(text) > 32) for text in dict.fromkeys(items)]
+    if not taken:
+        fits = "Nothing of it fits: "
+    else:
+        fits = ("From column %d it fits up to " % start if start else "It fits up to ") + ".." * (len(taken) > 32) + "`%s`; then " % shown(taken[-32:])
+    if len(texts) > 3:
+        expected = ", ".join(texts[:3]) + ", or another item marked above"
+    else:
+        expected = " or ".join(filter(None, (", ".join(texts[:-1]), texts[-1])))
+    return fits + expected + " was expected, and %s was found." % (byte(line[stop]) if stop < len(line) else "the line's end")
+
+
+def reason(rule, flags, line, budget, margin):
+    """A line that is not matched, in its windows, with what fits; the rule in windows, with what was expected; and the sentence."""
+    (start, stop, _), places = reference.explain(rule, flags, line, budget)[3:]
+    items = [item(rule, flags, place) for place in places]
+    dashes = "".join("-" if start <= at < stop else " " for at in range(stop)) + "^"
+    under = [" "] * len(rule)
+    for place, text in zip(places, items):
+        under[place:place + len(text)] = "^" * len(text)
+    for text, signs, whole, column, label in ((line, dashes, "", "column %d", "fits up to"), (rule, "".join(under), "rule", "rule %d", "expected")):
+        for at in range(0, max(len(text), 1), WIDTH):
+            yield "%*s  %s" % (margin, column % at if len(text) > WIDTH else whole, shown(text[at:at + WIDTH]))
+            last = at + WIDTH >= len(text)
+            if signs[at:at + WIDTH + last].strip():
+                yield "%*s  %s" % (margin, label, signs[at:at + WIDTH + last].rstrip())
+    yield "%*s  %s" % (margin, "", sentence(line, start, stop, items))
+
+
+# The report ---------------------------------------------------------------------
 
 
 def readings(count):
@@ -69,6 +135,7 @@ def report(rule, text, flags=0, budget=100000):
     if not lines[-1]:
         lines.pop()
     kinds = dict.fromkeys(("matched once", "ambiguous", "not matched", "exhausted", "too long"), 0)
+    groups, margin = labels(rule, flags)
     out, many, unsettled, dotted = [], 0, 0, 0
     for number, line in enumerate(lines, 1):
         says, rows, kind = told(rule, flags, line, budget)
@@ -77,7 +144,7 @@ def report(rule, text, flags=0, budget=100000):
         unsettled += kind == "exhausted" and len(rows) > 1
         out.append("line %d: %s" % (number, says))
         if rows is not None:
-            out.extend(block(line, rows))
+            out.extend(reason(rule, flags, line, budget, margin) if kind == "not matched" else block(line, rows, groups, margin))
             dotted += any(not 32 <= b <= 126 for b in line)
     out += ["", "lines: %d" % len(lines)]
     notes = {"ambiguous": ("with more readings than are shown", many), "exhausted": ("ambiguous already", unsettled)}
@@ -130,7 +197,9 @@ USAGE = """\
 usage: readings RULE-FILE LINES-FILE [FLAGS [BUDGET]]
 
 Says of every line how many readings the rule has of it. A line with two or more is shown with
-each of them, - standing under what the reading took and ^ under what a group of it took.
+each of them, - standing under what the reading took and ^ under what a group of it took. A group
+that has a name is called by it. A line that is not matched is shown with - under what fits and ^
+under the place where that ends, and the rule with ^ under what was expected there.
 
 RULE-FILE   the rule is what stands before its first line end
 LINES-FILE  lines of up to 65535 bytes, ended by 0A (a 0D before it is a byte of the line)
@@ -168,7 +237,14 @@ def arguments(t):
                   ["i", "1000"]):
         t.run("arguments %r" % words, both + words, two, "")
     # Under `x` the rule's blank is none, and a line with one does not fit.
-    without = "line 1: not matched\n              1,500 L\n" + summary(1, unmatched=1)
+    without = """\
+line 1: not matched
+              1,500 L
+  fits up to  -----^
+        rule  ^(?:(\\d{1,3},\\d{3})|(\\d+,\\d+)) L$
+    expected                           ^^^   ^
+              It fits up to `1,500`; then `\\d+` or `L` was expected, and a blank was found.
+""" + summary(1, unmatched=1)
     for words in (["x"], ["8"], ["15"], ["0012"], ["ix"], ["smix"], ["xims"], ["x", "100000"]):
         t.run("arguments %r" % words, both + words, without, "")
     t.run("no rule file", ["none", "lines"], "", "readings: none: No such file or directory\n")
@@ -219,16 +295,39 @@ def refusals(t):
     Path("lines").write_bytes(b"1,500 L\n")
     t.run("a rule without 0A", ["rule", "lines"], TWO + summary(1, ambiguous="1"), "")
     Path("rule").write_bytes(LITRES + b"\r\n")
-    t.run("a rule with 0D", ["rule", "lines"], "line 1: not matched\n              1,500 L\n" + summary(1, unmatched=1), "")
+    t.run("a rule with 0D", ["rule", "lines"], """\
+line 1: not matched
+              1,500 L
+  fits up to  -------^
+        rule  ^(?:(\\d{1,3},\\d{3})|(\\d+,\\d+)) L$.
+    expected                                   ^
+              It fits up to `1,500 L`; then the byte 0D was expected, and the line's end was found.
+""" + summary(1, unmatched=1), "")
 
 
 def files(t):
     t.on("no lines", LITRES, b"", out=summary(0))
-    t.on("an empty line", LITRES, b"\n", out="line 1: not matched\n              \n" + summary(1, unmatched=1))
+    t.on("an empty line", LITRES, b"\n", out="""\
+line 1: not matched
+              
+  fits up to  ^
+        rule  ^(?:(\\d{1,3},\\d{3})|(\\d+,\\d+)) L$
+    expected       ^^^^^^^         ^^^
+              Nothing of it fits: `\\d{1,3}` or `\\d+` was expected, and the line's end was found.
+""" + summary(1, unmatched=1))
     t.on("no 0A at the end", LITRES, b"1,5 L\n2,5 L", out="line 1: 1 reading\nline 2: 1 reading\n" + summary(2, once=2))
     t.on("only 0A", b"^$", b"\n\n\n", out="line 1: 1 reading\nline 2: 1 reading\nline 3: 1 reading\n" + summary(3, once=3))
     t.on("a line of 65536 bytes", b"^a", b"b" * 65536 + b"\n1\na\n",
-         out="line 1: too long, over 65535 bytes\nline 2: not matched\n              1\nline 3: 1 reading\n" + summary(3, once=1, unmatched=1, long=1))
+         out="""\
+line 1: too long, over 65535 bytes
+line 2: not matched
+              1
+  fits up to  ^
+        rule  ^a
+    expected   ^
+              Nothing of it fits: `a` was expected, and `1` was found.
+line 3: 1 reading
+""" + summary(3, once=1, unmatched=1, long=1))
     t.on("a line of 200000 bytes, the last", b"^a", b"a\n" + b"a" * 200000, out="line 1: 1 reading\nline 2: too long, over 65535 bytes\n" + summary(2, once=1, long=1))
     t.on("a line of 65535 bytes", b"^a", b"a" * 65535 + b"\n", out="line 1: 1 reading\n" + summary(1, once=1))
     t.on("65535 bytes, not matched", b"^b", b"\x80" * 65535 + b"\na\nb")
@@ -236,7 +335,20 @@ def files(t):
          out="line 1: 1 reading\nline 2: 1 reading\n" + summary(2, once=2))
     t.on("odd bytes, two readings", rb"^(?:(.)|(.+?))(.+)$", b"\x1b[2J\xff")
     t.on("odd bytes shown", rb"^b", b"\x1b[2J\xff\n \x09~\n",
-         out="line 1: not matched\n              .[2J.\nline 2: not matched\n               .~\n" + summary(2, unmatched=2)
+         out="""\
+line 1: not matched
+              .[2J.
+  fits up to  ^
+        rule  ^b
+    expected   ^
+              Nothing of it fits: `b` was expected, and the byte 1B was found.
+line 2: not matched
+               .~
+  fits up to  ^
+        rule  ^b
+    expected   ^
+              Nothing of it fits: `b` was expected, and a blank was found.
+""" + summary(2, unmatched=2)
          + "A dot may stand for a byte that cannot be shown; lines shown with such a dot: 2\n")
     Path("rule").write_bytes(b"^a$")
     Path("lines").write_bytes(b"a\n" * 25000)
@@ -313,12 +425,27 @@ line 1: exhausted at start 0, 2 readings until then
     t.on("flags", rb"^a$.^b$", b"a\n", flags=3)
     t.on("the letter s", rb"^.$", b"\x0d", flags=1, words=["s"])
     t.on("the letter i", rb"^(tank|Hall) (\d+) \1$", b"TANK 7 tank\nhall 3 HALL\nHALL 3 tank", words=["i"],
-         out="line 1: 1 reading\nline 2: 1 reading\nline 3: not matched\n              HALL 3 tank\n" + summary(3, once=2, unmatched=1))
+         out="""\
+line 1: 1 reading
+line 2: 1 reading
+line 3: not matched
+              HALL 3 tank
+  fits up to  -------^
+        rule  ^(tank|Hall) (\\d+) \\1$
+    expected                     ^^
+              It fits up to `HALL 3 `; then `\\1` was expected, and `t` was found.
+""" + summary(3, once=2, unmatched=1))
     t.on("the letter x", rb"^ (?: ( \d{1,3},\d{3} ) | ( \d+,\d+ ) ) \  L $  # 1,5 L and 1,500 L (both", b"1,500 L\n", words=["x"],
          out=TWO + summary(1, ambiguous="1"))
-    t.on("names", rb"^(?:(?<thousands>\d{1,3},\d{3})|(?<decimal>\d+,\d+)) L$", b"1,500 L\n", out=TWO + summary(1, ambiguous="1"))
-    t.on("references by name", rb"^(?<tank>\w+) (?<litres>\d+) \g{tank}$", b"A1 7 A1\nA1 7 B2", out="line 1: 1 reading\nline 2: not matched\n              A1 7 B2\n"
-         + summary(2, once=1, unmatched=1))
+    t.on("references by name", rb"^(?<tank>\w+) (?<litres>\d+) \g{tank}$", b"A1 7 A1\nA1 7 B2", out="""\
+line 1: 1 reading
+line 2: not matched
+              A1 7 B2
+  fits up to  -----^
+        rule  ^(?<tank>\\w+) (?<litres>\\d+) \\g{tank}$
+    expected                               ^^^^^^^^
+              It fits up to `A1 7 `; then `\\g{tank}` was expected, and `B` was found.
+""" + summary(2, once=1, unmatched=1))
     t.on("a name before its group", rb"(?:\k'n'c|(?<n>b))+", b"bbc\n")
     t.on("both letters", rb"( A ) \1 | [ B ] + # twice", b"aAbB\n A b \n", flags=12, words=["xi"])
     for flags in range(16):
@@ -336,6 +463,161 @@ line 1: exhausted at start 0, 2 readings until then
     t.on("exhausted at a later start", rb"b(a*)*c", b"ba" * 3 + b"b" + b"a" * 30, budget=3000)
 
 
+def names(t):
+    """A group is called by its name. The labels are as wide as the longest, and 12 columns at least."""
+    t.on("names", rb"^(?:(?<thousands>\d{1,3},\d{3})|(?<litres>\d+,\d+)) L$", b"1,500 L\n", out="""\
+line 1: 2 readings
+              1,500 L
+   reading 1  -------  0-7
+   thousands  ^^^^^    0-5
+   reading 2  -------  0-7
+      litres  ^^^^^    0-5
+""" + summary(1, ambiguous="1"))
+    t.on("a name of 16 bytes", rb"^(?<n>a?)(?<litres_delivered>a?)(b?)$", b"a\n\nc\n", out="""\
+line 1: 2 readings
+                  a
+       reading 1  -  0-1
+               n  ^  0-1
+litres_delivered     1-1 empty
+         group 3     1-1 empty
+       reading 2  -  0-1
+               n     0-0 empty
+litres_delivered  ^  0-1
+         group 3     1-1 empty
+line 2: 1 reading
+line 3: not matched
+                  c
+      fits up to  ^
+            rule  ^(?<n>a?)(?<litres_delivered>a?)(b?)$
+        expected        ^^                     ^^  ^^ ^
+                  Nothing of it fits: `a?`, `b?` or `$` was expected, and `c` was found.
+""" + summary(3, once=1, ambiguous="1", unmatched=1))
+    t.on("a name of 12 bytes, and `_` first", rb"(a)|(?<_litres_of_1>a)", b"a\n", out="""\
+line 1: 2 readings
+              a
+   reading 1  -  0-1
+     group 1  ^  0-1
+   reading 2  -  0-1
+_litres_of_1  ^  0-1
+""" + summary(1, ambiguous="1"))
+    t.on("a name of 13 bytes", rb"(a)|(?<litres_of_day>a)", b"a\n", out="""\
+line 1: 2 readings
+               a
+    reading 1  -  0-1
+      group 1  ^  0-1
+    reading 2  -  0-1
+litres_of_day  ^  0-1
+""" + summary(1, ambiguous="1"))
+    t.on("32 names", b"^" + b"".join(b"(?<g%d>a?)" % g for g in range(1, 33)) + b"$", b"a")
+    t.on("the last of 32 groups has a name", b"^" + b"(a?)" * 31 + b"(?<the_last>a?)$", b"a")
+    t.on("a name in windows", rb"^(?:(?<the_first_column>a+)|(a+))b*(?<rest>.*)$", b"a" * 60 + b"b" * 10 + b"c" * 90)
+
+TANK = rb"^tank (\w+): (\d+) L$"
+
+
+def told_why(t, name, rule, line, fits, expected, sentence, flags=0, dots=0):
+    """A line of one window that a rule of one window does not match: the signs under both, and the sentence."""
+    show = [("", shown(line)), ("fits up to", fits), ("rule", shown(rule)), ("expected", expected), ("", sentence)]
+    note = "A dot may stand for a byte that cannot be shown; lines shown with such a dot: %d\n" % dots if dots else ""
+    t.on(name, rule, line + b"\n", flags=flags, out="line 1: not matched\n" + "".join("%12s  %s\n" % row for row in show) + summary(1, unmatched=1) + note)
+
+
+def reasons(t):
+    """Why a line does not fit."""
+    t.on("two lines that do not fit", TANK, b"tank A1 820 L\ntank A1: 820 L\nlorry 7\n", out="""\
+line 1: not matched
+              tank A1 820 L
+  fits up to  -------^
+        rule  ^tank (\\w+): (\\d+) L$
+    expected         ^^^ ^
+              It fits up to `tank A1`; then `\\w+` or `:` was expected, and a blank was found.
+line 2: 1 reading
+line 3: not matched
+              lorry 7
+  fits up to  ^
+        rule  ^tank (\\w+): (\\d+) L$
+    expected   ^
+              Nothing of it fits: `t` was expected, and `l` was found.
+""" + summary(3, once=1, unmatched=2))
+    told_why(t, "the line's end", TANK, b"tank A1: 820", "------------^", "              ^^^ ^",
+             "It fits up to `tank A1: 820`; then `\\d+` or a blank was expected, and the line's end was found.")
+    told_why(t, "more than the rule has", TANK, b"tank A1: 820 L.", "--------------^", "                    ^",
+             "It fits up to `tank A1: 820 L`; then `$` was expected, and `.` was found.")
+    told_why(t, "a line that ends in 0D", TANK, b"tank A1: 820 L\r", "--------------^", "                    ^",
+             "It fits up to `tank A1: 820 L`; then `$` was expected, and the byte 0D was found.", dots=1)
+    told_why(t, "not from the beginning", rb"tank (\w+): (\d+) L", b"the tank A1 820 L", "    -------^", "      ^^^ ^",
+             "From column 4 it fits up to `tank A1`; then `\\w+` or `:` was expected, and a blank was found.")
+    told_why(t, "nothing fits, and no ^", rb"b", b"aa", "^", "^", "Nothing of it fits: `b` was expected, and `a` was found.")
+    told_why(t, "the first of two that come as far", rb"ab|cde", b"ac cx", "-^", " ^", "It fits up to `a`; then `b` was expected, and `c` was found.")
+    told_why(t, "a tab", b"^caf\xe9 (\\d+)$", b"caf\xe9\t7", "----^", "     ^", "It fits up to `caf.`; then a blank was expected, and a tab was found.", dots=1)
+    told_why(t, "an odd byte in the rule", b"^caf\xe9 (\\d+)$", b"cafe 7", "---^", "    ^", "It fits up to `caf`; then the byte E9 was expected, and `e` was found.")
+    told_why(t, "an odd byte in the line", b"^caf\xe9 (\\d+)$", b"caf\xe9 \xa07", "-----^", "       ^^^",
+             "It fits up to `caf. `; then `\\d+` was expected, and the byte A0 was found.", dots=1)
+    told_why(t, "a tab in the rule", b"^a\tb", b"ab", "-^", "  ^", "It fits up to `a`; then a tab was expected, and `b` was found.")
+    told_why(t, "odd bytes with a repeat", b"^\xe9+\x01{2}", b"\xe9.", "-^", " ^^^^^^",
+             "It fits up to `.`; then `.+` or `.{2}` was expected, and `.` was found.", dots=1)
+    told_why(t, "bytes 00 and 7F", b"^\\x7f", b"\x00", "^", " ^^^^", "Nothing of it fits: `\\x7f` was expected, and the byte 00 was found.", dots=1)
+    told_why(t, "three items", b"^(?:a1|b2|c3)$", b"x", "^", "    ^  ^  ^", "Nothing of it fits: `a`, `b` or `c` was expected, and `x` was found.")
+    told_why(t, "four items", b"^(?:a1|b2|c3|d4)$", b"x", "^", "    ^  ^  ^  ^",
+             "Nothing of it fits: `a`, `b`, `c`, or another item marked above was expected, and `x` was found.")
+    told_why(t, "five items, two of them alike", b"^(?:a1|b2|a3|d4|b5)$", b"x", "^", "    ^  ^  ^  ^  ^", "Nothing of it fits: `a`, `b` or `d` was expected, and `x` was found.")
+    told_why(t, "all alike", b"^(?:a1|a2|a3|a4)$", b"x", "^", "    ^  ^  ^  ^", "Nothing of it fits: `a` was expected, and `x` was found.")
+    told_why(t, "alike but for the repeat", b"^(?:a*1|a+2|a1)$", b"x", "^", "    ^^^ ^^  ^", "Nothing of it fits: `a*`, `1`, `a+`, or another item marked above was expected, and `x` was found.")
+    told_why(t, "a run", rb"^\d+$", b"12a4", "--^", " ^^^^", "It fits up to `12`; then `\\d+` or `$` was expected, and `a` was found.")
+    told_why(t, "a lazy run", rb"^\d{1,}?,", b"12.", "--^", " ^^^^^^^^", "It fits up to `12`; then `\\d{1,}?` or `,` was expected, and `.` was found.")
+    told_why(t, "a run that is full", rb"^\d{1,2},", b"123", "--^", "        ^", "It fits up to `12`; then `,` was expected, and `3` was found.")
+    told_why(t, "a class", rb"^[]a-c[:digit:]-]{2}?x", b"a", "-^", " ^^^^^^^^^^^^^^^^^^^^", "It fits up to `a`; then `[]a-c[:digit:]-]{2}?` was expected, and the line's end was found.")
+    told_why(t, "a reference that is not set", rb"^(?:(a)|b)\1$", b"b", "-^", "          ^^", "It fits up to `b`; then `\\1` was expected, and the line's end was found.")
+    told_why(t, "a reference that is repeated", rb"^(\w)\g{-1}{2}$", b"aab", "--^", "     ^^^^^^^^^", "It fits up to `aa`; then `\\g{-1}{2}` was expected, and `b` was found.")
+    told_why(t, "a place", rb"^\d+\bL", b"10L", "--^", " ^^^^^", "It fits up to `10`; then `\\d+` or `\\b` was expected, and `L` was found.")
+    told_why(t, "a repeat behind a blank", rb"^ \d {2} \  L $ # two digits", b"1 L", "-^", "  ^^^^^^", "It fits up to `1`; then `\\d {2}` was expected, and a blank was found.", flags=8)
+    told_why(t, "no repeat behind blanks", rb"^ \d   L # one digit", b"1 L", "-^", "       ^", "It fits up to `1`; then `L` was expected, and a blank was found.", flags=8)
+    told_why(t, "ignoring case", rb"^TANK$", b"tang", "---^", "    ^", "It fits up to `tan`; then `K` was expected, and `g` was found.", flags=4)
+    told_why(t, "names", rb"^(?<tank>[A-C]\d) \k<tank>!", b"A1 A2", "---^", "                  ^^^^^^^^", "It fits up to `A1 `; then `\\k<tank>` was expected, and `A` was found.")
+    told_why(t, "32 bytes", rb"^a*b", b"a" * 32, "-" * 32 + "^", " ^^^", "It fits up to `%s`; then `a*` or `b` was expected, and the line's end was found." % ("a" * 32))
+    told_why(t, "33 bytes", rb"^ca*b", b"c" + b"a" * 32, "-" * 33 + "^", "  ^^^", "It fits up to ..`%s`; then `a*` or `b` was expected, and the line's end was found." % ("a" * 32))
+    told_why(t, "an item of 32 bytes", rb"^[abcdefghijklmnopqrstuvwxyz0123]$", b"-", "^", " " + "^" * 32, "Nothing of it fits: `[abcdefghijklmnopqrstuvwxyz0123]` was expected, and `-` was found.")
+    told_why(t, "an item of 33 bytes", rb"^[abcdefghijklmnopqrstuvwxyz0123]+$", b"-", "^", " " + "^" * 33, "Nothing of it fits: `[abcdefghijklmnopqrstuvwxyz0123]`.. was expected, and `-` was found.")
+    t.on("windows", b"[a-z ]+[;:]" + b"x" * 53 + b"[0-9]+y", b"the lorry comes in the morning, and the second one in the afternoon\n" + b"A" * 70 + b" that is all for today: xxx\n" + b"a" * 70
+         + b"1" + b"B" * 29, out="""\
+line 1: not matched
+    column 0  the lorry comes in the morning, and the second one in the aftern
+  fits up to                                 ---------------------------------
+   column 64  oon
+  fits up to  ---^
+      rule 0  [a-z ]+[;:]xxxxxxxxxxxxxxxxxxxxxxxxxxxxxxxxxxxxxxxxxxxxxxxxxxxxx
+    expected  ^^^^^^^^^^^
+     rule 64  [0-9]+y
+              From column 31 it fits up to ..` the second one in the afternoon`; then `[a-z ]+` or `[;:]` was expected, and the line's end was found.
+line 2: not matched
+    column 0  AAAAAAAAAAAAAAAAAAAAAAAAAAAAAAAAAAAAAAAAAAAAAAAAAAAAAAAAAAAAAAAA
+   column 64  AAAAAA that is all for today: xxx
+  fits up to        -----------------------^
+      rule 0  [a-z ]+[;:]xxxxxxxxxxxxxxxxxxxxxxxxxxxxxxxxxxxxxxxxxxxxxxxxxxxxx
+    expected             ^
+     rule 64  [0-9]+y
+              From column 70 it fits up to ` that is all for today:`; then `x` was expected, and a blank was found.
+line 3: not matched
+    column 0  aaaaaaaaaaaaaaaaaaaaaaaaaaaaaaaaaaaaaaaaaaaaaaaaaaaaaaaaaaaaaaaa
+  fits up to  ----------------------------------------------------------------
+   column 64  aaaaaa1BBBBBBBBBBBBBBBBBBBBBBBBBBBBB
+  fits up to  ------^
+      rule 0  [a-z ]+[;:]xxxxxxxxxxxxxxxxxxxxxxxxxxxxxxxxxxxxxxxxxxxxxxxxxxxxx
+    expected  ^^^^^^^^^^^
+     rule 64  [0-9]+y
+              It fits up to ..`aaaaaaaaaaaaaaaaaaaaaaaaaaaaaaaa`; then `[a-z ]+` or `[;:]` was expected, and `1` was found.
+""" + summary(3, unmatched=3))
+
+    for length in (63, 64, 65, 127, 128, 129, 200):
+        line = b"a" * length
+        t.on("up to a line's end at %d" % length, rb"^a*b", line + b"\n" + line[1:] + b"c\n" + line + b"c" * 70 + b"\n")
+        t.on("from a start at %d" % length, rb"ba+c", line + b"baaa\n" + line + b"b" + line + b"\n")
+        t.on("a rule of %d bytes" % length, b"^" + b"a" * (length - 11) + b"[abcdef]+?$", line[:length - 12] + b"\n" + line[:length - 11] + b"\n" + line + b"-\n")
+    t.on("a rule of 1000 bytes", b"^" + b"a?" * 499 + b"b", b"a" * 300 + b"\n" + b"c")
+    for flags in range(16):
+        t.on("items under flags %d" % flags, rb"^(a|B) [ x]*#\x41 {2}\k{n} ?(?<n>.)$|\t +", b"b \nA  #AAq\nA  #aa\nb #AA\n\t\n", flags=flags)
+
+
 def unwritten(t):
     """A report that cannot be written: that is said once, and lines that never end are not read on."""
     Path("rule").write_bytes(b"^y$\n")
@@ -351,7 +633,7 @@ def unwritten(t):
 def random_rules(t, seed):
     chance = random.Random(seed)
     atoms = [b"a", b"b", b"A", b".", b" ", b"\\d", b"(a)", b"(a|B)", b"(?:a|ab)", b"(b ?)", b"^", b"$", b"([aB]+)", b"(\\w)", b"[^A]", b"[[:upper:]]", b"(?<n>a+)", b"(?<m>[bB])", b"\\k<n>",
-             b"\\g{m}"]
+             b"\\g{m}", b"(?<thirteen_long>a|\\w)", b"(?<sixteen_letters_>a?)"]
     for n in range(150):
         rule = b"".join(chance.choice(atoms) + chance.choice([b"", b"", b"", b"*", b"?", b"+?", b"{1,2}"]) for _ in range(chance.randint(1, 4)))
         lines = [bytes(chance.choice(b"aAabB1 \t\xe9\xc9") for _ in range(chance.choice([0, 1, 2, 3, 5, 8, 70]))) for _ in range(chance.randint(1, 6))]
@@ -363,14 +645,39 @@ def random_rules(t, seed):
         t.on("random %d, rule %r" % (n, rule), rule, b"\n".join(lines), flags=flags, budget=budget)
 
 
+def random_reasons(t, seed):
+    """Rules for whole lines, of items of every form, and lines that often fit up to somewhere."""
+    chance = random.Random(seed)
+    # each with something that it takes
+    atoms = {b"a": b"a", b"b": b"b", b"A": b"A", b".": b"-", b" ": b" ", b"\xe9": b"\xe9", b"\t": b"\t", b"#": b"#", b"\\d": b"7", b"\\W": b"-", b"\\x61": b"a", b"\\x{62}": b"b", b"\\o{61}": b"1",
+             b"\\01": b"\x01", b"\\cA": b"\x01", b"\\-": b"-", b"\\ ": b" ", b"[ab]": b"b", b"[^]a]": b"B", b"[a-c\\d]": b"c", b"[[:^alpha:]b-]": b"-", b"\\b": b"", b"\\B": b"", b"\\Z": b"", b"$": b"",
+             b"^": b"", b"\\1": b"a", b"\\g1": b"b", b"\\g{-1}": b"a", b"\\k<n>": b"ab", b"\\k'n'": b"1", b"\\g{n}": b"a", b"(a|b)": b"a", b"(?<n>ab?|\\d+)": b"ab", b"(?:a|[bB]*|\\d{2})": b"bb",
+             b"a#b": b"a#b"}
+    repeats = [b"", b"", b"", b"", b"*", b"?", b"+?", b"{1,2}", b"{2}?", b"{0,}", b" *", b" {2}"]
+    for n in range(400):
+        picked = [chance.choice(list(atoms)) for _ in range(chance.choice([1, 2, 3, 4, 6, 12, 40]))]
+        rule = b"^" * (chance.random() < 0.7) + b"".join(atom + chance.choice(repeats) for atom in picked) + b"$" * (chance.random() < 0.7)
+        flags = chance.randrange(16)
+        try:
+            reference.read(rule, flags)
+        except reference.Refuse:
+            continue
+        lines = []
+        for _ in range(6):
+            fitting = b"".join(atoms[atom] * chance.choice([1, 1, 1, 2]) for atom in picked[:chance.randint(0, len(picked))])
+            lines.append(fitting + bytes(chance.choice(b"aaabbAB11 #-\t\x01\xe9") for _ in range(chance.choice([0, 1, 2, 3, 70]))))
+        t.on("random reasons %d, rule %r" % (n, rule), rule, b"\n".join(lines), flags=flags, budget=chance.choice([50, 1000, 5000]))
+
+
 def main():
     t = Cases()
     seed = int(sys.argv[1]) if len(sys.argv) > 1 else 1
     rule, text = (DATA / "rule.txt").read_bytes().split(b"\n")[0], (DATA / "lines.txt").read_bytes()
     t.same("the crate's own file", (DATA.parent / "stdout").read_text(), report(rule, text, 0, 1100))
-    for part in (arguments, refusals, files, pieces, listings, unwritten):
+    for part in (arguments, refusals, files, pieces, listings, names, reasons, unwritten):
         part(t)
     random_rules(t, seed)
+    random_reasons(t, seed)
     print("%d passed, %d failed" % (t.passed, t.failed))
     sys.exit(t.failed > 0)
 

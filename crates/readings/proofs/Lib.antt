@@ -1,3 +1,3 @@
 -- What the functions' proofs cite.
-mod LineEnds
 mod Holding
+mod Closest

@@ -1,3 +1,2 @@
--- What the contracts speak of: the parts of what was read, and the rule that is held.
-pub mod Parts
+-- What the contracts speak of: the rule that is held.
 pub mod Rules

@@ -1,9 +1,9 @@
 // What is counted. Each line is counted in LINES and in one of ONCE, AMBIGUOUS, UNMATCHED, EXHAUSTED and TOO_LONG. MANY are those of the
 // ambiguous lines that have more readings than are shown, UNSETTLED those of the exhausted ones that had two or more readings until then.
-use crate::output::ROOM;
-use crate::output::flush;
-use crate::output::put;
-use crate::output::put_number;
+use office::ROOM;
+use office::flush;
+use office::put;
+use office::put_number;
 ghost use Prim.Native.Nat.{_<_};
 
 pub const LINES: usize = 0;

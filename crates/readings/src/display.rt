@@ -2,27 +2,25 @@
 //
 //               1,500 L
 //    reading 1  -------  0-7
-//      group 1  ^^^^^    0-5
+//       litres  ^^^^^    0-5
 //
 // A reading and each of its set groups have lines of their own, so that groups in groups cannot be taken for one another. A line of more
 // than one window is shown window by window, each with its first column named and with all readings under it, where one sees in what they
 // differ.
-use crate::output::ROOM;
-use crate::output::put;
-use crate::output::put_number;
+use crate::labels::put_label;
+use crate::labels::put_numbered;
+use crate::labels::put_span_label;
+use frame::NAME_INDEX_NEED;
 use index::ROW_LENGTH;
+use office::ROOM;
+use office::put;
+use office::put_number;
 ghost use Prim.Native.Nat.{_≤_};
 ghost use lib.ListN.{length};
 
-// A name and a number, in front of the columns of the line: the number takes the place of as many of the blanks that the name begins with.
-fn put_label(out: &mut [u8; ROOM], at: usize, name: &[u8], n: u64) -> usize {
-    let mut digits = [0u8; 20];
-    let k = io::decimal(n, &mut digits);
-    if name.len() < k {
-        return at;
-    }
-    let p = put(out, at, &name[k..]);
-    put_number(out, p, b"", n, b"  ")
+// What stands under the bytes of the span that stands at a place of the rows.
+fn sign_of(place: usize) -> u8 {
+    if place % ROW_LENGTH == 0 { b'-' } else { b'^' }
 }
 
 // The span that stands at a place of the rows, if there is something of it in the window that begins at a column and shows so many bytes: what
@@ -30,6 +28,8 @@ fn put_label(out: &mut [u8; ROOM], at: usize, name: &[u8], n: u64) -> usize {
 fn put_span(
     out: &mut [u8; ROOM],
     at: usize,
+    margin: usize,
+    names: &[u8; NAME_INDEX_NEED],
     place: usize,
     from: u32,
     to: u32,
@@ -41,17 +41,9 @@ fn put_span(
     if !report::touches(from, to, column) {
         return at;
     }
-    let group = place % ROW_LENGTH / 2;
-    let mut mark = b'^';
-    let mut p = at;
-    if group == 0 {
-        mark = b'-';
-        p = put_label(out, at, b"    reading ", (place / ROW_LENGTH) as u64 + 1);
-    } else {
-        p = put_label(out, at, b"      group ", group as u64);
-    }
+    let mut p = put_span_label(out, at, margin, names, place);
     let mut marks = [0u8; report::WIDTH];
-    report::mark(mark, from, to, column, &mut marks);
+    report::mark(sign_of(place), from, to, column, &mut marks);
     p = put(out, p, &marks[..shown]);
     p = put_number(out, p, b"  ", from as u64, b"-");
     if from == to {
@@ -61,43 +53,103 @@ fn put_span(
 }
 
 // The spans of all rows, under a window.
-fn put_spans(out: &mut [u8; ROOM], at: usize, rows: &[u32], column: u32, shown: usize) -> usize
+fn put_spans(
+    out: &mut [u8; ROOM],
+    at: usize,
+    margin: usize,
+    names: &[u8; NAME_INDEX_NEED],
+    rows: &[u32],
+    column: u32,
+    shown: usize,
+) -> usize
     requires { ⌜ shown ≤ 64 ⌝ }
 {
     let mut p = at;
     let mut i: usize = 0;
     while 1 < rows.len() - i {
-        p = put_span(out, p, i, rows[i], rows[i + 1], column, shown);
+        p = put_span(
+            out,
+            p,
+            margin,
+            names,
+            i,
+            rows[i],
+            rows[i + 1],
+            column,
+            shown,
+        );
         i += 2;
     }
     p
 }
 
-// The window of a line that begins at a position. A line of one window needs no column named.
-fn put_window(out: &mut [u8; ROOM], at: usize, line: &[u8], from: usize, rows: &[u32]) -> usize
-    requires { ⌜ (from ≤ length (now line)) × (length (now line) ≤ 65536) ⌝ }
+// How many bytes a window shows of what is left of a text.
+pub(crate) fn shown_of(rest: usize) -> usize
+    ensures { λ r. ⌜ (r ≤ 64) × (r ≤ rest) ⌝ }
+{
+    if rest < report::WIDTH {
+        rest
+    } else {
+        report::WIDTH
+    }
+}
+
+// The window of a text that begins at a position. It is labelled by its first column; a text of one window needs no column named.
+pub(crate) fn put_text(
+    out: &mut [u8; ROOM],
+    at: usize,
+    margin: usize,
+    whole: &[u8],
+    column: &[u8],
+    text: &[u8],
+    from: usize,
+) -> usize
+    requires { ⌜ from ≤ length (now text) ⌝ }
 {
     let mut p = at;
-    if line.len() <= report::WIDTH {
-        p = put(out, at, b"              ");
+    if text.len() <= report::WIDTH {
+        p = put_label(out, at, margin, whole);
     } else {
-        p = put_label(out, at, b"     column ", from as u64);
+        p = put_numbered(out, at, margin, column, from as u64);
     }
-    let mut text = [0u8; report::WIDTH];
-    let n = report::show(&line[from..], &mut text);
-    p = put(out, p, &text[..n]);
-    p = put(out, p, b"\n");
-    put_spans(out, p, rows, from as u32, n)
+    let mut shown = [0u8; report::WIDTH];
+    let n = report::show(&text[from..], &mut shown);
+    p = put(out, p, &shown[..n]);
+    put(out, p, b"\n")
+}
+
+// The window of a line that begins at a position, with the spans of all rows.
+fn put_window(
+    out: &mut [u8; ROOM],
+    at: usize,
+    margin: usize,
+    names: &[u8; NAME_INDEX_NEED],
+    line: &[u8],
+    from: usize,
+    rows: &[u32],
+) -> usize
+    requires { ⌜ (from ≤ length (now line)) × (length (now line) ≤ 65536) ⌝ }
+{
+    let p = put_text(out, at, margin, b"", b"column ", line, from);
+    let n = shown_of(line.len() - from);
+    put_spans(out, p, margin, names, rows, from as u32, n)
 }
 
 // A line, in windows, with the readings of the rows under it.
-pub(crate) fn put_line(out: &mut [u8; ROOM], at: usize, line: &[u8], rows: &[u32]) -> usize
+pub(crate) fn put_line(
+    out: &mut [u8; ROOM],
+    at: usize,
+    margin: usize,
+    names: &[u8; NAME_INDEX_NEED],
+    line: &[u8],
+    rows: &[u32],
+) -> usize
     requires { ⌜ length (now line) ≤ 65536 ⌝ }
 {
     let mut p = at;
     let mut from: usize = 0;
     loop {
-        p = put_window(out, p, line, from, rows);
+        p = put_window(out, p, margin, names, line, from, rows);
         if line.len() - from <= report::WIDTH {
             return p;
         }

@@ -1,19 +1,27 @@
 // The lines of a file, one after another.
+use crate::counts::DOTTED;
 use crate::counts::KINDS;
 use crate::counts::LINES;
 use crate::counts::TOO_LONG;
+use crate::counts::UNMATCHED;
 use crate::counts::count;
-use crate::input::PIECE;
-use crate::input::Rest;
-use crate::input::next_line;
-use crate::output::CLOSED;
-use crate::output::ROOM;
-use crate::output::flush;
-use crate::output::put;
-use crate::output::put_number;
-use crate::output::say_number;
+use crate::telling::is_unmatched;
 use crate::telling::tell;
+use crate::unmatched::RULE;
+use crate::unmatched::put_reason;
+use explaining::Explanation;
+use explaining::explain_held;
+use frame::NAME_INDEX_NEED;
 use listing::list_held;
+use office::CLOSED;
+use office::PIECE;
+use office::ROOM;
+use office::Rest;
+use office::flush;
+use office::next_line;
+use office::put;
+use office::put_number;
+use office::say_number;
 ghost use Prim.Native.Nat.{_≤_};
 ghost use lib.ListN.{length};
 ghost use Rattle.readings.specs.Rules.{Holds};
@@ -31,16 +39,69 @@ pub const LINE: usize = frame::SUBJECT_LIMIT + 1;
 // How many lines pass between two messages.
 const PROGRESS: u64 = 10000;
 
-// What stays the same for all lines: where the rule that stands compiled is entered, how many groups it has, and the budget.
+// What stays the same for all lines: where the rule that stands compiled is entered, how many groups it has, its flags, the budget, and how wide the
+// labels are.
 pub struct Setting {
     pub entry: u32,
     pub groups: u32,
+    pub flags: u32,
     pub budget: u32,
+    pub margin: usize,
+}
+
+// Tells of a line that has no readings, and why it does not fit.
+fn tell_unmatched(
+    rule: &[u8],
+    area: &[u32; RULE_AREA],
+    setting: Setting,
+    line: &[u8],
+    work: &mut [u32; WORK_AREA],
+    counts: &mut [u64; KINDS],
+    out: &mut [u8; ROOM],
+    at: usize,
+) -> usize
+    requires { ⌜ Holds (now area) (setting .entry) (setting .budget) ⌝ }
+    requires { ⌜ (length (now rule) ≤ 1001) × (length (now line) ≤ 65535) ⌝ }
+{
+    count(counts, UNMATCHED);
+    if report::is_odd(line) {
+        count(counts, DOTTED);
+    }
+    let p = put(out, at, b"not matched\n");
+    let mut marks = [0u8; RULE];
+    let told = explain_held(
+        area,
+        setting.entry,
+        rule.len(),
+        line,
+        setting.budget,
+        work,
+        &mut marks,
+    );
+    match told {
+        Explanation::NotMatched(_, _, closest) => put_reason(
+            out,
+            p,
+            setting.margin,
+            rule,
+            setting.flags,
+            &marks,
+            line,
+            closest.start,
+            closest.at,
+        ),
+        // a line that has no readings is not matched
+        Explanation::Matched(_) => p,
+        Explanation::Exhausted(_, _) => p,
+        Explanation::Refused(_) => p,
+    }
 }
 
 // Tells of a line under its number, from 1, or of one that is too long and of which the beginning is there.
 fn tell_line(
+    rule: &[u8],
     area: &[u32; RULE_AREA],
+    names: &[u8; NAME_INDEX_NEED],
     setting: Setting,
     line: &[u8],
     work: &mut [u32; WORK_AREA],
@@ -50,7 +111,7 @@ fn tell_line(
     at: usize,
 ) -> usize
     requires { ⌜ Holds (now area) (setting .entry) (setting .budget) ⌝ }
-    requires { ⌜ length (now line) ≤ 65536 ⌝ }
+    requires { ⌜ (length (now rule) ≤ 1001) × (length (now line) ≤ 65536) ⌝ }
 {
     count(counts, LINES);
     let n = counts[LINES];
@@ -71,7 +132,10 @@ fn tell_line(
         work,
         results,
     );
-    tell(out, p, line, results, r, counts)
+    if is_unmatched(r) {
+        return tell_unmatched(rule, area, setting, line, work, counts, out, p);
+    }
+    tell(out, p, setting.margin, names, line, results, r, counts)
 }
 
 // How the telling of lines ended: how many bytes wait to be written out, and whether the file could be read to its end.
@@ -83,7 +147,9 @@ pub struct Told {
 // Tells of all lines of a file, up to its end or to where nothing can be written any more.
 pub(crate) fn tell_lines(
     fd: i32,
+    rule: &[u8],
     area: &[u32; RULE_AREA],
+    names: &[u8; NAME_INDEX_NEED],
     setting: Setting,
     piece: &mut [u8; PIECE],
     work: &mut [u32; WORK_AREA],
@@ -92,6 +158,7 @@ pub(crate) fn tell_lines(
     out: &mut [u8; ROOM],
 ) -> Told
     requires { ⌜ Holds (now area) (setting .entry) (setting .budget) ⌝ }
+    requires { ⌜ length (now rule) ≤ 1001 ⌝ }
 {
     let mut line = [0u8; LINE];
     let mut rest = Rest {
@@ -123,7 +190,18 @@ pub(crate) fn tell_lines(
                 return Told { at, whole: true };
             }
         }
-        at = tell_line(area, setting, &line[..n], work, results, counts, out, at);
+        at = tell_line(
+            rule,
+            area,
+            names,
+            setting,
+            &line[..n],
+            work,
+            results,
+            counts,
+            out,
+            at,
+        );
         if next.last {
             return Told { at, whole: true };
         }

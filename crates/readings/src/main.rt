@@ -1,28 +1,32 @@
-// The office report: how many readings a rule has of each line of a file, and which they are where there are two or more.
-mod arguments;
+// The office report: how many readings a rule has of each line of a file, which they are where there are two or more, and why a line has none.
 mod counts;
 mod display;
-mod input;
+mod labels;
 mod lines;
 mod messages;
-mod output;
+mod sentence;
 mod telling;
+mod unmatched;
 
-use arguments::Value;
 use counts::KINDS;
 use frame::BUDGET_LIMIT;
 use frame::NAME_INDEX_NEED;
 use frame::Preparation;
 use frame::prepare;
-use input::PIECE;
-use input::Rest;
-use input::next_line;
+use labels::margin_for;
 use lines::RESULT_AREA;
 use lines::RULE_AREA;
 use lines::Setting;
 use lines::WORK_AREA;
-use output::put;
-use output::say;
+use office::PIECE;
+use office::Rest;
+use office::Value;
+use office::next_line;
+use office::open;
+use office::put;
+use office::say;
+use office::say_refusal;
+use unmatched::RULE;
 ghost use Prim.Native.Nat.{_≤_};
 ghost use lib.ListN.{length};
 ghost use Rattle.readings.specs.Rules.{Holds};
@@ -36,9 +40,6 @@ const FLAGS: usize = 3;
 
 const BUDGET: usize = 4;
 
-// One byte more than the longest rule: a rule that fills this is too long, whatever follows.
-const RULE: usize = frame::RULE_LIMIT + 1;
-
 // What an argument stands for: flags, or a budget; where it is missing, none, or the largest.
 fn value(argument: usize) -> Value {
     let mut text = io::buffer();
@@ -47,46 +48,35 @@ fn value(argument: usize) -> Value {
         if os::arg_count() <= FLAGS {
             return Value::Is(0);
         }
-        return arguments::flags(&text[..n]);
+        return office::flags(&text[..n]);
     }
     if os::arg_count() <= BUDGET {
         return Value::Is(BUDGET_LIMIT);
     }
-    arguments::decimal(&text[..n], BUDGET_LIMIT)
-}
-
-// Opens the file that an argument names. Where that fails it says so, and answers -1.
-fn open(argument: usize) -> i32 {
-    let mut path = io::buffer();
-    let n = os::arg(argument, &mut path);
-    if os::errno() != 0 {
-        os::fail(b"readings: the name of a file");
-        return -1;
-    }
-    let fd = os::open_read(&path[..n]);
-    if fd < 0 {
-        say(b"readings: ");
-        os::fail(&path[..n]);
-    }
-    fd
+    office::decimal(&text[..n], BUDGET_LIMIT)
 }
 
 // Reports on the lines of a file, with a rule that stands compiled.
 fn report_lines(
     fd: i32,
+    rule: &[u8],
     area: &[u32; RULE_AREA],
+    names: &[u8; NAME_INDEX_NEED],
     setting: Setting,
     piece: &mut [u8; PIECE],
     work: &mut [u32; WORK_AREA],
     results: &mut [u32; RESULT_AREA],
 )
     requires { ⌜ Holds (now area) (setting .entry) (setting .budget) ⌝ }
+    requires { ⌜ length (now rule) ≤ 1001 ⌝ }
 {
     let mut counts = [0u64; KINDS];
     let mut out = io::large_buffer();
     let told = lines::tell_lines(
         fd,
+        rule,
         area,
+        names,
         setting,
         piece,
         work,
@@ -122,16 +112,18 @@ fn run(
 {
     let mut names = [0u8; NAME_INDEX_NEED];
     match prepare(rule, flags, 0, budget, area, work, false, &mut names) {
-        Preparation::Refused(f) => messages::say_refusal(f, rule),
+        Preparation::Refused(f) => say_refusal(b"readings", f, rule),
         Preparation::Ready(entry, groups) => {
-            let fd = open(LINES_FILE);
+            let fd = open(b"readings", LINES_FILE);
             if 0 <= fd {
                 let setting = Setting {
                     entry,
                     groups,
+                    flags,
                     budget,
+                    margin: margin_for(&names),
                 };
-                report_lines(fd, area, setting, piece, work, results);
+                report_lines(fd, rule, area, &names, setting, piece, work, results);
             }
         }
     }
@@ -139,7 +131,7 @@ fn run(
 
 // With the flags and the budget, and the areas that are lent. The rule is the first line of its file, or all of it.
 fn start(flags: u32, budget: u32) {
-    let fd = open(RULE_FILE);
+    let fd = open(b"readings", RULE_FILE);
     if fd < 0 {
         return;
     }

@@ -1,19 +1,19 @@
-// What is said of a line.
+// What is said of a line that has readings, or may have some.
 use crate::counts::AMBIGUOUS;
 use crate::counts::DOTTED;
 use crate::counts::EXHAUSTED;
 use crate::counts::KINDS;
 use crate::counts::MANY;
 use crate::counts::ONCE;
-use crate::counts::UNMATCHED;
 use crate::counts::UNSETTLED;
 use crate::counts::count;
 use crate::display::put_line;
-use crate::output::ROOM;
-use crate::output::put;
-use crate::output::put_number;
+use frame::NAME_INDEX_NEED;
 use index::ROW_LENGTH;
 use listing::Listing;
+use office::ROOM;
+use office::put;
+use office::put_number;
 ghost use Prim.Native.Nat.{_≤_};
 ghost use lib.ListN.{length};
 
@@ -36,6 +36,8 @@ fn put_readings(
 fn show(
     out: &mut [u8; ROOM],
     at: usize,
+    margin: usize,
+    names: &[u8; NAME_INDEX_NEED],
     line: &[u8],
     results: &[u32],
     rows: usize,
@@ -51,13 +53,25 @@ fn show(
         return at;
     }
     let n = rows * ROW_LENGTH;
-    put_line(out, at, line, &results[..n])
+    put_line(out, at, margin, names, line, &results[..n])
 }
 
-// A listing that is complete. One reading is as it should be, and is not shown.
+// Whether a listing is complete, and has no readings.
+pub(crate) fn is_unmatched(listing: Listing) -> bool {
+    match listing {
+        Listing::Complete(rows, _) => rows == 0,
+        Listing::Full(_, _) => false,
+        Listing::Exhausted(_, _, _) => false,
+        Listing::Refused(_) => false,
+    }
+}
+
+// A listing that is complete, with one reading or more. One is as it should be, and is not shown.
 fn tell_complete(
     out: &mut [u8; ROOM],
     at: usize,
+    margin: usize,
+    names: &[u8; NAME_INDEX_NEED],
     line: &[u8],
     results: &[u32],
     rows: usize,
@@ -65,18 +79,13 @@ fn tell_complete(
 ) -> usize
     requires { ⌜ length (now line) ≤ 65536 ⌝ }
 {
-    if rows == 0 {
-        count(counts, UNMATCHED);
-        let p = put(out, at, b"not matched\n");
-        return show(out, p, line, results, rows, counts);
-    }
     let p = put_readings(out, at, b"", rows, b"\n");
     if rows == 1 {
         count(counts, ONCE);
         return p;
     }
     count(counts, AMBIGUOUS);
-    show(out, p, line, results, rows, counts)
+    show(out, p, margin, names, line, results, rows, counts)
 }
 
 // What a listing tells of a line. One that used up its budget at a start may have had readings until then, and more may follow: what is known is
@@ -84,6 +93,8 @@ fn tell_complete(
 pub(crate) fn tell(
     out: &mut [u8; ROOM],
     at: usize,
+    margin: usize,
+    names: &[u8; NAME_INDEX_NEED],
     line: &[u8],
     results: &[u32],
     listing: Listing,
@@ -92,12 +103,21 @@ pub(crate) fn tell(
     requires { ⌜ length (now line) ≤ 65536 ⌝ }
 {
     match listing {
-        Listing::Complete(rows, _) => tell_complete(out, at, line, results, rows, counts),
+        Listing::Complete(rows, _) => tell_complete(
+            out,
+            at,
+            margin,
+            names,
+            line,
+            results,
+            rows,
+            counts,
+        ),
         Listing::Full(rows, _) => {
             count(counts, AMBIGUOUS);
             count(counts, MANY);
             let p = put_readings(out, at, b"more than ", rows, b", the first are shown\n");
-            show(out, p, line, results, rows, counts)
+            show(out, p, margin, names, line, results, rows, counts)
         }
         Listing::Exhausted(start, rows, _) => {
             count(counts, EXHAUSTED);
@@ -106,7 +126,7 @@ pub(crate) fn tell(
             }
             let p = put_number(out, at, b"exhausted at start ", start as u64, b", ");
             let q = put_readings(out, p, b"", rows, b" until then\n");
-            show(out, q, line, results, rows, counts)
+            show(out, q, margin, names, line, results, rows, counts)
         }
         // the rule was accepted before, and the line is short enough
         Listing::Refused(_) => put(out, at, b"refused\n"),

@@ -18,19 +18,28 @@ prepare-requires c κs = search needs
 enum-known-f : tie.Need-enum-known-f
 enum-known-f c = search needs
 
+slice-aggregate-say-refusal : tie.Need-slice-aggregate-say-refusal
+slice-aggregate-say-refusal c = search needs
+
 say-refusal-requires : tie.Need-say-refusal-requires
 say-refusal-requires c κs = search needs
 
 enum-known-entry : tie.Need-enum-known-entry
 enum-known-entry c = search needs
 
+slice-aggregate-open : tie.Need-slice-aggregate-open
+slice-aggregate-open c = search needs
+
 open-requires : tie.Need-open-requires
 open-requires c κs = search needs
+
+margin-for-requires : tie.Need-margin-for-requires
+margin-for-requires c κs = search needs
 
 report-lines-requires : tie.Need-report-lines-requires
 unfolding ruleAreaNeed
 report-lines-requires c κs =
-    readied-holds (is-ready (c .before .before .before .before .before .before .before .before .before .before .prepare .ensures 0 [] [] refl refl) _ _ (c .before .before .before .before .before .before .before .entry .given .1)) (omega arith)
+    (readied-holds (is-ready (c .before .before .before .before .before .before .before .before .before .before .before .before .before .before .prepare .ensures 0 [] [] refl refl) _ _ (c .before .before .before .before .before .before .before .before .before .before .before .entry .given .1)) (omega arith), c .before .before .before .before .before .before .before .before .before .before .before .before .before .before .before .before .before .before .before .pre)
 
 returns : tie.Need-returns
 returns c = search needs
@@ -48,9 +57,12 @@ run-spec =
     slice-aggregate-prepare
     prepare-requires
     enum-known-f
+    slice-aggregate-say-refusal
     say-refusal-requires
     enum-known-entry
+    slice-aggregate-open
     open-requires
+    margin-for-requires
     report-lines-requires
     returns
     returns-2

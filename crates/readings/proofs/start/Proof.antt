@@ -5,6 +5,9 @@ use borrow.Author.Needs.{needs}
 use Rattle.readings.proofs.start.Statement.{statement}
 use Rattle.readings.proofs.start.Tie as tie
 
+slice-aggregate-open : tie.Need-slice-aggregate-open
+slice-aggregate-open c = search needs
+
 open-requires : tie.Need-open-requires
 open-requires c κs = search needs
 
@@ -48,6 +51,7 @@ pub start-spec : {M : Type 1} → statement M
 start-spec =
     tie.close
     (tie.spec
+    slice-aggregate-open
     open-requires
     returns
     large-buffer-requires

@@ -6,10 +6,10 @@ use Rattle.readings.proofs.display.put_line.Statement.{statement}
 use Rattle.readings.proofs.display.put_line.Tie as tie
 
 abbrev Inv-loop : tie.InvT-loop
-Inv-loop out₀ at line rows p₀ from₀ out p from = from ≤ length line
+Inv-loop out₀ at margin names line rows p₀ from₀ out p from = from ≤ length line
 
 abbrev μ-loop : tie.MeasureT-loop
-μ-loop out₀ at line rows p₀ from₀ out p from = length line - from
+μ-loop out₀ at margin names line rows p₀ from₀ out p from = length line - from
 
 loop-holds : tie.Need-loop-holds Inv-loop μ-loop
 loop-holds c = search needs

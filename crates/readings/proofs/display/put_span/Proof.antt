@@ -11,20 +11,11 @@ touches-requires c κs = search needs
 returns : tie.Need-returns
 returns c = search needs
 
-slice-aggregate-put-label : tie.Need-slice-aggregate-put-label
-slice-aggregate-put-label c = search needs
+put-span-label-requires : tie.Need-put-span-label-requires
+put-span-label-requires c κs = search needs
 
-add-put-label : tie.Need-add-put-label
-add-put-label c = search needs
-
-put-label-requires : tie.Need-put-label-requires
-put-label-requires c κs = search needs
-
-slice-aggregate-put-label-2 : tie.Need-slice-aggregate-put-label-2
-slice-aggregate-put-label-2 c = search needs
-
-put-label-requires-2 : tie.Need-put-label-requires-2
-put-label-requires-2 c κs = search needs
+sign-of-requires : tie.Need-sign-of-requires
+sign-of-requires c κs = search needs
 
 slice-aggregate-mark : tie.Need-slice-aggregate-mark
 slice-aggregate-mark c = search needs
@@ -80,11 +71,8 @@ put-span-spec =
     (tie.spec
     touches-requires
     returns
-    slice-aggregate-put-label
-    add-put-label
-    put-label-requires
-    slice-aggregate-put-label-2
-    put-label-requires-2
+    put-span-label-requires
+    sign-of-requires
     slice-aggregate-mark
     mark-requires
     array-share-prefix-marks

@@ -6,10 +6,10 @@ use Rattle.readings.proofs.display.put_spans.Statement.{statement}
 use Rattle.readings.proofs.display.put_spans.Tie as tie
 
 abbrev Inv-loop : tie.InvT-loop
-Inv-loop out₀ at rows column shown p₀ i₀ out p i = i ≤ length rows
+Inv-loop out₀ at margin names rows column shown p₀ i₀ out p i = i ≤ length rows
 
 abbrev μ-loop : tie.MeasureT-loop
-μ-loop out₀ at rows column shown p₀ i₀ out p i = length rows - i
+μ-loop out₀ at margin names rows column shown p₀ i₀ out p i = length rows - i
 
 loop-holds : tie.Need-loop-holds Inv-loop μ-loop
 loop-holds c = search needs

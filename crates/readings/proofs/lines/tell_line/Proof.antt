@@ -45,13 +45,22 @@ returns c = search needs
 
 list-held-requires : tie.Need-list-held-requires
 unfolding subjectLimit budgetLimit ruleAreaNeed workPerStep
-list-held-requires c κs = holds-held _ _ (c .before .before .before .before .before .before .before .before .before .before .before .before .before .pre .0) (omega arith) (omega arith) (omega arith)
+list-held-requires c κs = holds-held _ _ (c .before .before .before .before .before .before .before .before .before .before .before .before .before .before .pre .0) (omega arith) (omega arith) (omega arith)
+
+is-unmatched-requires : tie.Need-is-unmatched-requires
+is-unmatched-requires c κs = search needs
+
+tell-unmatched-requires : tie.Need-tell-unmatched-requires
+tell-unmatched-requires c κs = (c .before .before .before .before .before .before .before .before .before .before .before .before .before .before .before .before .before .before .before .before .pre .0, (c .before .before .before .before .before .before .before .before .before .before .before .before .before .before .before .before .before .before .before .before .pre .1 .0, omega arith))
+
+returns-2 : tie.Need-returns-2
+returns-2 c = search needs
 
 tell-requires : tie.Need-tell-requires
 tell-requires c κs = search needs
 
-returns-2 : tie.Need-returns-2
-returns-2 c = search needs
+returns-3 : tie.Need-returns-3
+returns-3 c = search needs
 
 pub tell-line-spec : {M : Type 1} → statement M
 tell-line-spec =
@@ -70,5 +79,8 @@ tell-line-spec =
     put-requires
     returns
     list-held-requires
+    is-unmatched-requires
+    tell-unmatched-requires
+    returns-2
     tell-requires
-    returns-2)
+    returns-3)

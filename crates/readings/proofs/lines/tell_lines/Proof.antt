@@ -2,16 +2,16 @@
 use mathlib.Core.Path.{_≡_}
 use native.Mathlib.Omega.{arith}
 use lib.ListN.{length, length-take}
-use Rattle.readings.specs.Parts.{Within}
+use Rattle.office.specs.Parts.{Within}
 use borrow.Author.Needs.{needs}
 use Rattle.readings.proofs.lines.tell_lines.Statement.{statement}
 use Rattle.readings.proofs.lines.tell_lines.Tie as tie
 
 abbrev Inv-loop : tie.InvT-loop
-Inv-loop fd area setting piece₀ work₀ results₀ counts₀ out₀ line₀ rest₀ at₀ left₀ piece work results counts out line rest at left = (length line ≡ 65536) × Within 65536 (rest .at) (rest .end)
+Inv-loop fd rule area names setting piece₀ work₀ results₀ counts₀ out₀ line₀ rest₀ at₀ left₀ piece work results counts out line rest at left = (length line ≡ 65536) × Within 65536 (rest .at) (rest .end)
 
 abbrev μ-loop : tie.MeasureT-loop
-μ-loop fd area setting piece₀ work₀ results₀ counts₀ out₀ line₀ rest₀ at₀ left₀ piece work results counts out line rest at left = left
+μ-loop fd rule area names setting piece₀ work₀ results₀ counts₀ out₀ line₀ rest₀ at₀ left₀ piece work results counts out line rest at left = left
 
 loop-holds : tie.Need-loop-holds Inv-loop μ-loop
 loop-holds c = search needs
@@ -41,7 +41,7 @@ slice-aggregate-tell-line : tie.Need-slice-aggregate-tell-line Inv-loop μ-loop
 slice-aggregate-tell-line c = simp length-take (omega arith)
 
 tell-line-requires : tie.Need-tell-line-requires Inv-loop μ-loop
-tell-line-requires c κs = (c .before .before .before .before .before .before .before .before .before .before .before .before .before .pre, simp length-take (omega arith))
+tell-line-requires c κs = (c .before .before .before .before .before .before .before .before .before .before .before .before .before .before .pre .0, (c .before .before .before .before .before .before .before .before .before .before .before .before .before .before .pre .1, simp length-take (omega arith)))
 
 returns-4 : tie.Need-returns-4 Inv-loop μ-loop
 returns-4 c = search needs

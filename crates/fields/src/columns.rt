@@ -1,0 +1,91 @@
+// The columns of the table: the names that are asked for, or all of the rule.
+use fields_line::COLUMN_LIMIT;
+use fields_line::NAME_LIMIT;
+use fields_line::add_column;
+use fields_line::all_columns;
+use frame::NAME_INDEX_NEED;
+use index::ROW_LENGTH;
+use index::UNSET;
+use lookup::Found;
+use lookup::find;
+use office::say;
+ghost use Prim.Native.Nat.{_≤_, _<_};
+
+// The room for all names, in the layout of a name index.
+pub const COLUMNS: usize = NAME_INDEX_NEED;
+
+// How many columns there are where they cannot be had.
+const NONE: usize = COLUMN_LIMIT + 1;
+
+// Whether the rule has a name: with a row in which no group is set, the lookup finds the standing text for each name that there is.
+fn is_named(name: &[u8], names: &[u8; NAME_INDEX_NEED]) -> bool {
+    let mut row = [UNSET; ROW_LENGTH];
+    row[0] = 0;
+    row[1] = 0;
+    match find(name, names, b"", 0, &row) {
+        Found::Taken(_from, _to) => true,
+        Found::Standing => true,
+        Found::Nothing => false,
+    }
+}
+
+// Says that the rule has no such name.
+fn say_unknown(name: &[u8]) -> usize
+    ensures { λ r. ⌜ r ≤ 33 ⌝ }
+{
+    say(b"fields: the rule has no name ");
+    say(name);
+    say(b"\n");
+    NONE
+}
+
+// The name that an argument asks for, put behind so many others. Where that cannot be, it is said why.
+fn ask_for(
+    argument: usize,
+    names: &[u8; NAME_INDEX_NEED],
+    columns: &mut [u8; COLUMNS],
+    count: usize,
+) -> usize
+    requires { ⌜ count ≤ 32 ⌝ }
+    ensures { λ r. ⌜ r ≤ 33 ⌝ }
+{
+    let mut text = io::buffer();
+    let n = os::arg(argument, &mut text);
+    if NAME_LIMIT < n {
+        return say_unknown(&text[..n]);
+    }
+    if !is_named(&text[..n], names) {
+        return say_unknown(&text[..n]);
+    }
+    if count == COLUMN_LIMIT {
+        say(b"fields: more than 32 names\n");
+        return NONE;
+    }
+    add_column(&text[..n], columns, count)
+}
+
+// The columns: the names that the arguments from one on ask for, or all of the rule where there are none. It says how many there are, and 33 where
+// they cannot be had.
+pub(crate) fn collect(
+    first: usize,
+    names: &[u8; NAME_INDEX_NEED],
+    columns: &mut [u8; COLUMNS],
+) -> usize
+    requires { ⌜ first < 300 ⌝ }
+    ensures { λ r. ⌜ r ≤ 33 ⌝ }
+{
+    let end = os::arg_count();
+    if end <= first {
+        return all_columns(names, columns);
+    }
+    let mut count: usize = 0;
+    let mut at = first;
+    while at < end {
+        count = ask_for(at, names, columns, count);
+        if count == NONE {
+            return NONE;
+        }
+        at += 1;
+    }
+    count
+}

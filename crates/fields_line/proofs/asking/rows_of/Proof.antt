@@ -1,0 +1,46 @@
+-- By cases on the listing.
+use Rattle.listing.specs.Listing.{listingOf}
+use borrow.Author.Needs.{needs}
+use Rattle.fields_line.proofs.asking.rows_of.Statement.{statement}
+use Rattle.fields_line.proofs.asking.rows_of.Tie as tie
+
+enum-known-listing : tie.Need-enum-known-listing
+enum-known-listing c = search needs
+
+enum-known-listing-2 : tie.Need-enum-known-listing-2
+enum-known-listing-2 c = search needs
+
+enum-known-listing-3 : tie.Need-enum-known-listing-3
+enum-known-listing-3 c = search needs
+
+enum-known-listing-4 : tie.Need-enum-known-listing-4
+enum-known-listing-4 c = search needs
+
+returns : tie.Need-returns
+unfolding listingOf
+returns c = rw (c .before .listing .given .1)
+
+returns-2 : tie.Need-returns-2
+unfolding listingOf
+returns-2 c = rw (c .before .listing2 .given .1)
+
+returns-3 : tie.Need-returns-3
+unfolding listingOf
+returns-3 c = rw (c .before .listing3 .given .1)
+
+returns-4 : tie.Need-returns-4
+unfolding listingOf
+returns-4 c = rw (c .before .listing4 .given .1)
+
+pub rows-of-spec : {M : Type 1} → statement M
+rows-of-spec =
+    tie.close
+    (tie.spec
+    enum-known-listing
+    enum-known-listing-2
+    enum-known-listing-3
+    enum-known-listing-4
+    returns
+    returns-2
+    returns-3
+    returns-4)

@@ -1,0 +1,111 @@
+-- The line of the table for a line: "its number, one word and each named field by the lookup".
+use mathlib.Core.List.{List, [], _∷_, map}
+use mathlib.Core.Bool.{Bool, true, false, not, _&&_, _||_}
+use Prim.Native.Nat.{ℕ}
+use lib.Dec.{ltb, eqb}
+use lib.ListN.{length, getD}
+use Rattle.syntax.specs.Limits.{subjectLimit}
+use Rattle.syntax.specs.Read.{if_then_else_, bytes}
+use Rattle.syntax.specs.Sets.{sameBytes}
+use Rattle.syntax.specs.Tree.{Rule}
+use Rattle.semantics.specs.States.{Row, row}
+use Rattle.semantics.specs.Answers.{Outcome, matched, notMatched, exhausted, answer, Ending, complete, full, exhaustedAt, Listing, listing}
+use Rattle.lookup.specs.Lookup.{lookup, fieldOf}
+use Rattle.fields_text.specs.Table.{tableRow}
+use Rattle.fields_line.specs.declared.words.Word.{Word}
+use Rattle.fields_line.specs.declared.words.Word.the-variants.{Matched, Ambiguous, Undecided, NotMatched, Exhausted, TooLong}
+
+-- What is the same for all lines: the rule, with its name index, the budget, the room of a listing, the names of the columns, and the standing text.
+pub record Table : Type 0 where
+  pub rule : Rule
+  pub index : List ℕ
+  pub budget : ℕ
+  pub room : ℕ
+  pub names : List (List ℕ)
+  pub standing : List ℕ
+
+-- Fields ----------------------------------------------------------------------
+
+module _ (index line standing : List ℕ) where
+  -- a field after an answer of that kind, of which 0 is matched, with that row
+  unfoldable pub fieldNamed : (kind : ℕ) (x : Row) (name : List ℕ) → List ℕ
+  fieldNamed kind x name = fieldOf line standing (lookup name index line kind x)
+
+  -- "each named field by the lookup"
+  unfoldable pub fields : (kind : ℕ) (x : Row) (names : List (List ℕ)) → List (List ℕ)
+  fields kind x names = map (fieldNamed kind x) names
+
+  -- Readings ------------------------------------------------------------------
+
+  -- two readings have the same fields
+  unfoldable pub agree : (x y : Row) (names : List (List ℕ)) → Bool
+  agree x y [] = true
+  agree x y (name ∷ names) = sameBytes (fieldNamed 0 x name) (fieldNamed 0 y name) && agree x y names
+
+  -- "another reading of the same stretch (the match's start and end) gives a named field another value"
+  unfoldable pub isOther : (names : List (List ℕ)) (x y : Row) → Bool
+  isOther names x y = eqb (getD y 0 0) (getD x 0 0) && eqb (getD y 1 0) (getD x 1 0) && not (agree x y names)
+
+  -- one of the readings listed does; x is the match's
+  unfoldable pub isAmbiguous : (names : List (List ℕ)) (x : Row) (rows : List Row) → Bool
+  isAmbiguous names x [] = false
+  isAmbiguous names x (y ∷ rows) = isOther names x y || isAmbiguous names x rows
+
+-- the start of the last reading listed; the one that is given, if none is
+unfoldable pub lastStart : ℕ → List Row → ℕ
+lastStart start [] = start
+lastStart start (x ∷ rows) = lastStart (getD x 0 0) rows
+
+-- "the listing was cut before that could be known": before it went on from the match's start to another. It goes from start to start, so that a full
+-- one had gone on if its last reading is another start's.
+unfoldable pub isCut : (start : ℕ) → Ending → List Row → Bool
+isCut start complete rows = false
+isCut start full rows = eqb (lastStart start rows) start
+isCut start (exhaustedAt n) rows = eqb n start
+
+-- The word ----------------------------------------------------------------------
+
+unfoldable pub textOf : Word → List ℕ
+textOf Matched = bytes "matched"
+textOf Ambiguous = bytes "ambiguous"
+textOf Undecided = bytes "undecided"
+textOf NotMatched = bytes "not matched"
+textOf Exhausted = bytes "exhausted"
+textOf TooLong = bytes "too long"
+
+-- the kind of an answer, as the lookup asks for it: 0 where there is a match
+unfoldable pub kindOf : Word → ℕ
+kindOf Matched = 0
+kindOf Ambiguous = 0
+kindOf Undecided = 0
+kindOf NotMatched = 1
+kindOf Exhausted = 1
+kindOf TooLong = 1
+
+-- of a match, by its row and the listing
+unfoldable pub verdict : Table → (line : List ℕ) → Row → Listing → Word
+verdict t line x l =
+    if isAmbiguous (t .index) line (t .standing) (t .names) x (l .rows) then Ambiguous
+    else if isCut (getD x 0 0) (l .ending) (l .rows) then Undecided
+    else Matched
+
+-- The line of the table -----------------------------------------------------------
+
+-- the word for a line, and the row of its match, by which the fields are looked up; with no match there is none
+pub record Told : Type 0 where
+  pub word : Word
+  pub reading : Row
+
+unfoldable pub tells : Table → (line : List ℕ) → Outcome → Told
+tells t line (matched start end) = record { word = verdict t line (row start end) (listing line (t .rule) (t .budget) (t .room)); reading = row start end }
+tells t line notMatched = record { word = NotMatched; reading = [] }
+tells t line (exhausted start) = record { word = Exhausted; reading = [] }
+
+unfoldable pub told : Table → (line : List ℕ) → Told
+told t line = if ltb subjectLimit (length line) then record { word = TooLong; reading = [] } else tells t line (answer line (t .rule) (t .budget) .outcome)
+
+unfoldable pub fieldsOf : Table → (line : List ℕ) → List (List ℕ)
+fieldsOf t line = let a = told t line in fields (t .index) line (t .standing) (kindOf (a .word)) (a .reading) (t .names)
+
+unfoldable pub rowFor : Table → (number : ℕ) (line : List ℕ) → List ℕ
+rowFor t number line = tableRow number (textOf (told t line .word)) (fieldsOf t line)

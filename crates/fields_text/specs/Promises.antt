@@ -1,0 +1,9 @@
+-- What the functions promise.
+use mathlib.Core.List.{List}
+use Prim.Native.Nat.{ℕ, _+_, _≤_}
+use Rattle.text.specs.Writing.{Wrote}
+
+-- a text was written, of so many bytes at most
+pub record WroteUpTo (most : ℕ) (old : List ℕ) (at : ℕ) (text new : List ℕ) (end : ℕ) : Type 0 where
+  pub wrote : Wrote old at text new end
+  pub near : end ≤ at + most

@@ -1,0 +1,16 @@
+-- By the test.
+use borrow.Author.Tests.{lt-ltb, le-ltb}
+use Rattle.reasons.specs.Marks.{signBefore}
+use Rattle.reasons.proofs.marks.sign.Statement.{statement}
+use Rattle.reasons.proofs.marks.sign.Tie as tie
+
+returns : tie.Need-returns
+unfolding signBefore
+returns c = rw (lt-ltb _ _ (c .if1 .taken))
+
+returns-2 : tie.Need-returns-2
+unfolding signBefore
+returns-2 c = rw (le-ltb _ _ (c .if1 .left))
+
+pub sign-spec : {M : Type 1} → statement M
+sign-spec = tie.close (tie.spec returns returns-2)
