@@ -53,8 +53,7 @@ fn write_entry(rule: &[u8], from: usize, len: usize, names: &mut [u8], base: usi
     }
 }
 
-// Writes the entry of the group that g others come before. A group that the rule does not have has no name. An entry without one is written apart: the
-// compiler then sees that it is all 00, which takes a fifth of the time, and most rules have no names.
+// Writes the entry of the group that g others come before. A group that the rule does not have has no name.
 fn write_group(rule: &[u8], table: &[u32], groups: usize, g: usize, names: &mut [u8])
     requires { ⌜ NamesFit (now rule) (now table) groups × Short (namesIn (now rule) (now table) groups) × (g < groupLimit) × (nameIndexNeed ≤ length (now names)) ⌝ }
     ensures { λ _. ⌜ now (names .exit) ≡ take (g * nameEntry) (now (names .entry)) ++ (entry (nameOf (namesIn (now (rule .entry)) (now (table .entry)) groups) (suc g)) ++ drop (g * nameEntry + nameEntry) (now (names .entry))) ⌝ }
@@ -63,10 +62,6 @@ fn write_group(rule: &[u8], table: &[u32], groups: usize, g: usize, names: &mut 
     if g < groups {
         let from = table[2 * g] as usize;
         let len = table[2 * g + 1] as usize;
-        if len == 0 {
-            write_entry(rule, 0, 0, names, base);
-            return;
-        }
         write_entry(rule, from, len, names, base);
         return;
     }

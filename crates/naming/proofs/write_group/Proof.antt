@@ -1,9 +1,9 @@
--- The bytes of a group's name are found by its two numbers in the table; one whose length is 0 there, and a group that the table does not have, has none.
+-- The bytes of a group's name are found by its two numbers in the table; a group that the table does not have has none.
 use Prim.Native.Nat.{_+_, _*_, _<_}
 use native.Mathlib.Omega.{arith}
 use denote.Ref.{now}
 use Rattle.syntax.specs.Limits.{groupLimit, nameLimit, nameEntry, nameIndexNeed}
-use Rattle.naming.specs.Laws.Entries.{name-in, name-empty, name-out, name-fits}
+use Rattle.naming.specs.Laws.Entries.{name-in, name-out, name-fits}
 use borrow.Author.Needs.{needs}
 use Rattle.naming.proofs.write_group.Statement.{statement}
 use Rattle.naming.proofs.write_group.Tie as tie
@@ -41,7 +41,11 @@ cast-len c = omega (arith, c .shared-slice-known4 .given (2 * c .before .before 
 
 write-entry-requires : tie.Need-write-entry-requires
 unfolding nameIndexNeed groupLimit nameEntry nameLimit
-write-entry-requires c κs = (omega arith, λ l. omega arith, omega arith)
+write-entry-requires c κs =
+    let a = c .before .before .before .before .before .before .before .args in
+    let p = c .before .before .before .before .before .before .before .pre in
+    let l : a .g < a .groups = omega arith in
+    (name-fits (now (a .rule)) (now (a .table)) (a .groups) (a .g) (p .0) (p .1) l, p .0 .within (a .g) l, omega arith)
 
 same-length : tie.Need-same-length
 same-length c = search needs
@@ -49,16 +53,12 @@ same-length c = search needs
 returns : tie.Need-returns
 unfolding nameEntry nameLimit
 returns c =
-    let a = c .before .before .before .before .before .before .before .before .before .before .before .args in
-    rw (name-empty (now (a .rule)) (now (a .table)) (a .groups) (a .g) (omega arith) (omega arith)) (c .before .before .write-entry .ensures)
+    let a = c .before .before .before .before .before .before .before .before .before .before .args in
+    rw (name-in (now (a .rule)) (now (a .table)) (a .groups) (a .g) (omega arith)) (c .before .before .write-entry .ensures)
 
 write-entry-requires-2 : tie.Need-write-entry-requires-2
 unfolding nameIndexNeed groupLimit nameEntry nameLimit
-write-entry-requires-2 c κs =
-    let a = c .before .before .before .before .before .before .before .before .args in
-    let p = c .before .before .before .before .before .before .before .before .pre in
-    let l : a .g < a .groups = omega arith in
-    (name-fits (now (a .rule)) (now (a .table)) (a .groups) (a .g) (p .0) (p .1) l, p .0 .within (a .g) l, omega arith)
+write-entry-requires-2 c κs = (omega arith, λ l. omega arith, omega arith)
 
 same-length-2 : tie.Need-same-length-2
 same-length-2 c = search needs
@@ -66,21 +66,8 @@ same-length-2 c = search needs
 returns-2 : tie.Need-returns-2
 unfolding nameEntry nameLimit
 returns-2 c =
-    let a = c .before .before .before .before .before .before .before .before .before .before .before .args in
-    rw (name-in (now (a .rule)) (now (a .table)) (a .groups) (a .g) (omega arith)) (c .before .before .write-entry2 .ensures)
-
-write-entry-requires-3 : tie.Need-write-entry-requires-3
-unfolding nameIndexNeed groupLimit nameEntry nameLimit
-write-entry-requires-3 c κs = (omega arith, λ l. omega arith, omega arith)
-
-same-length-3 : tie.Need-same-length-3
-same-length-3 c = search needs
-
-returns-3 : tie.Need-returns-3
-unfolding nameEntry nameLimit
-returns-3 c =
     let a = c .before .before .before .before .before .before .before .before .args in
-    rw (name-out (now (a .rule)) (now (a .table)) (a .groups) (a .g) (omega arith)) (c .before .before .write-entry3 .ensures)
+    rw (name-out (now (a .rule)) (now (a .table)) (a .groups) (a .g) (omega arith)) (c .before .before .write-entry2 .ensures)
 
 pub write-group-spec : {M : Type 1} → statement M
 write-group-spec =
@@ -101,7 +88,4 @@ write-group-spec =
     returns
     write-entry-requires-2
     same-length-2
-    returns-2
-    write-entry-requires-3
-    same-length-3
-    returns-3)
+    returns-2)

@@ -123,13 +123,6 @@ module _ (s table : List ℕ) where
         | no e ↦ let same : g ≡ k = omega arith in rw same (nameOf-this last names (suc k) (ap suc (sym many)))
       ]
 
-  -- one whose length in the table is 0 has none
-  pub name-empty : (groups g : ℕ) → g < groups → getD table (2 * g + 1) 0 ≡ 0 → nameOf (namesIn s table groups) (suc g) ≡ []
-  name-empty groups g l e =
-      let from = getD table (2 * g) 0 in
-      let none : from + getD table (2 * g + 1) 0 ≡ from = omega (arith, e) in
-      name-in groups g l ∙ ap (λ (to : ℕ). slice from to s) none ∙ slice-empty from s
-
   pub name-out : (groups g : ℕ) → groups ≤ g → nameOf (namesIn s table groups) (suc g) ≡ []
   name-out groups g h = nameOf-beyond (namesIn s table groups) g (omega (arith, length-names s table groups))
 
