@@ -14,6 +14,7 @@ use Rattle.semantics.specs.States.{Row, row}
 use Rattle.semantics.specs.NameIndex.{nameIndex}
 use Rattle.semantics.specs.Answers.{Outcome, matched, notMatched, exhausted, Answer, answer, Ending, complete, full, exhaustedAt, Listing, listing}
 use Rattle.semantics.specs.Explanations.{Failure, failures, furthest, closest, marks}
+use Rattle.semantics.specs.Scans.{scan}
 
 -- What is handed in ---------------------------------------------------------
 
@@ -145,13 +146,24 @@ joined (x ∷ rows) = x ++ joined rows
 unfoldable pub room : List ℕ → ℕ
 room area = length area / rowLength
 
+-- rows at the front of the area, one after another, and how many they are
+abbrev pub listReturns : Call → Listing → Return ListOutcome
+listReturns c l = leaving (listOutcome (l .ending) (length (l .rows)) (l .steps)) (joined (l .rows)) c
+
 unfoldable pub listRule : Call → Rule → Return ListOutcome
-listRule c r =
-    let l = listing (c .subject) r (c .budget) (room (c .resultArea)) in
-    leaving (listOutcome (l .ending) (length (l .rows)) (l .steps)) (joined (l .rows)) c
+listRule c r = listReturns c (listing (c .subject) r (c .budget) (room (c .resultArea)))
 
 unfoldable pub listCall : Call → Return ListOutcome
 listCall c = call ListRefused rowLength listRule c
+
+-- Successive matches ------------------------------------------------------------
+
+-- 02, request g): "rows like the listing's, with the same 'full' and 'exhausted' endings"
+unfoldable pub scanRule : Call → Rule → Return ListOutcome
+scanRule c r = listReturns c (scan (c .subject) r (c .budget) (room (c .resultArea)))
+
+unfoldable pub scanCall : Call → Return ListOutcome
+scanCall c = call ListRefused rowLength scanRule c
 
 -- An explanation ----------------------------------------------------------------
 

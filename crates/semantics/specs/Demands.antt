@@ -327,17 +327,21 @@ pub record MatchDemands (c : Call) (x : Return MatchOutcome) : Type 0 where
 
 -- The whole of a listing --------------------------------------------------------------------
 
+-- what a call tells and writes of its listing
+pub record TellsRows (c : Call) (groups : ℕ) (l : Listing) (x : Return ListOutcome) : Type 0 where
+  pub when-complete : l .ending ≡ complete → x .outcome ≡ Complete (length (l .rows)) (l .steps)
+  pub when-full : l .ending ≡ full → x .outcome ≡ Full (length (l .rows)) (l .steps)
+  pub when-exhausted : (n : ℕ) → l .ending ≡ exhaustedAt n → x .outcome ≡ ListExhausted n (length (l .rows)) (l .steps)
+  -- its rows stand at the front of the area, one after another
+  pub rows-written : Written (joined (l .rows)) (c .resultArea) (x .resultArea)
+  pub rows-right : (y : Row) → In y (l .rows) → RowFacts (c .subject) groups y
+
 -- what a listing of a rule that is not refused returns: a listing that meets demand 3
 pub record ListAnswers (c : Call) (r : Rule) (groups : ℕ) (x : Return ListOutcome) : Type 0 where
   pub listing : Listing
   pub demand-3 : Demand3 (c .subject) r (c .budget) (room (c .resultArea)) listing
   pub steps-bounded : listing .steps ≤ stepLimit c
-  pub when-complete : listing .ending ≡ complete → x .outcome ≡ Complete (length (listing .rows)) (listing .steps)
-  pub when-full : listing .ending ≡ full → x .outcome ≡ Full (length (listing .rows)) (listing .steps)
-  pub when-exhausted : (n : ℕ) → listing .ending ≡ exhaustedAt n → x .outcome ≡ ListExhausted n (length (listing .rows)) (listing .steps)
-  -- its rows stand at the front of the area, one after another
-  pub rows-written : Written (joined (listing .rows)) (c .resultArea) (x .resultArea)
-  pub rows-right : (y : Row) → In y (listing .rows) → RowFacts (c .subject) groups y
+  pub tells : TellsRows c groups listing x
 
 pub record ListDemands (c : Call) (x : Return ListOutcome) : Type 0 where
   pub demand-1 : Demand1 ListRefused rowLength c x

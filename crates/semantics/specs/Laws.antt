@@ -10,6 +10,7 @@ pub mod Places
 pub mod Runs
 pub mod Newness
 pub mod Views
+pub mod FirstEnds
 pub mod Matches
 pub mod Readings
 pub mod Listings
@@ -23,6 +24,12 @@ pub mod Loops
 pub mod Failures
 pub mod Misses
 pub mod Explanations
+-- What is proved of successive matches: a search, and one after another.
+pub mod Searches
+pub mod Scans
+pub mod ScanSteps
+pub mod SettledScans
+pub mod ScanLoops
 -- What is proved of the calls.
 pub mod Refusals
 pub mod Rows
@@ -30,6 +37,15 @@ pub mod Areas
 pub mod Calls
 pub mod MatchCalls
 pub mod ListCalls
+pub mod ScanCalls
 pub mod AgreeingCalls
 pub mod ExplainCalls
 pub mod SettledCalls
+-- What is proved of a day's lines: the split, and the calls.
+pub mod Lines
+pub mod LentAreas
+pub mod Parts
+pub mod Batches
+pub mod SettledBatches
+pub mod LinesApart
+pub mod LinesInTurn

@@ -10,9 +10,14 @@ pub mod Runs
 pub mod Answers
 pub mod NameIndex
 pub mod Explanations
+pub mod Scans
 pub mod Calls
+pub mod Batches
 pub mod Demands
+pub mod ScanDemands
 pub mod DemandsHold
+pub mod BatchDemands
+pub mod BatchDemandsHold
 pub mod Laws
 pub mod Computing
 pub mod Starred

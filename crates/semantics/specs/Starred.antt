@@ -9,7 +9,8 @@ use Rattle.syntax.specs.Limits.{ruleAreaNeed, unset, spansLength, rowLength, na
 use Rattle.syntax.specs.Read.{bytes}
 use Rattle.semantics.specs.States.{Row}
 use Rattle.semantics.specs.Explanations.{Failure}
-use Rattle.semantics.specs.Calls.{Call, workAreaNeed, MatchOutcome, Matched, NotMatched, Exhausted, Refused, matchCall, ListOutcome, Complete, listCall, joined, ExplainOutcome, explainCall}
+use Rattle.semantics.specs.Calls.{Call, workAreaNeed, MatchOutcome, Matched, NotMatched, Exhausted, Refused, matchCall, ListOutcome, Complete, listCall, scanCall, joined, ExplainOutcome, explainCall}
+use Rattle.semantics.specs.Batches.{BatchOutcome, batchCall}
 use Rattle.semantics.specs.Computing.{computing-calls}
 
 -- One call and what it gives --------------------------------------------------
@@ -34,20 +35,28 @@ rowOf start stop spans = start ∷ stop ∷ spans ++ replicate (spansLength - le
 pub data Checked : Type 0 where
   -- rule, flags, subject, budget; the outcome and the rows written
   matching : String → ℕ → String → ℕ → MatchOutcome → List Row → Checked
-  -- the same, with the rows that there is room for
+  -- the same, with the rows that there is room for; of all readings, and of successive matches
   listing : String → ℕ → String → ℕ → ℕ → ListOutcome → List Row → Checked
+  scanning : String → ℕ → String → ℕ → ℕ → ListOutcome → List Row → Checked
   -- the same; the outcome, and all the bytes that are lent for marks, which held 7 before
   explaining : String → ℕ → String → ℕ → ExplainOutcome → List ℕ → Checked
+  -- the same, with a buffer; the outcome, and all the numbers of the result area, which held 7 before
+  batching : String → ℕ → String → ℕ → BatchOutcome → List ℕ → Checked
 
 -- a failure: the attempt's start, where in the line it was, and the item's place in the rule
 unfoldable pub missed : ℕ → ℕ → ℕ → Failure
 missed start at place = record { start = start; at = at; place = place }
+
+-- a row of 7s, which nothing is written into
+unfoldable pub noRow : Row
+noRow = replicate rowLength 7
 
 -- an outcome, and the first numbers of the result area
 pub data Gives : Type 0 where
   matches : MatchOutcome → List ℕ → Gives
   lists : ListOutcome → List ℕ → Gives
   explains : ExplainOutcome → List ℕ → Gives
+  batches : BatchOutcome → List ℕ → Gives
 
 unfoldable pub calls : Checked → Gives
 calls (matching rule flags subject budget outcome rows) =
@@ -56,17 +65,25 @@ calls (matching rule flags subject budget outcome rows) =
 calls (listing rule flags subject budget limit outcome rows) =
     let after = listCall (lending rule flags subject budget (limit * rowLength)) in
     lists (after .outcome) (take (length (joined rows)) (after .resultArea))
+calls (scanning rule flags subject budget limit outcome rows) =
+    let after = scanCall (lending rule flags subject budget (limit * rowLength)) in
+    lists (after .outcome) (take (length (joined rows)) (after .resultArea))
 calls (explaining rule flags subject budget outcome marks) =
     let after = explainCall (lending rule flags subject budget (length marks)) in
     explains (after .outcome) (after .resultArea)
+calls (batching rule flags buffer budget outcome numbers) =
+    let after = batchCall (lending rule flags buffer budget (length numbers)) in
+    batches (after .outcome) (after .resultArea)
 
 unfoldable pub expected : Checked → Gives
 expected (matching rule flags subject budget outcome rows) = matches outcome (joined rows)
 expected (listing rule flags subject budget limit outcome rows) = lists outcome (joined rows)
+expected (scanning rule flags subject budget limit outcome rows) = lists outcome (joined rows)
 expected (explaining rule flags subject budget outcome marks) = explains outcome marks
+expected (batching rule flags buffer budget outcome numbers) = batches outcome numbers
 
 unfoldable pub computing-checks : Unit {0}
-unfolding computing-calls lending rowOf missed calls expected
+unfolding computing-calls lending rowOf missed noRow calls expected
 computing-checks = tt
 
 -- The list ------------------------------------------------------------------------

@@ -2,10 +2,11 @@
 use mathlib.Core.Path.{_≡_, refl}
 use mathlib.Core.List.{List, [], _∷_, _++_, map}
 use lib.ListN.{replicate}
-use Rattle.syntax.specs.declared.Reason.the-variants.{UnknownFlag, BudgetTooLarge, UnclosedGroup}
+use Rattle.syntax.specs.declared.Reason.the-variants.{UnknownFlag, BudgetTooLarge, ResultAreaShort, UnclosedGroup}
 use Rattle.syntax.specs.Limits.{unset}
 use Rattle.semantics.specs.Calls.{Matched, NotMatched, Exhausted, Refused, Complete, Full, ListExhausted, Fits, Unfit, ExplainExhausted, ExplainRefused}
-use Rattle.semantics.specs.Starred.{rowOf, Checked, matching, listing, explaining, missed, calls, expected, computing-checks}
+use Rattle.semantics.specs.Batches.{Done, BatchRefused}
+use Rattle.semantics.specs.Starred.{rowOf, Checked, matching, listing, scanning, explaining, batching, missed, noRow, calls, expected, computing-checks}
 
 unfoldable pub traps : List Checked
 traps =
@@ -144,6 +145,36 @@ traps =
     ∷ explaining "abc" 0 "abd" 99 (Unfit 6 (missed 3 3 0) (missed 0 2 2)) []
     -- the `\w` of one more round failed first, but the `:` behind it is marked too
     ∷ explaining "^tank (\\w+): (\\d+) L$" 0 "tank A1 820 L" 99 (Unfit 30 (missed 13 13 0) (missed 0 7 7)) (replicate 7 0 ++ 1 ∷ 0 ∷ 0 ∷ 0 ∷ 1 ∷ replicate 9 0)
+    -- 02 G1: after an empty match at the line's end the last start is tried once more, barred
+    ∷ scanning "" 0 "" 99 9 (Complete 1 2) (rowOf 0 0 [] ∷ [])
+    -- 02 G2: only an empty match at that same place is barred, and the walk goes on behind a barred end
+    ∷ scanning "a*" 0 "aab" 99 9 (Complete 3 19) (rowOf 0 2 [] ∷ rowOf 2 2 [] ∷ rowOf 3 3 [] ∷ [])
+    ∷ scanning "a*?" 0 "aa" 99 9 (Complete 5 19) (rowOf 0 0 [] ∷ rowOf 0 1 [] ∷ rowOf 1 1 [] ∷ rowOf 1 2 [] ∷ rowOf 2 2 [] ∷ [])
+    -- 02 G3: "full" needs a further match, whose end is counted
+    ∷ scanning "a" 0 "a" 99 1 (Complete 1 3) (rowOf 0 1 [] ∷ [])
+    ∷ scanning "a" 0 "aa" 99 1 (Full 1 4) (rowOf 0 1 [] ∷ [])
+    -- 02 G4: an exhausted try names its start, barred or not, and the rows stay
+    ∷ scanning "|a{3}" 0 "a" 3 9 (ListExhausted 0 1 5) (rowOf 0 0 [] ∷ [])
+    -- 02 G5: `^` and `\A` still mean 0, and no span is left over from the match before
+    ∷ scanning "^a" 0 "aa" 99 9 (Complete 1 5) (rowOf 0 1 [] ∷ [])
+    ∷ scanning "\\Aa" 0 "aa" 99 9 (Complete 1 5) (rowOf 0 1 [] ∷ [])
+    ∷ scanning "(a)|b" 0 "ab" 99 9 (Complete 2 16) (rowOf 0 1 (0 ∷ 1 ∷ []) ∷ rowOf 1 2 [] ∷ [])
+    -- 02 h: each line is a subject of its own, and its row is written only if it is matched
+    ∷ batching "^a$" 0 "b\na\n" 99 (Done 2) (noRow ++ 1 ∷ 0 ∷ 3 ∷ 0 ∷ rowOf 0 1 [] ++ 0 ∷ 0 ∷ 4 ∷ 0 ∷ [])
+    -- 02 H1: no lines need no part, and a refused rule refuses them too
+    ∷ batching "a" 0 "" 99 (Done 0) []
+    ∷ batching "(" 0 "" 99 (BatchRefused 0 UnclosedGroup) []
+    -- 02 H2: 0A alone is one line, and 0A twice before a last piece three; 0D stays in its line
+    ∷ batching "" 0 "\n" 99 (Done 1) (rowOf 0 0 [] ++ 0 ∷ 0 ∷ 1 ∷ 0 ∷ [])
+    ∷ batching "a" 0 "\n\na" 99 (Done 3) (noRow ++ 1 ∷ 0 ∷ 1 ∷ 0 ∷ noRow ++ 1 ∷ 0 ∷ 1 ∷ 0 ∷ rowOf 0 1 [] ++ 0 ∷ 0 ∷ 2 ∷ 0 ∷ [])
+    ∷ batching "a$" 0 "a\r\n" 99 (Done 1) (noRow ++ 1 ∷ 0 ∷ 4 ∷ 0 ∷ [])
+    -- 02 H4: 7 where lines outnumber parts, also before the rule is read; the rest of the area, and a part without a line, stay
+    ∷ batching "(" 0 "a\na" 99 (BatchRefused 0 ResultAreaShort) (replicate 139 7)
+    ∷ batching "a" 0 "a\na" 99 (Done 2) (rowOf 0 1 [] ++ 0 ∷ 0 ∷ 2 ∷ 0 ∷ rowOf 0 1 [] ++ 0 ∷ 0 ∷ 2 ∷ 0 ∷ 7 ∷ [])
+    ∷ batching "a" 0 "a" 99 (Done 1) (rowOf 0 1 [] ++ 0 ∷ 0 ∷ 2 ∷ 0 ∷ noRow ++ 7 ∷ 7 ∷ 7 ∷ 7 ∷ [])
+    -- 02 H7: an exhausted line tells its start, and the others go on
+    ∷ batching "a{3}" 0 "baaa\naaa\n" 5 (Done 2) (noRow ++ 2 ∷ 1 ∷ 7 ∷ 0 ∷ noRow ++ 2 ∷ 0 ∷ 5 ∷ 0 ∷ [])
+    ∷ batching "a*" 0 "aa\nb" 6 (Done 2) (noRow ++ 2 ∷ 0 ∷ 6 ∷ 0 ∷ rowOf 0 0 [] ++ 0 ∷ 0 ∷ 3 ∷ 0 ∷ [])
     ∷ []
 
 pub traps-avoided : map calls traps ≡ map expected traps

@@ -73,6 +73,11 @@ rowLength = 2 + spansLength
 unfoldable pub slot : ℕ → ℕ
 slot group = 2 * (group - 1)
 
+-- 02, h): "A line's part of the area is its row .., then four numbers"
+unfoldable pub partLength : ℕ
+unfolding rowLength
+partLength = rowLength + 4
+
 -- Names of groups -----------------------------------------------------------------
 
 -- 02, e): "A name is 1 to 16 letters, digits or underscores"

@@ -65,7 +65,7 @@ spend-quiet n (suc b) (step ∷ p) es x q l = let f : suc b - suc (length p) ≡
 spend-quiet n (suc b) (miss u v ∷ p) es x q l = let f : suc b - suc (length p) ≡ b - length p = omega arith in rw (spend-quiet n b p es x q (omega arith), f)
 spend-quiet n (suc b) (end t ∷ p) es x q l = absurd q
 
--- The match's loop -----------------------------------------------------
+-- The loop that seeks an end: the match's, and that of a search (02, request g) ----
 
 -- an answer after s steps that reached no end
 unfoldable pub afterSteps : ℕ → Answer → Answer
@@ -82,8 +82,33 @@ module _ (sub : List ℕ) (r : Rule) (budget : ℕ) where
   ahead n c b es = spend n b es (run budget (trace sub r) (suc n) c)
 
   -- s steps are taken, and no end was reached
+  abbrev pub SeekAt : Answer → ℕ → ℕ → ℕ → ℕ → Trace → Type 0
+  SeekAt whole s n c b es = whole ≡ afterSteps s (first (ahead n c b es .met) (ahead n c b es .stop))
+
+  module _ (whole : Answer) (s n c b : ℕ) where
+    pub seek-quiet : (p es : Trace) → Quiet p → length p ≤ b → SeekAt whole s n c b (p ++ es) → SeekAt whole (s + length p) n c (b - length p) es
+    unfolding ahead
+    seek-quiet p es q l h = h ∙ rw (spend-quiet n b p es (run budget (trace sub r) (suc n) c) q l) (first-plain s (length p) _ _)
+
+    pub seek-end : (t : State) (es : Trace) → SeekAt whole s n c (suc b) (end t ∷ es) → whole ≡ record { outcome = matched n t; steps = s + 1 }
+    unfolding ahead spend meets moment first afterSteps
+    seek-end t es h = h
+
+    pub seek-over : (e : Event) (es : Trace) → SeekAt whole s n c 0 (e ∷ es) → whole ≡ record { outcome = exhausted n; steps = s }
+    unfolding ahead spend first unmatched afterSteps
+    seek-over e es h = let f : s + 0 ≡ s = omega arith in h ∙ rw f
+
+    pub seek-next : SeekAt whole s n (suc c) b [] → SeekAt whole s (suc n) c budget (trace sub r (suc n))
+    unfolding ahead spend run
+    seek-next h = h
+
+    pub seek-last : SeekAt whole s n 0 b [] → whole ≡ record { outcome = notMatched; steps = s }
+    unfolding ahead spend run first unmatched afterSteps
+    seek-last h = let f : s + 0 ≡ s = omega arith in h ∙ rw f
+
+  -- the match
   abbrev pub MatchAt : ℕ → ℕ → ℕ → ℕ → Trace → Type 0
-  MatchAt s n c b es = answer sub r budget ≡ afterSteps s (first (ahead n c b es .met) (ahead n c b es .stop))
+  MatchAt = SeekAt (answer sub r budget)
 
   pub match-begin : MatchAt 0 0 (length sub) budget (trace sub r 0)
   unfolding ahead answer runs run afterSteps
@@ -91,24 +116,19 @@ module _ (sub : List ℕ) (r : Rule) (budget : ℕ) where
 
   module _ (s n c b : ℕ) where
     pub match-quiet : (p es : Trace) → Quiet p → length p ≤ b → MatchAt s n c b (p ++ es) → MatchAt (s + length p) n c (b - length p) es
-    unfolding ahead
-    match-quiet p es q l h = h ∙ rw (spend-quiet n b p es (run budget (trace sub r) (suc n) c) q l) (first-plain s (length p) _ _)
+    match-quiet = seek-quiet (answer sub r budget) s n c b
 
     pub match-end : (t : State) (es : Trace) → MatchAt s n c (suc b) (end t ∷ es) → answer sub r budget ≡ record { outcome = matched n t; steps = s + 1 }
-    unfolding ahead spend meets moment first afterSteps
-    match-end t es h = h
+    match-end = seek-end (answer sub r budget) s n c b
 
     pub match-over : (e : Event) (es : Trace) → MatchAt s n c 0 (e ∷ es) → answer sub r budget ≡ record { outcome = exhausted n; steps = s }
-    unfolding ahead spend first unmatched afterSteps
-    match-over e es h = let f : s + 0 ≡ s = omega arith in h ∙ rw f
+    match-over = seek-over (answer sub r budget) s n c b
 
     pub match-next : MatchAt s n (suc c) b [] → MatchAt s (suc n) c budget (trace sub r (suc n))
-    unfolding ahead spend run
-    match-next h = h
+    match-next = seek-next (answer sub r budget) s n c b
 
     pub match-last : MatchAt s n 0 b [] → answer sub r budget ≡ record { outcome = notMatched; steps = s }
-    unfolding ahead spend run first unmatched afterSteps
-    match-last h = let f : s + 0 ≡ s = omega arith in h ∙ rw f
+    match-last = seek-last (answer sub r budget) s n c b
 
 -- The listing's loop ---------------------------------------------------
 

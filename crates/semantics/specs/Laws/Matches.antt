@@ -1,6 +1,6 @@
 -- Demand 2: each outcome implies its facts, and no two sets of facts hold together, so each holds exactly when its facts do.
-use mathlib.Core.Path.{_≡_, refl, ap, sym, _∙_}
-use mathlib.Core.List.{List, _∷_}
+use mathlib.Core.Path.{_≡_, refl, ap, _∙_}
+use mathlib.Core.List.{List}
 use mathlib.Core.Logic.{_⊎_, inl, inr}
 use Prim.Native.Nat.{ℕ, suc, _+_, _≤_, _<_}
 use native.Mathlib.Omega.{arith}
@@ -10,15 +10,13 @@ use Rattle.semantics.specs.States.{Before, State}
 use Rattle.semantics.specs.Derivations.{Derivation}
 use Rattle.semantics.specs.Walk.{trace, Reaches}
 use Rattle.semantics.specs.Theorem.{walk-lists-derivations}
-use Rattle.semantics.specs.Runs.{ends, runs}
-use Rattle.semantics.specs.Answers.{matched, notMatched, exhausted, Answer, unmatched, first, answer}
-use Rattle.semantics.specs.Demands.{In, Earlier, stepsBefore, Start, NoDerivation, EndsWithin, MatchedWhen, ExhaustedWhen, Demand2}
+use Rattle.semantics.specs.Runs.{runs}
+use Rattle.semantics.specs.Answers.{matched, notMatched, exhausted, Answer, answer}
+use Rattle.semantics.specs.Demands.{Earlier, stepsBefore, Start, NoDerivation, EndsWithin, MatchedWhen, ExhaustedWhen, Demand2}
 use Rattle.semantics.specs.Laws.Cases.{clash, three}
 use Rattle.semantics.specs.Laws.Traces.{not-both, reaches-one}
-use Rattle.semantics.specs.Laws.Members.{in-right}
-use Rattle.semantics.specs.Laws.Places.{upto, upto-length, reaches-below, upto-place, reached-split}
 use Rattle.semantics.specs.Laws.Runs.{Point, run-point}
-use Rattle.semantics.specs.Laws.Views.{first-view}
+use Rattle.semantics.specs.Laws.FirstEnds.{NoEndBefore, met-at, first-of-run}
 
 -- Theorem, in the form that is used below: the walk from a start reaches its derivations, in their order.
 module _ (sub : List ℕ) (r : Rule) where
@@ -79,70 +77,52 @@ module _ (sub : List ℕ) (r : Rule) (budget : ℕ) where
     pub is : a .outcome ≡ notMatched
     pub cost : a .steps ≡ stepsBefore (trace sub r) (suc (length sub))
 
-  -- nothing met before a place: no derivation at an earlier start
-  no-end-before : (m j : ℕ) → ((n : ℕ) (t : State) → ¬ In (ends n t) (upto (trace sub r) m j)) → (n k : ℕ) (t : State) → Earlier n k m j → ¬ Reaches (trace sub r n) k t
-  no-end-before m j none n k t h g =
-      let z = reached-split (trace sub r) n k m j t g h in
-      none n t (rw (z .1) (in-right (ends n t) (upto (trace sub r) n k) (ends n t ∷ z .0) (inl refl)))
-
-  no-derivation-before : (m j : ℕ) → ((n : ℕ) (t : State) → ¬ In (ends n t) (upto (trace sub r) m j)) → (n : ℕ) → Start sub n → n < m → NoDerivation sub r n
-  no-derivation-before m j none n s l t d = let z = derives-reaches sub r n t s d in no-end-before m j none n (z .0) t (inl l) (z .1)
-
   -- an end that a run met stands at a start, within the budget
   pub at-start : (n k : ℕ) (t : State) → Earlier n k (point .m) (point .j) → Reaches (trace sub r n) k t → Start sub n × (n ≤ point .m) × (k < budget)
-  at-start n k t (inl l) h =
-      let b = reaches-below (trace sub r n) k t h in
-      let c = point .within n l in
-      (elim (point .why) [ inl y ↦ omega (arith, y .0) | inr y ↦ omega (arith, y .0) ], omega arith, omega arith)
-  at-start n k t (inr e) h =
-      let c = point .paid in
-      (elim (point .why) [ inl y ↦ absurd (omega (arith, y .1)) | inr y ↦ omega (arith, y .0) ], omega arith, omega arith)
+  at-start n k t e h = let g = met-at (trace sub r) budget (suc (length sub)) (runs sub r budget) point n k t e h in (omega (arith, g .0), g .1, g .2)
+
+  -- no end before a place: no derivation at an earlier start
+  no-derivation-before : (m j : ℕ) → NoEndBefore (trace sub r) m j → (n : ℕ) → Start sub n → n < m → NoDerivation sub r n
+  no-derivation-before m j none n s l t d = let z = derives-reaches sub r n t s d in none n (z .0) t (inl l) (z .1)
 
   answer-view : IsMatched (answer sub r budget) ⊎ (IsExhausted (answer sub r budget) ⊎ IsNotMatched (answer sub r budget))
-  unfolding answer unmatched
-  answer-view =
-      let x = runs sub r budget in
-      let o : Point budget (trace sub r) (suc (length sub)) x = point in
-      elim (first-view (x .met) (x .stop)) [
-        | inl v ↦
-            let none : (n : ℕ) (t : State) → ¬ In (ends n t) (upto (trace sub r) (o .m) (o .j)) = λ n t h. v .none n t (rw (o .met) h) in
-            let cost : first (x .met) (x .stop) .steps ≡ stepsBefore (trace sub r) (o .m) + o .j = ap (λ (a : Answer). a .steps) (v .is) ∙ ap length (o .met) ∙ upto-length (trace sub r) (o .m) (o .j) (o .inside) in
-            elim (o .why) [
-              | inl y ↦ inr (inr (record {
-                when = λ n s. (no-derivation-before (o .m) (o .j) none n s (omega (arith, y .0)), o .within n (omega (arith, y .0)));
-                is = ap (λ (a : Answer). a .outcome) (v .is) ∙ ap unmatched (y .2);
-                cost = cost ∙ rw (y .0, y .1) (omega arith);
-              }))
-              | inr y ↦ inr (inl (record {
-                n = o .m;
-                when = record { start = omega (arith, y .0); overruns = record { needs = y .2; no-end = λ j t l. no-end-before (o .m) (o .j) none (o .m) j t (inr (refl, omega (arith, y .1))) }; first-such = λ m l. (no-derivation-before (o .m) (o .j) none m (omega (arith, y .0)) l, λ z. absurd (omega (arith, z .needs, o .within m l))) };
-                is = ap (λ (a : Answer). a .outcome) (v .is) ∙ ap unmatched (y .3);
-                cost = cost ∙ rw (y .1);
-              }))
-            ]
-        | inr v ↦
-            let z = upto-place (trace sub r) (o .m) (o .j) (v .p) (v .q) (v .n) (v .t) (sym (o .met) ∙ v .at) in
-            let h = z .0 in
-            let g = at-start (v .n) (h .k) (v .t) (z .1) (h .reaches) in
-            let none : (m : ℕ) (u : State) → ¬ In (ends m u) (upto (trace sub r) (v .n) (h .k)) = λ m u i. v .none m u (rw (h .past) i) in
-            inl (record {
-              n = v .n;
-              t = v .t;
-              when = record {
-                start = g .0;
-                leftmost = λ m l. (no-derivation-before (v .n) (h .k) none m (omega (arith, g .0)) l, o .within m (omega (arith, g .1)));
-                first-by-priority = record {
-                  derives = reaches-derives sub r (v .n) (h .k) (v .t) (g .0) (h .reaches);
-                  first = λ u d. from-here sub r (v .n) (h .k) (v .t) u (g .0) (h .reaches) d (λ j l. no-end-before (v .n) (h .k) none (v .n) j u (inr (refl, l)));
-                };
-                in-time = (h .k, g .2, h .reaches);
-              };
-              is = ap (λ (a : Answer). a .outcome) (v .is);
-              j = h .k;
-              reaches = h .reaches;
-              cost = ap (λ (a : Answer). a .steps) (v .is) ∙ ap suc (ap length (h .past) ∙ upto-length (trace sub r) (v .n) (h .k) (omega (arith, reaches-below (trace sub r (v .n)) (h .k) (v .t) (h .reaches)))) ∙ omega arith;
-            })
-      ]
+  unfolding answer runs
+  answer-view = elim (first-of-run (trace sub r) budget (suc (length sub))) [
+    | inl v ↦ inl (record {
+      n = v .n;
+      t = v .t;
+      when = record {
+        start = omega (arith, v .start);
+        leftmost = λ m l. (no-derivation-before (v .n) (v .j) (v .none-before) m (omega (arith, v .start)) l, v .within m l);
+        first-by-priority = record {
+          derives = reaches-derives sub r (v .n) (v .j) (v .t) (omega (arith, v .start)) (v .reaches);
+          first = λ u d. from-here sub r (v .n) (v .j) (v .t) u (omega (arith, v .start)) (v .reaches) d (λ j l. v .none-before (v .n) j u (inr (refl, l)));
+        };
+        in-time = (v .j, v .in-time, v .reaches);
+      };
+      is = ap (λ (a : Answer). a .outcome) (v .is);
+      j = v .j;
+      reaches = v .reaches;
+      cost = ap (λ (a : Answer). a .steps) (v .is);
+    })
+    | inr x ↦ inr (elim x [
+      | inl v ↦ inl (record {
+        n = v .n;
+        when = record {
+          start = omega (arith, v .start);
+          overruns = record { needs = v .needs; no-end = λ j t l. v .none-before (v .n) j t (inr (refl, l)) };
+          first-such = λ m l. (no-derivation-before (v .n) budget (v .none-before) m (omega (arith, v .start)) l, λ z. absurd (omega (arith, z .needs, v .within m l)));
+        };
+        is = ap (λ (a : Answer). a .outcome) (v .is);
+        cost = ap (λ (a : Answer). a .steps) (v .is);
+      })
+      | inr v ↦ inr (record {
+        when = λ n s. (no-derivation-before (suc (length sub)) 0 (v .none-before) n s (omega arith), v .within n (omega arith));
+        is = ap (λ (a : Answer). a .outcome) (v .is);
+        cost = ap (λ (a : Answer). a .steps) (v .is);
+      })
+    ])
+  ]
 
   -- no two of them at once
   matched-once : (n m : ℕ) (t u : State) → MatchedWhen sub r budget n t → MatchedWhen sub r budget m u → matched n t ≡ matched m u

@@ -13,10 +13,12 @@ use Rattle.semantics.specs.States.{row}
 use Rattle.semantics.specs.Answers.{Outcome, matched, notMatched, exhausted, Answer, Ending, complete, full, exhaustedAt, Listing}
 use Rattle.semantics.specs.Explanations.{position, reach}
 use Rattle.semantics.specs.Calls.{Call, workAreaNeed, Return, MatchOutcome, Refused, ListOutcome, ListRefused, joined, room, ExplainOutcome, ExplainRefused, markable}
-use Rattle.semantics.specs.Demands.{Accepted, Written, Demand1, MatchAnswers, MatchDemands, ListAnswers, ListDemands, TellsWhy, ExplainAnswers, ExplainDemands}
+use Rattle.semantics.specs.Demands.{Accepted, Written, Demand1, MatchAnswers, MatchDemands, TellsRows, ListAnswers, ListDemands, TellsWhy, ExplainAnswers, ExplainDemands}
+use Rattle.semantics.specs.ScanDemands.{ScanAnswers, ScanDemands}
 use Rattle.semantics.specs.Laws.Refusals.{found}
 use Rattle.semantics.specs.Laws.Areas.{written-over}
 use Rattle.semantics.specs.Laws.Settled.{demand-2-settles, demand-3-settles}
+use Rattle.semantics.specs.Laws.SettledScans.{scan-demand-settles}
 use Rattle.semantics.specs.Laws.Explanations.{first-failure-once, marks-once}
 
 written-once : (numbers before x y : List ℕ) → Written numbers before x → Written numbers before y → x ≡ y
@@ -24,7 +26,7 @@ written-once numbers before x y v w = written-over numbers before x v ∙ sym (w
 
 module _ {A : Type 0} where
   -- what a caller sees of the result
-  abbrev Told : Return A → Return A → Type 0
+  abbrev pub Told : Return A → Return A → Type 0
   Told x y = (x .outcome ≡ y .outcome) × (x .resultArea ≡ y .resultArea)
 
   all-five : (x y : Return A) → x .ruleArea ≡ y .ruleArea → x .workArea ≡ y .workArea → x .names ≡ y .names → Told x y → x ≡ y
@@ -47,7 +49,7 @@ module _ {A : Type 0} where
     ]
 
     -- it is enough that accepted calls are told alike
-    returns-same : ((r : Rule) (groups : ℕ) → Accepted need c r groups → Told x y) → x ≡ y
+    pub returns-same : ((r : Rule) (groups : ℕ) → Accepted need c r groups → Told x y) → x ≡ y
     returns-same f =
         let s = areas-same in
         let t : Told x y = elim (v .answers-or-refuses) [
@@ -83,19 +85,23 @@ module _ (c : Call) (r : Rule) (groups : ℕ) where
           let q = w .when-exhausted n (outcome-too (exhausted n) e) in
           (cc (p .0, q .0, same), p .1 ∙ sym (q .1))
 
-  list-told : (x y : Return ListOutcome) → ListAnswers c r groups x → ListAnswers c r groups y → Told x y
-  list-told x y v w = (go (v .listing .ending) refl, written-once (joined (v .listing .rows)) (c .resultArea) (x .resultArea) (y .resultArea) (v .rows-written) (rw same (w .rows-written)))
+  -- of one listing all is told in one way
+  rows-told : (x y : Return ListOutcome) (k l : Listing) → k ≡ l → TellsRows c groups k x → TellsRows c groups l y → Told x y
+  rows-told x y k l same v w = (go (k .ending) refl, written-once (joined (k .rows)) (c .resultArea) (x .resultArea) (y .resultArea) (v .rows-written) (rw same (w .rows-written)))
     where
-      same : v .listing ≡ w .listing
-      same = demand-3-settles (c .subject) r (c .budget) (room (c .resultArea)) (v .listing) (w .listing) (v .demand-3) (w .demand-3)
+      ending-too : (o : Ending) → k .ending ≡ o → l .ending ≡ o
+      ending-too o e = ap (λ (m : Listing). m .ending) (sym same) ∙ e
 
-      ending-too : (o : Ending) → v .listing .ending ≡ o → w .listing .ending ≡ o
-      ending-too o e = ap (λ (l : Listing). l .ending) (sym same) ∙ e
-
-      go : (o : Ending) → v .listing .ending ≡ o → x .outcome ≡ y .outcome
+      go : (o : Ending) → k .ending ≡ o → x .outcome ≡ y .outcome
       go complete e = cc (v .when-complete e, w .when-complete (ending-too complete e), same)
       go full e = cc (v .when-full e, w .when-full (ending-too full e), same)
       go (exhaustedAt n) e = cc (v .when-exhausted n e, w .when-exhausted n (ending-too (exhaustedAt n) e), same)
+
+  list-told : (x y : Return ListOutcome) → ListAnswers c r groups x → ListAnswers c r groups y → Told x y
+  list-told x y v w = rows-told x y (v .listing) (w .listing) (demand-3-settles (c .subject) r (c .budget) (room (c .resultArea)) (v .listing) (w .listing) (v .demand-3) (w .demand-3)) (v .tells) (w .tells)
+
+  scan-told : (x y : Return ListOutcome) → ScanAnswers c r groups x → ScanAnswers c r groups y → Told x y
+  scan-told x y v w = rows-told x y (v .scan) (w .scan) (scan-demand-settles (c .subject) r (c .budget) (room (c .resultArea)) (v .scan) (w .scan) (v .demand) (w .demand)) (v .tells) (w .tells)
 
   -- a line that isn't matched is told in one way
   why-told : (steps : ℕ) (x y : Return ExplainOutcome) → TellsWhy c r steps x → TellsWhy c r steps y → Told x y
@@ -130,6 +136,9 @@ match-settles c x y v w = returns-same Refused rowLength c x y (v .demand-1) (w 
 
 pub list-settles : (c : Call) (x y : Return ListOutcome) → ListDemands c x → ListDemands c y → x ≡ y
 list-settles c x y v w = returns-same ListRefused rowLength c x y (v .demand-1) (w .demand-1) (λ r groups a. list-told c r groups x y (v .answers r groups a) (w .answers r groups a))
+
+pub scan-settles : (c : Call) (x y : Return ListOutcome) → ScanDemands c x → ScanDemands c y → x ≡ y
+scan-settles c x y v w = returns-same ListRefused rowLength c x y (v .demand-1) (w .demand-1) (λ r groups a. scan-told c r groups x y (v .answers r groups a) (w .answers r groups a))
 
 pub explain-settles : (c : Call) (x y : Return ExplainOutcome) → ExplainDemands c x → ExplainDemands c y → x ≡ y
 explain-settles c x y v w = returns-same ExplainRefused 0 c x y (v .demand-1) (w .demand-1) (λ r groups a. explain-told c r groups x y (v .answers r groups a) (w .answers r groups a))
