@@ -2,10 +2,9 @@
 use mathlib.Core.Path.{_≡_, ap, sym, _∙_}
 use mathlib.Core.List.{List, [], _∷_, _++_, append-assoc, append-nil}
 use mathlib.Core.Logic.{inl, inr}
-use Prim.Native.Nat.{ℕ, suc, _+_, _-_, _*_, _/_, _≤_, _<_}
-use native.Mathlib.Nat.{div-mul-le-self}
+use Prim.Native.Nat.{ℕ, suc, _+_, _-_, _*_, _≤_, _<_}
 use native.Mathlib.Omega.{arith}
-use lib.ListN.{length, take, drop, length-append}
+use lib.ListN.{length, length-append}
 use Rattle.syntax.specs.Limits.{rowLength, registers}
 use Rattle.semantics.specs.States.{State, Row, row}
 use Rattle.semantics.specs.Walk.{end, Trace}
@@ -23,10 +22,10 @@ use Rattle.machine.specs.Laws.Code.{spans-in-registers}
 use Rattle.machine.specs.Laws.Loop.{until-ended, until-nothing, until-spent}
 use Rattle.listing.specs.declared.noting.Noted.the-variants.{Kept, NoRoom}
 use Rattle.index.specs.Rows.{rowOf, rowsAt, Whole}
-use Rattle.listing.specs.Listing.{Notes, Holds, Course, Going, Tells, Through}
-use Rattle.frame.specs.Laws.Areas.{over-length}
-use Rattle.index.specs.Laws.Rows.{rowOf-length, rowOf-row, whole-append}
-use Rattle.listing.specs.Laws.Rows.{joined-length, row-behind, rows-written}
+use Rattle.listing.specs.Listing.{Notes, Course, Going, Tells, Through}
+use Rattle.index.specs.Laws.Rows.{rowOf-length, rowOf-row}
+use Rattle.listing.specs.Laws.Rows.{joined-length, rows-written}
+use Rattle.listing.specs.Laws.Holding.{same-room, held-fit, holds-more}
 
 -- Rows and room ---------------------------------------------------------------
 
@@ -37,33 +36,6 @@ whole-left (x ∷ rows) more h = (h .0, whole-left rows more (h .1))
 whole-right : (rows more : List Row) → Whole (rows ++ more) → Whole more
 whole-right [] more h = h
 whole-right (x ∷ rows) more h = whole-right rows more (h .1)
-
--- rows for which there is room have their numbers in the area
-pub rows-fit : (area : List ℕ) (n : ℕ) → n ≤ room area → n * rowLength ≤ length area
-unfolding room rowLength
-rows-fit area n h = omega (arith, div-mul-le-self (length area) 66)
-
-module _ {rows : List Row} {old area : List ℕ} {n : ℕ} (h : Holds rows old area n) (fits : length rows ≤ room old) where
-  numbers : length (joined rows) ≡ n * rowLength
-  numbers = joined-length rows (h .whole) ∙ ap (λ (k : ℕ). k * rowLength) (h .many)
-
-  pub same-size : length area ≡ length old
-  same-size = rw (h .written) (over-length (joined rows) old (rw (joined-length rows (h .whole)) (rows-fit old (length rows) fits)))
-
-  pub same-room : room area ≡ room old
-  unfolding room
-  same-room = ap (λ (k : ℕ). k / rowLength) same-size
-
-  pub held-fit : n * rowLength ≤ length area
-  held-fit = rows-fit area n (omega (arith, same-room, h .many))
-
-  -- a row is written behind those that are there
-  pub holds-more : (x : Row) → length x ≡ rowLength → {new : List ℕ} {m : ℕ} → new ≡ take (n * rowLength) area ++ (x ++ drop (n * rowLength + rowLength) area) → m ≡ n + 1 → Holds (rows ++ (x ∷ [])) old new m
-  holds-more x l e k = record {
-    whole = whole-append rows (x ∷ []) (h .whole) (l, tt);
-    many = length-append rows (x ∷ []) ∙ omega (arith, h .many);
-    written = e ∙ rw (h .written) (row-behind rows x old (n * rowLength) numbers l);
-  }
 
 -- noting a reading writes at most one row
 pub noted-one : {area : List ℕ} {earlier rows : ℕ} {x : Row} {new : List ℕ} {n : ℕ} → Notes area earlier rows x new (Kept n) → n ≤ rows + 1
