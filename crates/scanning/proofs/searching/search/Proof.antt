@@ -1,0 +1,109 @@
+-- `search` meets its contract: the first try answers it, or the starts behind it do, of which those that cannot begin are passed over.
+use Prim.Native.Nat.{_+_}
+use native.Mathlib.Omega.{arith}
+use borrow.Author.Needs.{needs}
+use denote.Ref.{now}
+use lib.ListN.{length}
+use Rattle.syntax.specs.Limits.{subjectLimit}
+use Rattle.semantics.specs.Calls.{workAreaNeed}
+use Rattle.semantics.specs.Scans.{search as searched}
+use Rattle.machine.specs.Theorem.{enough-room}
+use Rattle.openings.specs.declared.Opening.{Opening}
+use Rattle.scanning.proofs.Seeking.{seeks-behind, seeks-from, near-from}
+use Rattle.scanning.proofs.searching.search.Statement.{statement}
+use Rattle.scanning.proofs.searching.search.Tie as tie
+
+try-first-requires : tie.Need-try-first-requires
+try-first-requires c κs = let p = c .before .before .before .before .before .before .pre in (p .0 .0, p .0 .1, p .1)
+
+enum-known-used : tie.Need-enum-known-used
+enum-known-used c = search needs
+
+cast-t22 : tie.Need-cast-t22
+cast-t22 c = search needs
+
+enum-known-used-2 : tie.Need-enum-known-used-2
+enum-known-used-2 c = search needs
+
+add-next-start : tie.Need-add-next-start
+unfolding subjectLimit
+add-next-start c = omega (arith, c .before .before .before .before .before .before .before .before .before .before .before .before .before .before .pre .0 .0 .subject-fits, c .before .before .before .before .before .before .before .before .before .before .before .before .before .before .pre .1)
+
+cast-next-start : tie.Need-cast-next-start
+cast-next-start c = search needs
+
+next-start-requires : tie.Need-next-start-requires
+unfolding subjectLimit
+next-start-requires c κs = (omega (arith, c .before .before .before .before .before .before .before .before .before .before .before .before .before .before .pre .1), c .before .before .before .before .before .before .before .before .before .before .before .before .before .before .pre .0 .0 .subject-fits, omega arith)
+
+seek-requires : tie.Need-seek-requires
+unfolding workAreaNeed
+seek-requires c κs =
+    let s = c .before .before .before .before .before .before .before .before .before .before .before .before .before .before .before .before .before in
+    let h = s .pre .0 .0 in
+    let t = c .before .before .before .before .before .before .before .before .before .before .try-first in
+    let o : Opening = record { cost = s .args .cost; any = s .args .any; set = now (s .args .set) } in
+    let w = rw (c .before .before .before .before .used2 .given .1) at (t .ensures (h .tree) (h .stands)) in
+    let n = near-from o (omega arith) (s .args .from + 1) (c .before .before .next-start .result .start) (c .before .before .before .before .used2 .given .0 .0) (c .before .before .next-start .ensures .0) (record { few = omega (arith, s .pre .1); small = omega (arith, w .0) }) in
+    ((record { tree = h .tree; stands = h .stands; code-size = h .code-size; subject-fits = h .subject-fits; work-fits = omega (arith, h .work-fits, t .kept .1 .1 .1 .0) }, rw (w .1) (s .pre .0 .1), s .pre .0 .2), (n .few, rw (c .before .before .next-start .ensures .1) (n .small)))
+
+enum-told : tie.Need-enum-told
+enum-told c = search needs
+
+same-length : tie.Need-same-length
+same-length c = search needs
+
+same-length-2 : tie.Need-same-length-2
+same-length-2 c = search needs
+
+returns : tie.Need-returns
+returns c = λ x st. (rw (c .before .used .given .1) at (c .before .before .before .before .before .before .before .try-first .ensures x st)) .1
+
+same-length-3 : tie.Need-same-length-3
+same-length-3 c = search needs
+
+same-length-4 : tie.Need-same-length-4
+same-length-4 c = search needs
+
+returns-2 : tie.Need-returns-2
+unfolding workAreaNeed
+returns-2 c =
+    let s = c .before .before .before .before .before .before .before .before .before .before .before .before .before .before .before .before .before .before .before .before .before .before in
+    let a = s .args in
+    let h = s .pre .0 .0 in
+    let room = enough-room (a .budget) (length (now (a .work))) (h .work-fits) in
+    λ x st. (
+    let w = rw (c .before .before .before .before .before .before .before .before .before .used2 .given .1) at (c .before .before .before .before .before .before .before .before .before .before .before .before .before .before .before .try-first .ensures x st) in
+    c .before .before .before .before .seek .ensures x (searched (now (a .subject)) x (a .budget) (a .from) (a .barred)) st (rw (c .before .before .before .before .before .before .before .next-start .ensures .1) (seeks-from (length (now (a .work))) (now (a .regs)) (λ i. omega (arith, c .before .before .before .before .before .before .before .before .before .before .before .before .before .before .before .before .before .before .before .before .shared-slice-known2 .given i)) (s .pre .0 .1) room st (record { cost = a .cost; any = a .any; set = now (a .set) }) (s .pre .0 .2) _ _ _ (omega arith) (c .before .before .before .before .before .before .before .next-start .ensures .0) (seeks-behind (now (a .subject)) x (a .budget) _ _ (a .from) _ (s .pre .1) (w .2)))))
+
+same-length-5 : tie.Need-same-length-5
+same-length-5 c = search needs
+
+same-length-6 : tie.Need-same-length-6
+same-length-6 c = search needs
+
+returns-3 : tie.Need-returns-3
+returns-3 c = λ x st. rw (c .enum-told .given .1) at (c .before .before .before .before .before .before .try-first .ensures x st)
+
+pub search-spec : {M : Type 1} → statement M
+search-spec =
+    tie.close
+    (tie.spec
+    try-first-requires
+    enum-known-used
+    cast-t22
+    enum-known-used-2
+    add-next-start
+    cast-next-start
+    next-start-requires
+    seek-requires
+    enum-told
+    same-length
+    same-length-2
+    returns
+    same-length-3
+    same-length-4
+    returns-2
+    same-length-5
+    same-length-6
+    returns-3)

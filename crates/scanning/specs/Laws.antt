@@ -1,0 +1,2 @@
+-- What successive matches tell is what their call returns.
+pub mod Scans
