@@ -14,9 +14,9 @@ use Rattle.syntax.specs.Read.{Read, refused}
 use Rattle.syntax.specs.Reading.{reading}
 use Rattle.syntax.specs.Laws.Places.{Placed, reading-placed}
 use Rattle.semantics.specs.Explanations.{nowhere}
-use Rattle.semantics.specs.Calls.{Call, matchCall, listCall, MatchOutcome, Matched as Answer·Matched, NotMatched as Answer·NotMatched, Exhausted as Answer·Exhausted, Refused as Answer·Refused, ListOutcome, Complete as Answer·Complete, Full as Answer·Full, ListExhausted, ListRefused, explainCall, ExplainOutcome, Fits, Unfit, ExplainExhausted, ExplainRefused}
+use Rattle.semantics.specs.Calls.{Call, matchCall, listCall, scanCall, MatchOutcome, Matched as Answer·Matched, NotMatched as Answer·NotMatched, Exhausted as Answer·Exhausted, Refused as Answer·Refused, ListOutcome, Complete as Answer·Complete, Full as Answer·Full, ListExhausted, ListRefused, explainCall, ExplainOutcome, Fits, Unfit, ExplainExhausted, ExplainRefused}
 use Rattle.semantics.specs.Demands.{Faultless, ruleTooLong, Refuses, itself, itsRule}
-use Rattle.semantics.specs.DemandsHold.{match-meets-demands, list-meets-demands, explain-meets-demands}
+use Rattle.semantics.specs.DemandsHold.{match-meets-demands, list-meets-demands, scan-meets-demands, explain-meets-demands}
 use Rattle.matching.specs.declared.Outcome.{Outcome}
 use Rattle.matching.specs.declared.Outcome.the-variants.{Matched, NotMatched, Exhausted, Refused}
 use Rattle.listing.specs.declared.Listing.{Listing}
@@ -73,14 +73,12 @@ match-placed c = of (matchCall c .outcome) refl
     of (Answer·Exhausted start steps) e = tt
     of (Answer·Refused place why) e = refuses-placed rowLength c place why (match-meets-demands c .demand-1 .refused-exactly place why .0 e)
 
-list-placed : (c : Call) → ListPlaced (listCall c .outcome)
-list-placed c = of (listCall c .outcome) refl
-  where
-    of : (o : ListOutcome) → listCall c .outcome ≡ o → ListPlaced o
-    of (Answer·Complete rows steps) e = tt
-    of (Answer·Full rows steps) e = tt
-    of (ListExhausted start rows steps) e = tt
-    of (ListRefused place why) e = refuses-placed rowLength c place why (list-meets-demands c .demand-1 .refused-exactly place why .0 e)
+-- of a listing, and of successive matches
+rows-placed : (c : Call) (o : ListOutcome) → ((place : ℕ) (why : Reason) → o ≡ ListRefused place why → Refuses rowLength c place why) → ListPlaced o
+rows-placed c (Answer·Complete rows steps) f = tt
+rows-placed c (Answer·Full rows steps) f = tt
+rows-placed c (ListExhausted start rows steps) f = tt
+rows-placed c (ListRefused place why) f = refuses-placed rowLength c place why (f place why refl)
 
 explain-placed : (c : Call) → ExplainPlaced (explainCall c .outcome)
 explain-placed c = of (explainCall c .outcome) refl
@@ -96,7 +94,10 @@ pub match-told : (o : Outcome) (c : Call) → outcomeOf o ≡ matchCall c .outco
 match-told o c e = rw e (match-placed c)
 
 pub list-told : (o : Listing) (c : Call) → listingOf o ≡ listCall c .outcome → ListPlaced (listingOf o)
-list-told o c e = rw e (list-placed c)
+list-told o c e = rw e (rows-placed c (listCall c .outcome) (λ place why. list-meets-demands c .demand-1 .refused-exactly place why .0))
+
+pub scan-told : (o : Listing) (c : Call) → listingOf o ≡ scanCall c .outcome → ListPlaced (listingOf o)
+scan-told o c e = rw e (rows-placed c (scanCall c .outcome) (λ place why. scan-meets-demands c .demand-1 .refused-exactly place why .0))
 
 pub explain-told : (o : Explanation) (c : Call) → explanationOf o ≡ explainCall c .outcome → ExplainPlaced (explanationOf o)
 explain-told o c e = rw e (explain-placed c)

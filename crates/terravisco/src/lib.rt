@@ -11,7 +11,7 @@ ghost use Prim.Native.Nat.{_≤_};
 ghost use lib.ListN.{length};
 ghost use Rattle.syntax.specs.Limits.{ruleLimit};
 ghost use Rattle.semantics.specs.Explanations.{nowhere as nothing};
-ghost use Rattle.semantics.specs.Calls.{matchCall, listCall, explainCall};
+ghost use Rattle.semantics.specs.Calls.{matchCall, listCall, scanCall, explainCall};
 ghost use Rattle.frame.specs.Inputs.{callOf};
 ghost use Rattle.matching.specs.Outcomes.{outcomeOf};
 ghost use Rattle.listing.specs.Listing.{listingOf};
@@ -193,6 +193,34 @@ pub extern "C" fn terravisco_list(
     ensures { λ _. ⌜ Answered listNumbers (listCall (callOf (now (rule .entry)) flags (now (subject .entry)) budget (now («rule_area» .entry)) (now («work_area» .entry)) (now (result .entry)) (now (names .entry)))) (now (answer .exit)) (now («rule_area» .exit)) (now («work_area» .exit)) (now (result .exit)) (now (names .exit)) ⌝ }
 {
     let outcome = listing::list_readings(
+        rule,
+        flags,
+        subject,
+        budget,
+        rule_area,
+        work_area,
+        result,
+        names,
+    );
+    tell_listing(answer, outcome);
+}
+
+// All successive matches.
+#[no_mangle]
+pub extern "C" fn terravisco_match_all(
+    rule: &[u8],
+    flags: u32,
+    subject: &[u8],
+    budget: u32,
+    rule_area: &mut [u32],
+    work_area: &mut [u32],
+    result: &mut [u32],
+    names: &mut [u8],
+    answer: &mut [u32; 6],
+)
+    ensures { λ _. ⌜ Answered listNumbers (scanCall (callOf (now (rule .entry)) flags (now (subject .entry)) budget (now («rule_area» .entry)) (now («work_area» .entry)) (now (result .entry)) (now (names .entry)))) (now (answer .exit)) (now («rule_area» .exit)) (now («work_area» .exit)) (now (result .exit)) (now (names .exit)) ⌝ }
+{
+    let outcome = scanning::match_all(
         rule,
         flags,
         subject,
