@@ -2,7 +2,8 @@
 // is reached is the answer, and its row the only one that is written.
 //
 // `match_line` is the call, which compiles its rule and clears what it was lent. `match_held` is its inside, for a rule that stands compiled: it may be
-// used for one line after another, and costs the walk and the writing of 162 registers.
+// used for one line after another, and costs the walk, the search for the rule's opening and the writing of 162 registers. `match_opened` is handed the
+// opening, for a caller that has many short lines: to find it costs as much as such a line's walk.
 use frame::Preparation;
 use frame::REGISTERS;
 use frame::RULE_AREA_NEED;
@@ -14,6 +15,7 @@ use index::UNSET;
 use index::write_row;
 use machine::Stop;
 use machine::start;
+use openings::Opening;
 use openings::find_opening;
 use openings::next_start;
 use syntax::Refusal;
@@ -24,6 +26,7 @@ ghost use lib.ListN.{length, drop};
 ghost use Rattle.syntax.specs.Limits.{rowLength};
 ghost use Rattle.semantics.specs.Calls.{workAreaNeed, matchCall};
 ghost use Rattle.machine.specs.Theorem.{Clear};
+ghost use Rattle.openings.specs.Openings.{Opens};
 ghost use Rattle.frame.specs.Inputs.{callOf, Returned, Held};
 ghost use Rattle.matching.specs.Outcomes.{outcomeOf, Finds};
 
@@ -44,15 +47,15 @@ fn search(
     results: &mut [u32],
     entry: u32,
     budget: u32,
+    opening: Opening,
 ) -> Outcome
     requires { ⌜ Held (now code) (now subject) (now work) entry budget × (rowLength ≤ length (now results)) ⌝ }
-    requires { ⌜ Clear (now regs) ⌝ }
+    requires { ⌜ Clear (now regs) × Opens (now code) entry budget opening ⌝ }
     ensures { λ r. ⌜ Finds (now (code .entry)) (now (subject .entry)) (now (results .entry)) (now (results .exit)) entry budget r ⌝ }
 {
-    let open = find_opening(code, entry, budget, subject.len());
-    let cost = open.cost;
-    let any = open.any;
-    let set = open.set;
+    let cost = opening.cost;
+    let any = opening.any;
+    let set = opening.set;
     let mut begin: u32 = 0;
     let mut steps: u64 = 0;
     while begin as usize <= subject.len() {
@@ -75,16 +78,18 @@ fn search(
     Outcome::NotMatched(steps)
 }
 
-// The first match of a rule that stands compiled, with its row written.
-pub fn match_held(
+// The first match of a rule that stands compiled and has this opening, with its row written.
+pub fn match_opened(
     code: &[u32],
     entry: u32,
+    opening: Opening,
     subject: &[u8],
     budget: u32,
     work: &mut [u32],
     results: &mut [u32],
 ) -> Outcome
     requires { ⌜ Held (now code) (now subject) (now work) entry budget × (rowLength ≤ length (now results)) ⌝ }
+    requires { ⌜ Opens (now code) entry budget opening ⌝ }
     ensures { λ r. ⌜ Finds (now (code .entry)) (now (subject .entry)) (now (results .entry)) (now (results .exit)) entry budget r ⌝ }
     ensures { λ _. ⌜ drop (workAreaNeed budget) (now (work .exit)) ≡ drop (workAreaNeed budget) (now (work .entry)) ⌝ }
 {
@@ -98,7 +103,25 @@ pub fn match_held(
         results,
         entry,
         budget,
+        opening,
     )
+}
+
+// The same of a rule whose opening is not yet known.
+pub fn match_held(
+    code: &[u32],
+    entry: u32,
+    subject: &[u8],
+    budget: u32,
+    work: &mut [u32],
+    results: &mut [u32],
+) -> Outcome
+    requires { ⌜ Held (now code) (now subject) (now work) entry budget × (rowLength ≤ length (now results)) ⌝ }
+    ensures { λ r. ⌜ Finds (now (code .entry)) (now (subject .entry)) (now (results .entry)) (now (results .exit)) entry budget r ⌝ }
+    ensures { λ _. ⌜ drop (workAreaNeed budget) (now (work .exit)) ≡ drop (workAreaNeed budget) (now (work .entry)) ⌝ }
+{
+    let opening = find_opening(code, entry, budget, subject.len());
+    match_opened(code, entry, opening, subject, budget, work, results)
 }
 
 // Matches a rule against a subject. A row for the first match is written into the results, and the name index is filled.

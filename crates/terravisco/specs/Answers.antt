@@ -1,20 +1,14 @@
 -- An outcome as the six numbers that `include/terravisco.h` names, an explanation as eleven, and a field as three.
 use mathlib.Core.Path.{_≡_}
 use mathlib.Core.List.{List, [], _∷_, _++_}
-use Prim.Native.Nat.{ℕ, _/_, _%_, _^_}
+use Prim.Native.Nat.{ℕ}
 use Rattle.syntax.specs.declared.Reason.{Reason}
 use Rattle.syntax.specs.Refusals.{numberOf}
 use Rattle.semantics.specs.Explanations.{Failure, nowhere}
 use Rattle.semantics.specs.Calls.{Return, MatchOutcome, Matched, NotMatched, Exhausted, Refused, ListOutcome, Complete, Full, ListExhausted, ListRefused, ExplainOutcome, Fits, Unfit, ExplainExhausted, ExplainRefused}
+use Rattle.semantics.specs.Batches.{low, high, BatchOutcome, Done, BatchRefused}
 use Rattle.lookup.specs.declared.Found.{Found}
 use Rattle.lookup.specs.declared.Found.the-variants.{Taken, Standing, Nothing}
-
--- what a number of 32 bits keeps of a larger one, and the rest
-unfoldable pub low : ℕ → ℕ
-low n = n % (2 ^ 32)
-
-unfoldable pub high : ℕ → ℕ
-high n = n / (2 ^ 32)
 
 -- "[0] kind, [1] exhausted start or refusal number, else 0, [2] refusal's place, else 0, [3] steps' low 32 bits, [4] their high 32 bits,
 -- [5] rows written"
@@ -38,6 +32,11 @@ listNumbers (Complete rows steps) = numbers 0 0 0 steps rows
 listNumbers (Full rows steps) = numbers 1 0 0 steps rows
 listNumbers (ListExhausted start rows steps) = numbers 2 start 0 steps rows
 listNumbers (ListRefused place why) = refusalNumbers place why
+
+-- "Kind of a day's lines: 0 done, 3 refused", with the lines in the place of rows, and no steps
+unfoldable pub batchNumbers : BatchOutcome → List ℕ
+batchNumbers (Done lines) = numbers 0 0 0 0 lines
+batchNumbers (BatchRefused place why) = refusalNumbers place why
 
 -- "[6] place in the line, [7] place in the rule; [8] to [10] the closest attempt: its start, its place in the line, its place in the rule"
 unfoldable pub failureNumbers : (far near : Failure) → List ℕ

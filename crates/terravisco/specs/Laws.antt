@@ -15,8 +15,10 @@ use Rattle.syntax.specs.Reading.{reading}
 use Rattle.syntax.specs.Laws.Places.{Placed, reading-placed}
 use Rattle.semantics.specs.Explanations.{nowhere}
 use Rattle.semantics.specs.Calls.{Call, matchCall, listCall, scanCall, MatchOutcome, Matched as Answer·Matched, NotMatched as Answer·NotMatched, Exhausted as Answer·Exhausted, Refused as Answer·Refused, ListOutcome, Complete as Answer·Complete, Full as Answer·Full, ListExhausted, ListRefused, explainCall, ExplainOutcome, Fits, Unfit, ExplainExhausted, ExplainRefused}
+use Rattle.semantics.specs.Batches.{BatchOutcome, Done, BatchRefused, linesOf, lineless, partsNeed, batchCall}
 use Rattle.semantics.specs.Demands.{Faultless, ruleTooLong, Refuses, itself, itsRule}
 use Rattle.semantics.specs.DemandsHold.{match-meets-demands, list-meets-demands, scan-meets-demands, explain-meets-demands}
+use Rattle.semantics.specs.Laws.Batches.{batch-demand-1}
 use Rattle.matching.specs.declared.Outcome.{Outcome}
 use Rattle.matching.specs.declared.Outcome.the-variants.{Matched, NotMatched, Exhausted, Refused}
 use Rattle.listing.specs.declared.Listing.{Listing}
@@ -28,7 +30,10 @@ use Rattle.explaining.specs.declared.Explanation.{Explanation}
 use Rattle.explaining.specs.declared.Explanation.the-variants.{Matched as Fitting, NotMatched as Unfitting, Exhausted as Ended, Refused as Declined}
 use Rattle.explaining.specs.Best.{failureOf}
 use Rattle.explaining.specs.Explanations.{explanationOf}
-use Rattle.terravisco.specs.Answers.{numbers, refusalNumbers, matchNumbers, listNumbers, failureNumbers, explainNumbers}
+use Rattle.batching.specs.declared.Batch.{Batch}
+use Rattle.batching.specs.declared.Batch.the-variants.{Done as All, Refused as Unmade}
+use Rattle.batching.specs.Batches.{batchOf}
+use Rattle.terravisco.specs.Answers.{numbers, refusalNumbers, matchNumbers, listNumbers, batchNumbers, failureNumbers, explainNumbers}
 
 -- Places ------------------------------------------------------------------------
 
@@ -50,6 +55,10 @@ ExplainPlaced (Fits steps) = Unit
 ExplainPlaced (Unfit steps far near) = Unit
 ExplainPlaced (ExplainExhausted start steps) = Unit
 ExplainPlaced (ExplainRefused place why) = place ≤ ruleLimit
+
+abbrev pub BatchPlaced : BatchOutcome → Type 0
+BatchPlaced (Done lines) = Unit
+BatchPlaced (BatchRefused place why) = place ≤ ruleLimit
 
 of-reading : {A : Type 0} (n : ℕ) (x : Read A) (place : ℕ) (why : Reason) → x ≡ refused place why → Placed n x → place ≤ n
 of-reading n x place why e h = rw e at h
@@ -89,6 +98,13 @@ explain-placed c = of (explainCall c .outcome) refl
     of (ExplainExhausted start steps) e = tt
     of (ExplainRefused place why) e = refuses-placed 0 c place why (explain-meets-demands c .demand-1 .refused-exactly place why .0 e)
 
+batch-placed : (c : Call) → BatchPlaced (batchCall c .outcome)
+batch-placed c = of (batchCall c .outcome) refl
+  where
+    of : (o : BatchOutcome) → batchCall c .outcome ≡ o → BatchPlaced o
+    of (Done lines) e = tt
+    of (BatchRefused place why) e = refuses-placed (partsNeed (linesOf (c .subject))) (lineless c) place why (batch-demand-1 c .refused-exactly place why .0 e)
+
 -- what the code's outcome is, a place in it fits
 pub match-told : (o : Outcome) (c : Call) → outcomeOf o ≡ matchCall c .outcome → MatchPlaced (outcomeOf o)
 match-told o c e = rw e (match-placed c)
@@ -102,6 +118,9 @@ scan-told o c e = rw e (rows-placed c (scanCall c .outcome) (λ place why. scan-
 pub explain-told : (o : Explanation) (c : Call) → explanationOf o ≡ explainCall c .outcome → ExplainPlaced (explanationOf o)
 explain-told o c e = rw e (explain-placed c)
 
+pub batch-told : (o : Batch) (c : Call) → batchOf o ≡ batchCall c .outcome → BatchPlaced (batchOf o)
+batch-told o c e = rw e (batch-placed c)
+
 pub match-place : (o : Outcome) (f : Refusal) → o ≡ Refused f → MatchPlaced (outcomeOf o) → f .place ≤ ruleLimit
 unfolding outcomeOf
 match-place o f e h = rw e at h
@@ -113,6 +132,10 @@ list-place o f e h = rw e at h
 pub explain-place : (o : Explanation) (f : Refusal) → o ≡ Declined f → ExplainPlaced (explanationOf o) → f .place ≤ ruleLimit
 unfolding explanationOf
 explain-place o f e h = rw e at h
+
+pub batch-place : (o : Batch) (f : Refusal) → o ≡ Unmade f → BatchPlaced (batchOf o) → f .place ≤ ruleLimit
+unfolding batchOf
+batch-place o f e h = rw e at h
 
 -- A match -----------------------------------------------------------------------
 
@@ -149,6 +172,16 @@ of-cut o start rows steps e = rw e refl
 pub of-denied : (o : Listing) (f : Refusal) → o ≡ Denied f → refusalNumbers (f .place) (f .reason) ≡ listNumbers (listingOf o)
 unfolding listNumbers listingOf
 of-denied o f e = rw e refl
+
+-- A day's lines -----------------------------------------------------------------
+
+pub of-all : (o : Batch) (lines : ℕ) → o ≡ All lines → numbers 0 0 0 0 lines ≡ batchNumbers (batchOf o)
+unfolding batchNumbers batchOf
+of-all o lines e = rw e refl
+
+pub of-unmade : (o : Batch) (f : Refusal) → o ≡ Unmade f → refusalNumbers (f .place) (f .reason) ≡ batchNumbers (batchOf o)
+unfolding batchNumbers batchOf
+of-unmade o f e = rw e refl
 
 -- An explanation ------------------------------------------------------------------
 

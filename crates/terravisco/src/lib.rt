@@ -1,4 +1,7 @@
 // The C interface: the calls, with each outcome as six numbers, or eleven for an explanation, and the field lookup. `include/terravisco.h` is its header.
+use batching::Batch;
+use batching::high_half;
+use batching::low_half;
 use explaining::Explanation;
 use explaining::Failed;
 use listing::Listing;
@@ -12,31 +15,16 @@ ghost use lib.ListN.{length};
 ghost use Rattle.syntax.specs.Limits.{ruleLimit};
 ghost use Rattle.semantics.specs.Explanations.{nowhere as nothing};
 ghost use Rattle.semantics.specs.Calls.{matchCall, listCall, scanCall, explainCall};
+ghost use Rattle.semantics.specs.Batches.{batchCall};
 ghost use Rattle.frame.specs.Inputs.{callOf};
 ghost use Rattle.matching.specs.Outcomes.{outcomeOf};
 ghost use Rattle.listing.specs.Listing.{listingOf};
+ghost use Rattle.batching.specs.Batches.{batchOf};
 ghost use Rattle.explaining.specs.Best.{failureOf};
 ghost use Rattle.explaining.specs.Explanations.{explanationOf};
 ghost use Rattle.lookup.specs.Lookup.{lookup};
-ghost use Rattle.terravisco.specs.Answers.{low, high, numbers, refusalNumbers, matchNumbers, listNumbers, failureNumbers, explainNumbers, fieldNumbers, Answered};
-ghost use Rattle.terravisco.specs.Laws.{MatchPlaced, ListPlaced, ExplainPlaced};
-
-// 2^32
-const WORD: u64 = 4294967296;
-
-// What a number of 32 bits keeps of a larger one.
-fn low_half(n: u64) -> u32
-    ensures { λ r. ⌜ r ≡ low n ⌝ }
-{
-    (n % WORD) as u32
-}
-
-// The rest of it.
-fn high_half(n: u64) -> u32
-    ensures { λ r. ⌜ r ≡ high n ⌝ }
-{
-    (n / WORD) as u32
-}
+ghost use Rattle.terravisco.specs.Answers.{numbers, refusalNumbers, matchNumbers, listNumbers, batchNumbers, failureNumbers, explainNumbers, fieldNumbers, Answered};
+ghost use Rattle.terravisco.specs.Laws.{MatchPlaced, ListPlaced, BatchPlaced, ExplainPlaced};
 
 // Writes an answer: the kind, the start or refusal number, the place, the steps in two halves and the rows.
 fn tell(answer: &mut [u32; 6], kind: u32, which: u32, place: u32, steps: u64, rows: usize)
@@ -52,7 +40,7 @@ fn tell(answer: &mut [u32; 6], kind: u32, which: u32, place: u32, steps: u64, ro
     ];
 }
 
-// A refusal has the same numbers from a match and a listing.
+// A refusal has the same numbers from a match, a listing and a day's lines.
 fn tell_refusal(answer: &mut [u32; 6], f: Refusal)
     requires { ⌜ f .place ≤ ruleLimit ⌝ }
     ensures { λ _. ⌜ now (answer .exit) ≡ refusalNumbers (f .place) (f .reason) ⌝ }
@@ -82,6 +70,16 @@ fn tell_listing(answer: &mut [u32; 6], outcome: Listing)
         Listing::Full(rows, steps) => tell(answer, 1, 0, 0, steps, rows),
         Listing::Exhausted(start, rows, steps) => tell(answer, 2, start, 0, steps, rows),
         Listing::Refused(f) => tell_refusal(answer, f),
+    }
+}
+
+fn tell_batch(answer: &mut [u32; 6], outcome: Batch)
+    requires { ⌜ BatchPlaced (batchOf outcome) ⌝ }
+    ensures { λ _. ⌜ now (answer .exit) ≡ batchNumbers (batchOf outcome) ⌝ }
+{
+    match outcome {
+        Batch::Done(lines) => tell(answer, 0, 0, 0, 0, lines),
+        Batch::Refused(f) => tell_refusal(answer, f),
     }
 }
 
@@ -231,6 +229,34 @@ pub extern "C" fn terravisco_match_all(
         names,
     );
     tell_listing(answer, outcome);
+}
+
+// One match for each line of a buffer.
+#[no_mangle]
+pub extern "C" fn terravisco_match_lines(
+    rule: &[u8],
+    flags: u32,
+    buffer: &[u8],
+    budget: u32,
+    rule_area: &mut [u32],
+    work_area: &mut [u32],
+    result: &mut [u32],
+    names: &mut [u8],
+    answer: &mut [u32; 6],
+)
+    ensures { λ _. ⌜ Answered batchNumbers (batchCall (callOf (now (rule .entry)) flags (now (buffer .entry)) budget (now («rule_area» .entry)) (now («work_area» .entry)) (now (result .entry)) (now (names .entry)))) (now (answer .exit)) (now («rule_area» .exit)) (now («work_area» .exit)) (now (result .exit)) (now (names .exit)) ⌝ }
+{
+    let outcome = batching::match_lines(
+        rule,
+        flags,
+        buffer,
+        budget,
+        rule_area,
+        work_area,
+        result,
+        names,
+    );
+    tell_batch(answer, outcome);
 }
 
 // One explanation of why a line does not fit.

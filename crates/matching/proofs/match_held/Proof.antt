@@ -1,35 +1,16 @@
--- `match_held` meets its contract: its registers are clear, and what is lent on of the work area is what the budget needs.
-use mathlib.Core.Path.{_∙_, sym}
+-- `match_held` meets its contract: the opening is found, and the rest is `match_opened`'s.
 use native.Mathlib.Omega.{arith}
-use denote.Ref.{now}
-use lib.Seq.{length-take-le, drop-at}
-use Rattle.syntax.specs.Limits.{unset, registers, workPerStep}
-use Rattle.semantics.specs.Calls.{workAreaNeed}
-use Rattle.machine.specs.Theorem.{clear-all}
 use borrow.Author.Needs.{needs}
+use Rattle.syntax.specs.Limits.{ruleAreaNeed}
 use Rattle.matching.proofs.match_held.Statement.{statement}
 use Rattle.matching.proofs.match_held.Tie as tie
 
-mul-need : tie.Need-mul-need
-mul-need c = search needs
+find-opening-requires : tie.Need-find-opening-requires
+unfolding ruleAreaNeed
+find-opening-requires c κs = omega (arith, c .before .before .before .before .pre .0 .code-size)
 
-slice-aggregate-search : tie.Need-slice-aggregate-search
-slice-aggregate-search c = search needs
-
-slice-relend-prefix-search : tie.Need-slice-relend-prefix-search
-unfolding workAreaNeed workPerStep
-slice-relend-prefix-search c = c .before .before .before .before .before .pre .0 .work-fits
-
-slice-aggregate-search-2 : tie.Need-slice-aggregate-search-2
-unfolding workAreaNeed workPerStep
-slice-aggregate-search-2 c = sym (length-take-le (workAreaNeed (c .before .before .before .before .before .before .args .budget)) (now (c .before .before .before .before .before .before .args .work)) (c .before .before .before .before .before .before .pre .0 .work-fits))
-
-search-requires : tie.Need-search-requires
-unfolding unset registers workAreaNeed workPerStep
-search-requires c κs =
-    let h = c .before .before .before .before .before .before .before .pre .0 in
-    let long = length-take-le (workAreaNeed (c .before .before .before .before .before .before .before .args .budget)) (now (c .before .before .before .before .before .before .before .args .work)) (h .work-fits) in
-    ((record { tree = h .tree; stands = h .stands; code-size = h .code-size; subject-fits = h .subject-fits; work-fits = omega (arith, long) }, c .before .before .before .before .before .before .before .pre .1), clear-all)
+match-opened-requires : tie.Need-match-opened-requires
+match-opened-requires c κs = (c .before .before .before .before .before .before .before .pre, c .before .before .find-opening .ensures)
 
 same-length : tie.Need-same-length
 same-length c = search needs
@@ -38,21 +19,7 @@ same-length-2 : tie.Need-same-length-2
 same-length-2 c = search needs
 
 returns : tie.Need-returns
-unfolding workAreaNeed workPerStep
-returns c =
-    let a = c .before .before .before .before .before .before .before .before .before .before .before .before .before in
-    let m = c .before .before .before .before .before .search in
-    (m .ensures, drop-at (m .last .1 .1 .1 .0) _ (workAreaNeed (a .args .budget)) (m .kept .1 .1 .1 .0 ∙ length-take-le (workAreaNeed (a .args .budget)) (now (a .args .work)) (a .pre .0 .work-fits)))
+returns c = c .before .before .before .before .match-opened .ensures
 
 pub match-held-spec : {M : Type 1} → statement M
-match-held-spec =
-    tie.close
-    (tie.spec
-    mul-need
-    slice-aggregate-search
-    slice-relend-prefix-search
-    slice-aggregate-search-2
-    search-requires
-    same-length
-    same-length-2
-    returns)
+match-held-spec = tie.close (tie.spec find-opening-requires match-opened-requires same-length same-length-2 returns)

@@ -22,12 +22,8 @@ abbrev μ-loop : tie.MeasureT-loop
 μ-loop code subject regs₀ work₀ results₀ entry budget cost any set begin₀ steps₀ regs work results begin steps =
     suc (length subject) - begin
 
-find-opening-requires : tie.Need-find-opening-requires Inv-loop μ-loop
-unfolding ruleAreaNeed
-find-opening-requires c κs = omega (arith, c .before .before .before .before .before .pre .0 .0 .code-size)
-
 loop-holds : tie.Need-loop-holds Inv-loop μ-loop
-loop-holds c = let a = c .before .before .before .before .before .before .before .args in seeking-start (now (a .code)) (now (a .subject)) (now (a .regs)) (now (a .work)) (now (a .results)) (a .entry) (a .budget)
+loop-holds c = let a = c .before .before .before .before .before .before .args in seeking-start (now (a .code)) (now (a .subject)) (now (a .regs)) (now (a .work)) (now (a .results)) (a .entry) (a .budget)
 
 cast-loop : tie.Need-cast-loop Inv-loop μ-loop
 cast-loop c = search needs
@@ -39,11 +35,11 @@ run-to-end-requires : tie.Need-run-to-end-requires Inv-loop μ-loop
 unfolding workAreaNeed subjectLimit ruleAreaNeed
 run-to-end-requires c κs =
     let l = c .before .before .before .before .loop in
-    let s = c .before .before .before .before .before .before .before .before .before .before .before .before in
-    let b = c .before .before .before .before .before .before .before .before .before .before .shared-slice-known2 in
+    let s = c .before .before .before .before .before .before .before .before .before .before .before in
+    let b = c .before .before .before .before .before .before .before .before .before .shared-slice-known2 in
     let room = enough-room (s .args .budget) (length (now (s .args .work))) (s .pre .0 .0 .work-fits) in
     let t = c .before .before .start in
-    ((omega (arith, ap (λ (r : List ℕ). length r) (l .inv .same), s .pre .1 .size), omega (arith, s .pre .0 .0 .subject-fits), omega (arith, s .pre .0 .0 .code-size)), (_, _, seeking-ready (l .inv) (λ i. omega (arith, b .given i)) (s .pre .1) room (c .before .before .before .loop-test .taken) (t .result) (t .ensures) (s .pre .0 .0 .tree) (s .pre .0 .0 .stands)))
+    ((omega (arith, ap (λ (r : List ℕ). length r) (l .inv .same), s .pre .1 .0 .size), omega (arith, s .pre .0 .0 .subject-fits), omega (arith, s .pre .0 .0 .code-size)), (_, _, seeking-ready (l .inv) (λ i. omega (arith, b .given i)) (s .pre .1 .0) room (c .before .before .before .loop-test .taken) (t .result) (t .ensures) (s .pre .0 .0 .tree) (s .pre .0 .0 .stands)))
 
 enum-known-used : tie.Need-enum-known-used Inv-loop μ-loop
 enum-known-used c = search needs
@@ -53,17 +49,17 @@ unfolding spansLength registers
 write-row-requires c κs =
     let l = c .before .before .before .before .before .before .before .before .before .before .before .before .before .before .loop in
     let u = c .before .before .before .before .before .before .before .before .before .run-to-end in
-    let s = c .before .before .before .before .before .before .before .before .before .before .before .before .before .before .before .before .before .before .before .before .before .before in
-    (omega (arith, ap (λ (r : List ℕ). length r) (l .inv .kept), s .pre .0 .1), omega (arith, u .kept .1 .1 .0, ap (λ (r : List ℕ). length r) (l .inv .same), s .pre .1 .size))
+    let s = c .before .before .before .before .before .before .before .before .before .before .before .before .before .before .before .before .before .before .before .before .before in
+    (omega (arith, ap (λ (r : List ℕ). length r) (l .inv .kept), s .pre .0 .1), omega (arith, u .kept .1 .1 .0, ap (λ (r : List ℕ). length r) (l .inv .same), s .pre .1 .0 .size))
 
-cast-t33 : tie.Need-cast-t33 Inv-loop μ-loop
-cast-t33 c = search needs
+cast-t32 : tie.Need-cast-t32 Inv-loop μ-loop
+cast-t32 c = search needs
 
-add-t34 : tie.Need-add-t34 Inv-loop μ-loop
+add-t33 : tie.Need-add-t33 Inv-loop μ-loop
 unfolding subjectLimit
-add-t34 c =
+add-t33 c =
     let l = c .before .before .before .before .before .before .before .before .before .before .before .before .before .before .before .before .before .loop in
-    let s = c .before .before .before .before .before .before .before .before .before .before .before .before .before .before .before .before .before .before .before .before .before .before .before .before .before in
+    let s = c .before .before .before .before .before .before .before .before .before .before .before .before .before .before .before .before .before .before .before .before .before .before .before .before in
     omega (arith, l .inv .small, c .before .before .before .before .before .before .before .before .before .before .before .before .before .before .before .before .loop-test .taken, s .pre .0 .0 .subject-fits)
 
 same-length : tie.Need-same-length Inv-loop μ-loop
@@ -79,19 +75,19 @@ returns : tie.Need-returns Inv-loop μ-loop
 unfolding workAreaNeed spansLength registers
 returns c =
     let l = c .before .before .before .before .before .before .before .before .before .before .before .before .before .before .before .before .before .loop in
-    let s = c .before .before .before .before .before .before .before .before .before .before .before .before .before .before .before .before .before .before .before .before .before .before .before .before .before in
-    let b = c .before .before .before .before .before .before .before .before .before .before .before .before .before .before .before .before .before .before .before .before .before .before .before .shared-slice-known2 in
+    let s = c .before .before .before .before .before .before .before .before .before .before .before .before .before .before .before .before .before .before .before .before .before .before .before .before in
+    let b = c .before .before .before .before .before .before .before .before .before .before .before .before .before .before .before .before .before .before .before .before .before .before .shared-slice-known2 in
     let room = enough-room (s .args .budget) (length (now (s .args .work))) (s .pre .0 .0 .work-fits) in
     let u = c .before .before .before .before .before .before .before .before .before .before .before .before .run-to-end in
     let t = c .before .before .before .before .before .before .before .before .before .before .before .before .before .before .before .start in
-    seeking-end (l .inv) (λ i. omega (arith, b .given i)) (s .pre .1) room (c .before .before .before .before .before .before .before .before .before .before .before .before .before .before .before .before .loop-test .taken) (t .result) (t .ensures) (u .ensures) _ _ (c .before .before .before .before .before .before .used .given .1) (c .before .before .write-row .ensures) (omega (arith, u .kept .1 .1 .0, ap (λ (r : List ℕ). length r) (l .inv .same), s .pre .1 .size))
+    seeking-end (l .inv) (λ i. omega (arith, b .given i)) (s .pre .1 .0) room (c .before .before .before .before .before .before .before .before .before .before .before .before .before .before .before .before .loop-test .taken) (t .result) (t .ensures) (u .ensures) _ _ (c .before .before .before .before .before .before .used .given .1) (c .before .before .write-row .ensures) (omega (arith, u .kept .1 .1 .0, ap (λ (r : List ℕ). length r) (l .inv .same), s .pre .1 .0 .size))
 
 enum-known-used-2 : tie.Need-enum-known-used-2 Inv-loop μ-loop
 enum-known-used-2 c = search needs
 
 add-next-start : tie.Need-add-next-start Inv-loop μ-loop
 unfolding subjectLimit
-add-next-start c = omega (arith, c .before .before .before .before .before .before .before .before .before .before .before .before .loop-test .taken, c .before .before .before .before .before .before .before .before .before .before .before .before .before .before .before .before .before .before .before .before .before .pre .0 .0 .subject-fits)
+add-next-start c = omega (arith, c .before .before .before .before .before .before .before .before .before .before .before .before .loop-test .taken, c .before .before .before .before .before .before .before .before .before .before .before .before .before .before .before .before .before .before .before .before .pre .0 .0 .subject-fits)
 
 cast-next-start : tie.Need-cast-next-start Inv-loop μ-loop
 cast-next-start c = search needs
@@ -100,14 +96,14 @@ add-next-start-2 : tie.Need-add-next-start-2 Inv-loop μ-loop
 unfolding subjectLimit
 add-next-start-2 c =
     let l = c .before .before .before .before .before .before .before .before .before .before .before .before .before .loop in
-    let s = c .before .before .before .before .before .before .before .before .before .before .before .before .before .before .before .before .before .before .before .before .before in
+    let s = c .before .before .before .before .before .before .before .before .before .before .before .before .before .before .before .before .before .before .before .before in
     omega (arith, l .inv .small, c .before .before .before .before .before .before .before .before .before .before .before .before .loop-test .taken, s .pre .0 .0 .subject-fits)
 
 next-start-requires : tie.Need-next-start-requires Inv-loop μ-loop
 unfolding subjectLimit
 next-start-requires c κs =
     let l = c .before .before .before .before .before .before .before .before .before .before .before .before .before .loop in
-    let s = c .before .before .before .before .before .before .before .before .before .before .before .before .before .before .before .before .before .before .before .before .before in
+    let s = c .before .before .before .before .before .before .before .before .before .before .before .before .before .before .before .before .before .before .before .before in
     (omega (arith, c .before .before .before .before .before .before .before .before .before .before .before .before .loop-test .taken), s .pre .0 .0 .subject-fits, omega (arith, l .inv .small, c .before .before .before .before .before .before .before .before .before .before .before .before .loop-test .taken, s .pre .0 .0 .subject-fits))
 
 loop-less : tie.Need-loop-less Inv-loop μ-loop
@@ -117,22 +113,22 @@ loop-again : tie.Need-loop-again Inv-loop μ-loop
 unfolding workAreaNeed
 loop-again c =
     let l = c .before .before .before .before .before .before .before .before .before .before .before .before .before .before .loop in
-    let s = c .before .before .before .before .before .before .before .before .before .before .before .before .before .before .before .before .before .before .before .before .before .before in
-    let b = c .before .before .before .before .before .before .before .before .before .before .before .before .before .before .before .before .before .before .before .before .shared-slice-known2 in
+    let s = c .before .before .before .before .before .before .before .before .before .before .before .before .before .before .before .before .before .before .before .before .before in
+    let b = c .before .before .before .before .before .before .before .before .before .before .before .before .before .before .before .before .before .before .before .shared-slice-known2 in
     let room = enough-room (s .args .budget) (length (now (s .args .work))) (s .pre .0 .0 .work-fits) in
     let u = c .before .before .before .before .before .before .before .before .before .run-to-end in
     let t = c .before .before .before .before .before .before .before .before .before .before .before .before .start in
-    let g = seeking-on (l .inv) (λ i. omega (arith, b .given i)) (s .pre .1) room (c .before .before .before .before .before .before .before .before .before .before .before .before .before .loop-test .taken) (t .result) (t .ensures) (u .ensures) _ (c .before .before .before .used2 .given .1) (omega arith) (u .kept .1 .1 .1 .0) (s .pre .0 .0 .tree) (s .pre .0 .0 .stands) in
-    rw (c .next-start .ensures .1) (seeking-from (λ i. omega (arith, b .given i)) (s .pre .1) room (omega arith) (c .before .before .before .before .before .before .before .before .before .before .before .before .before .before .before .before .find-opening .result) (c .before .before .before .before .before .before .before .before .before .before .before .before .before .before .before .before .find-opening .ensures) _ _ _ (omega arith) (c .next-start .ensures .0) g)
+    let g = seeking-on (l .inv) (λ i. omega (arith, b .given i)) (s .pre .1 .0) room (c .before .before .before .before .before .before .before .before .before .before .before .before .before .loop-test .taken) (t .result) (t .ensures) (u .ensures) _ (c .before .before .before .used2 .given .1) (omega arith) (u .kept .1 .1 .1 .0) (s .pre .0 .0 .tree) (s .pre .0 .0 .stands) in
+    rw (c .next-start .ensures .1) (seeking-from (λ i. omega (arith, b .given i)) (s .pre .1 .0) room (omega arith) (c .before .before .before .before .before .before .before .before .before .before .before .before .before .before .before .before .before .before .before .before .before .args .opening) (c .before .before .before .before .before .before .before .before .before .before .before .before .before .before .before .before .before .before .before .before .before .pre .1 .1) _ _ _ (omega arith) (c .next-start .ensures .0) g)
 
 enum-told : tie.Need-enum-told Inv-loop μ-loop
 enum-told c = search needs
 
-add-t40 : tie.Need-add-t40 Inv-loop μ-loop
+add-t39 : tie.Need-add-t39 Inv-loop μ-loop
 unfolding subjectLimit
-add-t40 c =
+add-t39 c =
     let l = c .before .before .before .before .before .before .before .before .before .before .before .loop in
-    let s = c .before .before .before .before .before .before .before .before .before .before .before .before .before .before .before .before .before .before .before in
+    let s = c .before .before .before .before .before .before .before .before .before .before .before .before .before .before .before .before .before .before in
     omega (arith, l .inv .small, c .before .before .before .before .before .before .before .before .before .before .loop-test .taken, s .pre .0 .0 .subject-fits)
 
 same-length-4 : tie.Need-same-length-4 Inv-loop μ-loop
@@ -148,12 +144,12 @@ returns-2 : tie.Need-returns-2 Inv-loop μ-loop
 unfolding workAreaNeed
 returns-2 c =
     let l = c .before .before .before .before .before .before .before .before .before .before .before .loop in
-    let s = c .before .before .before .before .before .before .before .before .before .before .before .before .before .before .before .before .before .before .before in
-    let b = c .before .before .before .before .before .before .before .before .before .before .before .before .before .before .before .before .before .shared-slice-known2 in
+    let s = c .before .before .before .before .before .before .before .before .before .before .before .before .before .before .before .before .before .before in
+    let b = c .before .before .before .before .before .before .before .before .before .before .before .before .before .before .before .before .shared-slice-known2 in
     let room = enough-room (s .args .budget) (length (now (s .args .work))) (s .pre .0 .0 .work-fits) in
     let u = c .before .before .before .before .before .before .run-to-end in
     let t = c .before .before .before .before .before .before .before .before .before .start in
-    seeking-spent (l .inv) (λ i. omega (arith, b .given i)) (s .pre .1) room (c .before .before .before .before .before .before .before .before .before .before .loop-test .taken) (t .result) (t .ensures) (u .ensures) (c .enum-told .given .1)
+    seeking-spent (l .inv) (λ i. omega (arith, b .given i)) (s .pre .1 .0) room (c .before .before .before .before .before .before .before .before .before .before .loop-test .taken) (t .result) (t .ensures) (u .ensures) (c .enum-told .given .1)
 
 same-length-7 : tie.Need-same-length-7 Inv-loop μ-loop
 same-length-7 c = ap (λ (r : List ℕ). length r) (c .before .loop .inv .same)
@@ -173,15 +169,14 @@ search-spec =
     (tie.spec
     Inv-loop
     μ-loop
-    find-opening-requires
     loop-holds
     cast-loop
     start-requires
     run-to-end-requires
     enum-known-used
     write-row-requires
-    cast-t33
-    add-t34
+    cast-t32
+    add-t33
     same-length
     same-length-2
     same-length-3
@@ -194,7 +189,7 @@ search-spec =
     loop-less
     loop-again
     enum-told
-    add-t40
+    add-t39
     same-length-4
     same-length-5
     same-length-6

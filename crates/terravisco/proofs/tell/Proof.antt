@@ -4,10 +4,6 @@ use Rattle.terravisco.specs.Answers.{numbers}
 use borrow.Author.Needs.{needs}
 use Rattle.terravisco.proofs.tell.Statement.{statement}
 use Rattle.terravisco.proofs.tell.Tie as tie
-use Rattle.terravisco.proofs.tell.Reads as reads
-use Rattle.terravisco.proofs.tell.Lts as lts
-use Rattle.terravisco.proofs.high_half.Reads as high-half-reads
-use Rattle.terravisco.proofs.low_half.Reads as low-half-reads
 
 low-half-requires : tie.Need-low-half-requires
 low-half-requires c κs = search needs

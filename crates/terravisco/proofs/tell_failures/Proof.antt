@@ -1,13 +1,10 @@
 -- `tell_failures` meets its contract: the eleven numbers are written as the definitions list them.
 use mathlib.Core.Path.{refl}
-use Rattle.terravisco.specs.Answers.{low, numbers, failureNumbers}
+use Rattle.semantics.specs.Batches.{low}
+use Rattle.terravisco.specs.Answers.{numbers, failureNumbers}
 use borrow.Author.Needs.{needs}
 use Rattle.terravisco.proofs.tell_failures.Statement.{statement}
 use Rattle.terravisco.proofs.tell_failures.Tie as tie
-use Rattle.terravisco.proofs.tell_failures.Reads as reads
-use Rattle.terravisco.proofs.tell_failures.Lts as lts
-use Rattle.terravisco.proofs.high_half.Reads as high-half-reads
-use Rattle.terravisco.proofs.low_half.Reads as low-half-reads
 
 low-half-requires : tie.Need-low-half-requires
 low-half-requires c κs = search needs

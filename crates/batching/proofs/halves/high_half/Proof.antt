@@ -1,11 +1,9 @@
 -- `high_half` meets its contract: the quotient is the definition's.
 use mathlib.Core.Path.{refl}
-use Rattle.terravisco.specs.Answers.{high}
+use Rattle.semantics.specs.Batches.{high}
 use borrow.Author.Needs.{needs}
-use Rattle.terravisco.proofs.high_half.Statement.{statement}
-use Rattle.terravisco.proofs.high_half.Tie as tie
-use Rattle.terravisco.proofs.high_half.Reads as reads
-use Rattle.terravisco.proofs.high_half.Lts as lts
+use Rattle.batching.proofs.halves.high_half.Statement.{statement}
+use Rattle.batching.proofs.halves.high_half.Tie as tie
 
 cast-result : tie.Need-cast-result
 cast-result c = search needs

@@ -1,11 +1,9 @@
 -- `low_half` meets its contract: the remainder is the definition's.
 use mathlib.Core.Path.{refl}
-use Rattle.terravisco.specs.Answers.{low}
+use Rattle.semantics.specs.Batches.{low}
 use borrow.Author.Needs.{needs}
-use Rattle.terravisco.proofs.low_half.Statement.{statement}
-use Rattle.terravisco.proofs.low_half.Tie as tie
-use Rattle.terravisco.proofs.low_half.Reads as reads
-use Rattle.terravisco.proofs.low_half.Lts as lts
+use Rattle.batching.proofs.halves.low_half.Statement.{statement}
+use Rattle.batching.proofs.halves.low_half.Tie as tie
 
 cast-result : tie.Need-cast-result
 cast-result c = search needs

@@ -1,0 +1,80 @@
+-- One more line for each 0A that is counted. The first line of what is left of a buffer ends where `text` finds its end, and the others stand behind that.
+use mathlib.Core.Path.{_≡_, refl, ap, sym, _∙_}
+use mathlib.Core.List.{List, [], _∷_}
+use mathlib.Core.Bool.{Bool, true, false, cond}
+use Prim.Native.Nat.{ℕ, suc, _+_, _-_, _≤_, _<_}
+use native.Mathlib.Omega.{arith}
+use native.Mathlib.Numerals.{add-one}
+use borrow.Author.Tests.{eq-eqb, ne-eqb}
+use lib.Dec.{eqb}
+use lib.ListN.{length, getD, take, drop, length-drop}
+use lib.Seq.{drop-drop}
+use Rattle.text.specs.Lines.{newline, lineLength}
+use Rattle.semantics.specs.Assertions.{isNewline}
+use Rattle.semantics.specs.Batches.{before, linesOf}
+use Rattle.semantics.specs.BatchDemands.{oneMoreIf, newlines}
+use Rattle.semantics.specs.Laws.Lines.{many-lines-of, newlines-next, lines-at-end}
+
+first-line : (s : List ℕ) → 0 < length s → linesOf s ≡ take (lineLength s) s ∷ linesOf (drop (suc (lineLength s)) s)
+unfolding linesOf before isNewline lineLength newline
+first-line [] h = absurd (omega arith)
+first-line (b ∷ []) h = go (eqb b 10)
+  where
+    go : (t : Bool) → before t b [] ≡ take (cond t 0 1) (b ∷ []) ∷ linesOf (drop (suc (cond t 0 1)) (b ∷ []))
+    go true = refl
+    go false = refl
+first-line (b ∷ a ∷ s) h = go (eqb b 10) (first-line (a ∷ s) (omega arith))
+  where
+    go : (t : Bool) → linesOf (a ∷ s) ≡ take (lineLength (a ∷ s)) (a ∷ s) ∷ linesOf (drop (suc (lineLength (a ∷ s))) (a ∷ s))
+        → before t b (linesOf (a ∷ s)) ≡ take (cond t 0 (suc (lineLength (a ∷ s)))) (b ∷ a ∷ s) ∷ linesOf (drop (suc (cond t 0 (suc (lineLength (a ∷ s))))) (b ∷ a ∷ s))
+    go true e = refl
+    go false e = ap (before false b) e
+
+-- the same from a position on, up to the position of the line's end
+pub next-line : (buffer : List ℕ) (from to : ℕ) → from < length buffer → to ≡ from + lineLength (drop from buffer)
+    → linesOf (drop from buffer) ≡ take (to - from) (drop from buffer) ∷ linesOf (drop (to + 1) buffer)
+next-line buffer from to h e =
+    let s = drop from buffer in
+    let n : to - from ≡ lineLength s = omega arith in
+    let m : to + 1 ≡ from + suc (lineLength s) = omega arith in
+    rw (n, m, ← (drop-drop (suc (lineLength s)) from buffer)) (first-line s (omega (arith, length-drop from buffer)))
+
+-- Counting ------------------------------------------------------------------------
+
+newline-is : (b : ℕ) → b ≡ 10 → isNewline b ≡ true
+unfolding isNewline
+newline-is b e = eq-eqb b 10 e
+
+none-is : (b : ℕ) → (b ≡ 10 → ⊥) → isNewline b ≡ false
+unfolding isNewline
+none-is b f = ne-eqb b 10 f
+
+pub counts-newline : (b n : ℕ) → b ≡ 10 → n + 1 ≡ oneMoreIf (isNewline b) n
+unfolding oneMoreIf
+counts-newline b n e = rw (newline-is b e) (add-one n)
+
+pub counts-no-newline : (b n : ℕ) → (b ≡ 10 → ⊥) → n ≡ oneMoreIf (isNewline b) n
+unfolding oneMoreIf
+counts-no-newline b n f = rw (none-is b f) refl
+
+-- a byte counts for one line at most
+pub counts-at-most : (t : Bool) (n : ℕ) → oneMoreIf t n ≤ suc n
+unfolding oneMoreIf
+counts-at-most true n = omega arith
+counts-at-most false n = omega arith
+
+counts-later : (t : Bool) (n : ℕ) → oneMoreIf t (suc n) ≡ suc (oneMoreIf t n)
+unfolding oneMoreIf
+counts-later true n = refl
+counts-later false n = refl
+
+-- before the next byte there is one more than the 0A so far
+pub counts-on : (buffer : List ℕ) (i lines next : ℕ) → i < length buffer → lines ≡ suc (newlines (take i buffer)) → next ≡ oneMoreIf (isNewline (getD buffer i 0)) lines → next ≡ suc (newlines (take (i + 1) buffer))
+counts-on buffer i lines next h e f = f ∙ rw (e, add-one i, newlines-next buffer i h) (counts-later (isNewline (getD buffer i 0)) (newlines (take i buffer)))
+
+-- at the last byte all lines are counted
+pub counted-all : (buffer : List ℕ) (last lines : ℕ) → last + 1 ≡ length buffer → lines ≡ suc (newlines (take last buffer)) → lines ≡ length (linesOf buffer)
+counted-all buffer last lines h e = e ∙ sym (many-lines-of buffer last (omega arith))
+
+pub counted-none : (buffer : List ℕ) → length buffer ≡ 0 → 0 ≡ length (linesOf buffer)
+counted-none buffer h = sym (ap {B = ℕ} length (lines-at-end buffer 0 (omega arith)))

@@ -1,0 +1,69 @@
+// A day's lines in one call (02, request h): one rule, a buffer of lines split at 0A, and for each line its part of the result area, a row and then
+// four numbers that tell its outcome. `match_lines` is the call, and `match_lines_held` its inside, for a rule that stands compiled.
+//
+// The rule is compiled once, its opening is found once, and what was lent is cleared once. Beyond that a line costs the search for its end, its match
+// and four stores, and its row only if it is matched: whatever stands before it, so that the whole grows in proportion to the buffer.
+//
+// Before each line the parts of those before it stand, everything behind them is as it was lent, and what is left of the buffer has the lines that are
+// left. What a line's match leaves in the work area is never looked at by the next, so that nothing is cleared between them and no line can change what
+// is told of another.
+//
+// The buffer is gone over twice. That the lines outnumber the parts is a refusal in its place among the others, before the rule is read, so the lines are
+// counted first: a small part of what their matches cost. No line counts for the refusals of the call, since one that is too long is told in its own part.
+mod counting;
+mod halves;
+mod lines;
+mod parts;
+
+pub use counting::count_lines;
+use frame::Preparation;
+use frame::RULE_AREA_NEED;
+use frame::finish;
+use frame::prepare;
+pub use halves::high_half;
+pub use halves::low_half;
+pub use lines::match_lines_held;
+pub use parts::PART_LENGTH;
+use syntax::Refusal;
+ghost use Rattle.semantics.specs.Batches.{batchCall};
+ghost use Rattle.frame.specs.Inputs.{callOf, Returned};
+ghost use Rattle.batching.specs.Batches.{batchOf};
+
+// What a day's lines tell: how many they are, each with its outcome in its part; or why the whole call is refused.
+pub enum Batch {
+    Done(usize),
+    Refused(Refusal),
+}
+
+// Matches a rule against each line of a buffer. The parts of the lines are written into the results, and the name index is filled.
+pub fn match_lines(
+    rule: &[u8],
+    flags: u32,
+    buffer: &[u8],
+    budget: u32,
+    rule_area: &mut [u32],
+    work_area: &mut [u32],
+    results: &mut [u32],
+    names: &mut [u8],
+) -> Batch
+    ensures { λ r. ⌜ Returned (batchCall (callOf (now (rule .entry)) flags (now (buffer .entry)) budget (now («rule_area» .entry)) (now («work_area» .entry)) (now (results .entry)) (now (names .entry)))) (batchOf r) (now («rule_area» .exit)) (now («work_area» .exit)) (now (results .exit)) (now (names .exit)) ⌝ }
+{
+    let lines = count_lines(buffer);
+    let short = results.len() / PART_LENGTH < lines;
+    // no line counts for the call itself: one that is too long is told in its own part
+    match prepare(rule, flags, 0, budget, rule_area, work_area, short, names) {
+        Preparation::Refused(f) => Batch::Refused(f),
+        Preparation::Ready(entry, _groups) => {
+            match_lines_held(
+                &rule_area[..RULE_AREA_NEED],
+                entry,
+                buffer,
+                budget,
+                work_area,
+                results,
+            );
+            finish(rule_area, work_area, budget);
+            Batch::Done(lines)
+        }
+    }
+}

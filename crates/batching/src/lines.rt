@@ -1,0 +1,47 @@
+// The lines of a buffer, one after another, over a rule that stands compiled. Before each line the parts of those before it stand, and what is left of
+// the buffer has the lines that are left.
+use crate::parts::PART_LENGTH;
+use crate::parts::match_part;
+use openings::find_opening;
+use text::line_end;
+ghost use mathlib.Core.Path.{_≡_};
+ghost use mathlib.Core.List.{[]};
+ghost use Prim.Native.Nat.{_≤_};
+ghost use lib.ListN.{length, drop};
+ghost use Rattle.semantics.specs.Calls.{workAreaNeed};
+ghost use Rattle.semantics.specs.Batches.{linesOf, partsNeed};
+ghost use Rattle.frame.specs.Inputs.{Held};
+ghost use Rattle.batching.specs.Parts.{Fills};
+
+// Writes the parts of all lines of a buffer, by a rule that stands compiled.
+pub fn match_lines_held(
+    code: &[u32],
+    entry: u32,
+    buffer: &[u8],
+    budget: u32,
+    work: &mut [u32],
+    results: &mut [u32],
+)
+    requires { ⌜ Held (now code) [] (now work) entry budget × (partsNeed (linesOf (now buffer)) ≤ length (now results)) ⌝ }
+    ensures { λ _. ⌜ Fills (now (code .entry)) (linesOf (now (buffer .entry))) (now (results .entry)) (now (results .exit)) entry budget ⌝ }
+    ensures { λ _. ⌜ drop (workAreaNeed budget) (now (work .exit)) ≡ drop (workAreaNeed budget) (now (work .entry)) ⌝ }
+{
+    let opening = find_opening(code, entry, budget, buffer.len());
+    let mut from: usize = 0;
+    let mut at: usize = 0;
+    while from < buffer.len() {
+        let to = line_end(buffer, from);
+        let behind = at + PART_LENGTH;
+        match_part(
+            code,
+            entry,
+            opening,
+            &buffer[from..to],
+            budget,
+            work,
+            &mut results[at..behind],
+        );
+        at = behind;
+        from = to + 1;
+    }
+}

@@ -1,0 +1,100 @@
+// A line's part of the result area: its row, which its match writes or leaves, and four numbers behind it. A line that is too long is not matched, and
+// told as refused; its row stays.
+use crate::halves::high_half;
+use crate::halves::low_half;
+use frame::SUBJECT_LIMIT;
+use index::ROW_LENGTH;
+use matching::Outcome;
+use matching::match_opened;
+use openings::Opening;
+use syntax::Reason;
+use syntax::Refusal;
+ghost use mathlib.Core.Path.{_≡_};
+ghost use mathlib.Core.List.{_∷_, []};
+ghost use lib.ListN.{length, drop};
+ghost use Rattle.syntax.specs.Limits.{rowLength, partLength};
+ghost use Rattle.semantics.specs.Calls.{workAreaNeed};
+ghost use Rattle.semantics.specs.Batches.{low, high, outcomeNumbers};
+ghost use Rattle.openings.specs.Openings.{Opens};
+ghost use Rattle.frame.specs.Inputs.{Held};
+ghost use Rattle.matching.specs.Outcomes.{outcomeOf};
+ghost use Rattle.batching.specs.Parts.{Answers, Tells};
+
+// all numbers of a part
+pub const PART_LENGTH: usize = ROW_LENGTH + 4;
+
+// Writes the four numbers behind a row: the kind, the start or the reason, and the steps in two halves.
+fn put(numbers: &mut [u32], kind: u32, which: u32, steps: u64)
+    requires { ⌜ length (now numbers) ≡ 4 ⌝ }
+    ensures { λ _. ⌜ now (numbers .exit) ≡ kind ∷ which ∷ low steps ∷ high steps ∷ [] ⌝ }
+{
+    numbers[0] = kind;
+    numbers[1] = which;
+    numbers[2] = low_half(steps);
+    numbers[3] = high_half(steps);
+}
+
+// Writes an outcome in four numbers.
+fn tell(numbers: &mut [u32], outcome: Outcome)
+    requires { ⌜ length (now numbers) ≡ 4 ⌝ }
+    ensures { λ _. ⌜ now (numbers .exit) ≡ outcomeNumbers (outcomeOf outcome) ⌝ }
+{
+    match outcome {
+        Outcome::Matched(steps) => put(numbers, 0, 0, steps),
+        Outcome::NotMatched(steps) => put(numbers, 1, 0, steps),
+        Outcome::Exhausted(start, steps) => put(numbers, 2, start, steps),
+        Outcome::Refused(f) => {
+            let reason = f.reason;
+            put(numbers, 3, syntax::number(reason), 0);
+        }
+    }
+}
+
+// The match of one line, with its row written; or its refusal, if it is too long.
+fn match_one(
+    code: &[u32],
+    entry: u32,
+    opening: Opening,
+    line: &[u8],
+    budget: u32,
+    work: &mut [u32],
+    row: &mut [u32],
+) -> Outcome
+    requires { ⌜ Held (now code) [] (now work) entry budget × Opens (now code) entry budget opening × (length (now row) ≡ rowLength) ⌝ }
+    ensures { λ r. ⌜ Answers (now (code .entry)) (now (line .entry)) (now (row .entry)) (now (row .exit)) entry budget r ⌝ }
+    ensures { λ _. ⌜ drop (workAreaNeed budget) (now (work .exit)) ≡ drop (workAreaNeed budget) (now (work .entry)) ⌝ }
+{
+    if SUBJECT_LIMIT < line.len() {
+        return Outcome::Refused(Refusal {
+            place: 0,
+            reason: Reason::SubjectTooLong,
+        });
+    }
+    match_opened(code, entry, opening, line, budget, work, row)
+}
+
+// The part of one line.
+pub fn match_part(
+    code: &[u32],
+    entry: u32,
+    opening: Opening,
+    line: &[u8],
+    budget: u32,
+    work: &mut [u32],
+    part: &mut [u32],
+)
+    requires { ⌜ Held (now code) [] (now work) entry budget × Opens (now code) entry budget opening × (length (now part) ≡ partLength) ⌝ }
+    ensures { λ _. ⌜ Tells (now (code .entry)) (now (line .entry)) (now (part .entry)) (now (part .exit)) entry budget ⌝ }
+    ensures { λ _. ⌜ drop (workAreaNeed budget) (now (work .exit)) ≡ drop (workAreaNeed budget) (now (work .entry)) ⌝ }
+{
+    let outcome = match_one(
+        code,
+        entry,
+        opening,
+        line,
+        budget,
+        work,
+        &mut part[..ROW_LENGTH],
+    );
+    tell(&mut part[ROW_LENGTH..PART_LENGTH], outcome);
+}
