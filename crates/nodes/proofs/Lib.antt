@@ -1,3 +1,4 @@
 -- The laws that the functions' proofs cite.
 pub mod Tests
 pub mod Comparing
+pub mod WordRows

@@ -1,6 +1,7 @@
 // The zero-width assertions.
 ghost use mathlib.Core.Path.{_≡_};
-ghost use Prim.Native.Nat.{_<_, _^_};
+ghost use Prim.Native.Nat.{ℕ, _/_, _%_, _<_, _^_};
+ghost use lib.Dec.{eqb};
 ghost use Rattle.syntax.specs.declared.Assertion.the-variants.{LineStart, LastLineEnd, LineEnd, WordBoundary};
 ghost use Rattle.syntax.specs.Read.{byte};
 ghost use Rattle.semantics.specs.Assertions.{byteBefore, isWord, holds};
@@ -31,29 +32,25 @@ fn byte_before(sub: &[u8], at: usize) -> u32
     NO_BYTE
 }
 
-// Whether there is a byte, and it is a word byte: a digit, a letter or `_`. The table of the named sets would be made anew at each use.
+// The word bytes among 32 byte values in a row, a bit for each: the digits in the second row, the letters and `_` in the third and fourth.
+fn word_row(row: u32) -> u32
+    ensures { λ r. ⌜ ((b : ℕ) → b / 32 ≡ row → eqb (r / 2 ^ (b % 32) % 2) 1 ≡ isWord b) ⌝ }
+{
+    match row {
+        1 => 0x03FF0000,
+        2 => 0x87FFFFFE,
+        3 => 0x07FFFFFE,
+        _ => 0,
+    }
+}
+
+// Whether there is a byte, and it is a word byte: a digit, a letter or `_`. Words end where no branch can be foretold, so that none is asked: the bit of
+// the byte is. The table of the named sets would be made anew at each use.
 fn is_word(b: u32) -> bool
     ensures { λ r. ⌜ r ≡ isWord b ⌝ }
 {
-    if b < b'0' as u32 {
-        return false;
-    }
-    if b <= b'9' as u32 {
-        return true;
-    }
-    if b < b'A' as u32 {
-        return false;
-    }
-    if b <= b'Z' as u32 {
-        return true;
-    }
-    if b == b'_' as u32 {
-        return true;
-    }
-    if b < b'a' as u32 {
-        return false;
-    }
-    b <= b'z' as u32
+    let row = word_row(b >> 5);
+    (row >> (b & 31)) & 1 == 1
 }
 
 fn at_line_start(sub: &[u8], at: usize) -> bool
