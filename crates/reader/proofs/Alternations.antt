@@ -13,7 +13,7 @@ use Rattle.syntax.specs.Names.{Names}
 use Rattle.syntax.specs.Grammar.{branch, further, alternation, inside}
 use Rattle.syntax.specs.Laws.Forward.{inside-on}
 use Rattle.syntax.specs.Laws.Fuel.{further-turn}
-use Rattle.lexer.specs.Says.{Peeked}
+use Rattle.lexemes.specs.Says.{Peeked}
 use Rattle.linker.specs.Table.{namesIn, NamesFit}
 use Rattle.linker.specs.Nodes.{Chain, Inside}
 use Rattle.linker.proofs.Regions.{several-same}

@@ -11,7 +11,7 @@ use Rattle.syntax.specs.Tree.{Rule}
 use Rattle.syntax.specs.Names.{Names}
 use Rattle.syntax.specs.Quantifiers.{quantifier}
 use Rattle.syntax.specs.Grammar.{Inner, closing, grouped, Sequence, repeatable, whole, nextItem, part, alternation, inside}
-use Rattle.lexer.specs.Says.{Peeked}
+use Rattle.lexemes.specs.Says.{Peeked}
 use Rattle.linker.specs.Table.{namesIn, NamesFit, length-names}
 use Rattle.linker.specs.Nodes.{Inside}
 use Rattle.reader.specs.declared.Cursor.{Cursor}

@@ -19,9 +19,9 @@ use Rattle.syntax.specs.Tree.{Rule, group}
 use Rattle.syntax.specs.Names.{Name, Names, wordAt, isName, nameUpTo, isUsed, fresh, groupCalled}
 use Rattle.syntax.specs.Grammar.{Inner, closing, capturing, grouped, alternation, inside}
 use Rattle.syntax.specs.Laws.Forward.{Given, Past, if-given}
-use Rattle.lexer.specs.declared.NameRead.{NameRead}
-use Rattle.lexer.specs.declared.NameRead.the-variants.{Named, BadName}
-use Rattle.lexer.specs.Says.{Peeked, SaysName, SaysNameUpTo}
+use Rattle.lexemes.specs.declared.NameRead.{NameRead}
+use Rattle.lexemes.specs.declared.NameRead.the-variants.{Named, BadName}
+use Rattle.lexemes.specs.Says.{Peeked, SaysName, SaysNameUpTo}
 use Rattle.linker.specs.Table.{namesIn, NamesFit, length-names}
 use Rattle.reader.specs.declared.Bracket.{Bracket}
 use Rattle.reader.specs.declared.Bracket.the-variants.{Begins, Unknown}

@@ -11,7 +11,7 @@ use Rattle.syntax.specs.Read.{sound, refused}
 use Rattle.syntax.specs.Tree.{Rule, group}
 use Rattle.syntax.specs.Names.{Names}
 use Rattle.syntax.specs.Grammar.{closing}
-use Rattle.lexer.specs.Says.{Peeked}
+use Rattle.lexemes.specs.Says.{Peeked}
 use Rattle.reader.specs.declared.Cursor.{Cursor}
 use Rattle.reader.specs.declared.Answer.the-variants.{Sound, Refused}
 use Rattle.reader.specs.Wrote.{Wrote}

@@ -16,7 +16,7 @@ use Rattle.syntax.specs.Laws.Blanks.{blanks-on, blanks-in}
 use Rattle.syntax.specs.Laws.Forward.{inside-on}
 use Rattle.syntax.specs.Laws.Fuel.{sequence-turn}
 use Rattle.syntax.specs.Laws.Within.{ends-false}
-use Rattle.lexer.specs.Says.{Peeked}
+use Rattle.lexemes.specs.Says.{Peeked}
 use Rattle.linker.specs.Table.{namesIn, NamesFit}
 use Rattle.reader.specs.declared.Cursor.{Cursor}
 use Rattle.reader.specs.declared.Answer.the-variants.{Sound, Refused}

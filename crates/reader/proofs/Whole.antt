@@ -14,7 +14,7 @@ use Rattle.syntax.specs.Tree.{Rule}
 use Rattle.syntax.specs.Names.{Names}
 use Rattle.syntax.specs.Grammar.{alternation, inside}
 use Rattle.syntax.specs.Reading.{parsed}
-use Rattle.lexer.specs.Says.{Peeked}
+use Rattle.lexemes.specs.Says.{Peeked}
 use Rattle.linker.specs.Table.{namesIn}
 use Rattle.linker.specs.Nodes.{Inside}
 use Rattle.reader.specs.declared.Cursor.{Cursor}

@@ -1,7 +1,7 @@
 // Reads a rule's alternations, sequences, items and groups, and appends a node for each part to a lent area. The names of its groups go to a table of
 // their own: two numbers for each, where the name begins in the rule, and its length.
-use lexer::behind_blanks;
-use lexer::peek;
+use lexemes::behind_blanks;
+use lexemes::peek;
 use syntax::Reason;
 use syntax::Refusal;
 ghost use mathlib.Core.Path.{_≡_};

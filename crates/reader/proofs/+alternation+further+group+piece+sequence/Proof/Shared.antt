@@ -17,8 +17,8 @@ use Rattle.reader.proofs.+alternation+further+group+piece+sequence.Lts-
 use Rattle.reader.proofs.sequence.Reads as sequence
 use Rattle.reader.proofs.sequence.Kinds as sequence-kinds
 use Rattle.reader.proofs.+alternation+further+group+piece+sequence.Lts-sequence as sequence-lts
-use Rattle.lexer.proofs.behind_blanks.Reads as behind-blanks-reads
-use Rattle.lexer.proofs.peek.Reads as peek-reads
+use Rattle.lexemes.proofs.behind_blanks.Reads as behind-blanks-reads
+use Rattle.lexemes.proofs.peek.Reads as peek-reads
 use Rattle.reader.proofs.behind.Reads as behind-reads
 use Rattle.reader.proofs.nodes.put_three.Reads as put-three-reads
 use Rattle.reader.proofs.openings.opening.Reads as opening-reads
