@@ -12,6 +12,7 @@ pub use ascii::CLOSING_BRACE;
 pub use ascii::CLOSING_BRACKET;
 pub use ascii::COLON;
 pub use ascii::END;
+pub use ascii::LESS;
 pub use ascii::MINUS;
 pub use ascii::OPENING_BRACE;
 pub use blanks::behind_blanks;
