@@ -21,19 +21,22 @@ use Rattle.syntax.specs.Names.{Name, Names, nameUpTo, groupCalled}
 use Rattle.syntax.specs.Escapes.{octal, common, forward, decimal, groupNumber, called, callsByName, escape}
 use Rattle.syntax.specs.Classes.{class}
 use Rattle.syntax.specs.Grammar.{atom}
-use Rattle.lexer.specs.declared.MemberRead.{MemberRead}
-use Rattle.lexer.specs.declared.MemberRead.the-variants.{Bad}
+use Rattle.escapes.specs.declared.MemberRead.{MemberRead}
+use Rattle.escapes.specs.declared.MemberRead.the-variants.{Bad}
 use Rattle.lexer.specs.declared.GroupRead.{GroupRead}
 use Rattle.lexer.specs.declared.GroupRead.the-variants.{Group, BadGroup}
-use Rattle.lexer.specs.declared.NameRead.{NameRead}
-use Rattle.lexer.specs.declared.NameRead.the-variants.{Named, BadName}
-use Rattle.lexer.specs.declared.ClassEnd.{ClassEnd}
-use Rattle.lexer.specs.declared.ClassEnd.the-variants.{Closed, BadClass}
+use Rattle.lexemes.specs.declared.NameRead.{NameRead}
+use Rattle.lexemes.specs.declared.NameRead.the-variants.{Named, BadName}
+use Rattle.classes.specs.declared.ClassEnd.{ClassEnd}
+use Rattle.classes.specs.declared.ClassEnd.the-variants.{Closed, BadClass}
 use Rattle.lexer.specs.declared.Lexed.{Lexed}
 use Rattle.lexer.specs.declared.Token.the-variants.{Byte}
-use Rattle.lexer.specs.Says.{memberOf, nextOf, isRead, groupOf, NameWithin, SaysName, HoldsClass, ClassIn, ItemIn, SaysItem}
-use Rattle.lexer.proofs.Digits.{inside, outside}
-use Rattle.lexer.proofs.MemberCases.{NotBad, sounds}
+use Rattle.lexemes.specs.Says.{NameWithin, SaysName}
+use Rattle.escapes.specs.Says.{memberOf}
+use Rattle.classes.specs.Says.{nextOf, isRead, HoldsClass, ClassIn}
+use Rattle.lexer.specs.Says.{groupOf, ItemIn, SaysItem}
+use Rattle.lexemes.proofs.Digits.{inside, outside}
+use Rattle.classes.proofs.MemberCases.{NotBad, sounds}
 
 -- equal readings say the same
 pub same-item : (s : List ℕ) (folded : Bool) (known : Names) {a b : Read Item} (r : Lexed) → a ≡ b → SaysItem s folded known a r → SaysItem s folded known b r

@@ -10,12 +10,13 @@ use Rattle.syntax.specs.Limits.{groupLimit}
 use Rattle.syntax.specs.Read.{byte, Read, sound, refused, andThen}
 use Rattle.syntax.specs.Numbers.{digits, value}
 use Rattle.syntax.specs.Escapes.{forward, backward, decimal, signed, groupNumber}
-use Rattle.lexer.specs.declared.Number.{Number}
+use Rattle.lexemes.specs.declared.Number.{Number}
 use Rattle.lexer.specs.declared.GroupRead.{GroupRead}
 use Rattle.lexer.specs.declared.GroupRead.the-variants.{Group, BadGroup}
-use Rattle.lexer.specs.Says.{capped, Counts, groupOf}
-use Rattle.lexer.proofs.Capped.{capped-zero, capped-minus, capped-if}
-use Rattle.lexer.proofs.Digits.{counted-none, counted-some}
+use Rattle.lexemes.specs.Says.{capped, Counts}
+use Rattle.lexer.specs.Says.{groupOf}
+use Rattle.lexemes.proofs.Capped.{capped-zero, capped-minus, capped-if}
+use Rattle.lexemes.proofs.Digits.{counted-none, counted-some}
 
 -- a run of digits, and the group that f makes of its number
 module _ (f : ℕ → ℕ) (s : List ℕ) (at start : ℕ) (r : Number) (c : Counts 10 s start r) where

@@ -1,27 +1,27 @@
 // Items that are no group. `at` is the position of an item's first byte. The words of a byte item hold its class, folded under the flag `i`; where
 // that makes no difference, as for `.`, the promise is for both.
-use crate::ClassEnd;
-use crate::ClassRead;
 use crate::GroupRead;
 use crate::Lexed;
-use crate::MemberRead;
-use crate::NameRead;
 use crate::Token;
-use crate::ascii::END;
-use crate::called::called_at;
-use crate::called::calls_by_name;
-use crate::called::name_at;
-use crate::classes::class_at;
-use crate::classes::with_member;
-use crate::escapes::common_at;
-use crate::escapes::octal_at;
-use crate::members::next_of;
-use crate::numbers::peek;
 use crate::references::forward_at;
 use crate::references::group_number_at;
 use charset::add;
 use charset::complement;
 use charset::empty;
+use classes::ClassEnd;
+use classes::ClassRead;
+use classes::class_at;
+use classes::next_of;
+use classes::with_member;
+use escapes::MemberRead;
+use escapes::common_at;
+use escapes::octal_at;
+use lexemes::END;
+use lexemes::NameRead;
+use lexemes::called_at;
+use lexemes::calls_by_name;
+use lexemes::name_at;
+use lexemes::peek;
 use syntax::Assertion;
 use syntax::Refusal;
 ghost use mathlib.Core.Path.{_≡_};
@@ -38,7 +38,10 @@ ghost use Rattle.syntax.specs.Flags.{dotAll, multiline, ignoreCase};
 ghost use Rattle.syntax.specs.Names.{Name, Names, groupCalled};
 ghost use Rattle.syntax.specs.Escapes.{escape};
 ghost use Rattle.syntax.specs.Grammar.{atom};
-ghost use Rattle.lexer.specs.Says.{memberOf, groupOf, SaysName, HoldsClass, SaysClass, SaysItem};
+ghost use Rattle.lexemes.specs.Says.{SaysName};
+ghost use Rattle.escapes.specs.Says.{memberOf};
+ghost use Rattle.classes.specs.Says.{HoldsClass, SaysClass};
+ghost use Rattle.lexer.specs.Says.{groupOf, SaysItem};
 
 // Items with no class of their own -----------------------------------------------
 

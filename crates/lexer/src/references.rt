@@ -1,11 +1,11 @@
 // References to groups. Groups are numbered from 1, and 0 stands for one that no rule has. `at` is the backslash's position, and the place of
 // every refusal.
 use crate::GroupRead;
-use crate::ascii::CLOSING_BRACE;
-use crate::ascii::MINUS;
-use crate::ascii::OPENING_BRACE;
-use crate::numbers::number_at;
-use crate::numbers::peek;
+use lexemes::CLOSING_BRACE;
+use lexemes::MINUS;
+use lexemes::OPENING_BRACE;
+use lexemes::number_at;
+use lexemes::peek;
 use syntax::Reason;
 use syntax::Refusal;
 ghost use mathlib.Core.Path.{_≡_};

@@ -13,17 +13,18 @@ use Rattle.syntax.specs.Names.{Names}
 use Rattle.syntax.specs.Grammar.{branch, further, alternation, inside}
 use Rattle.syntax.specs.Laws.Forward.{inside-on}
 use Rattle.syntax.specs.Laws.Fuel.{further-turn}
-use Rattle.lexer.specs.Says.{Peeked}
+use Rattle.lexemes.specs.Says.{Peeked}
 use Rattle.linker.specs.Table.{namesIn, NamesFit}
 use Rattle.linker.specs.Nodes.{Chain, Inside}
 use Rattle.linker.proofs.Regions.{several-same}
-use Rattle.reader.specs.declared.Cursor.{Cursor}
-use Rattle.reader.specs.declared.Answer.{Answer}
-use Rattle.reader.specs.declared.Answer.the-variants.{Sound, Refused}
-use Rattle.reader.specs.Wrote.{Below, Wrote}
-use Rattle.reader.specs.Says.{price, behindNode, Ready, Moves, Naming, Branch, Furthers, Alternates}
+use Rattle.parts.specs.declared.Cursor.{Cursor}
+use Rattle.parts.specs.declared.Answer.{Answer}
+use Rattle.parts.specs.declared.Answer.the-variants.{Sound, Refused}
+use Rattle.writer.specs.Wrote.{Below, Wrote}
+use Rattle.parts.specs.Says.{price, behindNode, Ready, Moves}
+use Rattle.reader.specs.Says.{Naming, Branch, Furthers, Alternates}
 use Rattle.reader.proofs.Answers.{said, moved, named, says-as, moved-on, ready-on, naming-on}
-use Rattle.reader.proofs.Standing.{below-same, Pending, branch-put, last-put, single-branch}
+use Rattle.parts.proofs.Standing.{below-same, Pending, branch-put, last-put, single-branch}
 
 -- the loop stands behind some branches, the last of which has no node yet; `table` has the names of the groups so far
 pub record Pended (s : List ℕ) (flags depth : ℕ) (new table : List ℕ) (lo : ℕ) (d : Cursor) (before last : ℕ) (known : Names) (reading : Read (Rule × Names)) : Type 0 where

@@ -8,13 +8,14 @@ use Rattle.syntax.specs.Read.{Read}
 use Rattle.syntax.specs.Tree.{Rule}
 use Rattle.syntax.specs.Names.{Names}
 use Rattle.syntax.specs.Grammar.{Sequence}
-use Rattle.reader.specs.declared.Cursor.{Cursor}
-use Rattle.reader.specs.declared.Answer.{Answer}
-use Rattle.reader.specs.declared.Answer.the-variants.{Sound, Refused}
-use Rattle.reader.specs.declared.Turn.{Turn}
-use Rattle.reader.specs.declared.Turn.the-variants.{Goes, Ends}
+use Rattle.parts.specs.declared.Cursor.{Cursor}
+use Rattle.parts.specs.declared.Answer.{Answer}
+use Rattle.parts.specs.declared.Answer.the-variants.{Sound, Refused}
+use Rattle.parts.specs.declared.Turn.{Turn}
+use Rattle.parts.specs.declared.Turn.the-variants.{Goes, Ends}
 use Rattle.linker.specs.Table.{NamesFit}
-use Rattle.reader.specs.Says.{price, Ready, Moves, Moved, MovedTurn, Told, Naming, Named, NamedTurn, NoneOpened, NoneOpenedTurn, Standing, Says, SaysTurn}
+use Rattle.parts.specs.Says.{price, Ready, Moves, Moved, MovedTurn, Told, NoneOpened, NoneOpenedTurn, Standing, Says, SaysTurn}
+use Rattle.reader.specs.Says.{Naming, Named, NamedTurn}
 
 -- the answer is known to be x
 pub said : (H : Standing) (told : Told) (a : Read (Rule × Names)) (area : List ℕ) (lo : ℕ) (r x : Answer) → r ≡ x → Says H told a area lo r → Says H told a area lo x

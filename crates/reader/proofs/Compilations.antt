@@ -23,10 +23,10 @@ use Rattle.linker.specs.Table.{Spelled, namesIn, NamesFit, spelled-same, spelle
 use Rattle.linker.specs.Linking.{Fits, Linkable, Outside, Entered, Whole, LinksWhole}
 use Rattle.linker.specs.Laws.{fits-whole}
 use Rattle.linker.proofs.Compiled.{keep}
-use Rattle.reader.specs.declared.Cursor.{Cursor}
-use Rattle.reader.specs.declared.Answer.the-variants.{Sound}
+use Rattle.parts.specs.declared.Cursor.{Cursor}
+use Rattle.parts.specs.declared.Answer.the-variants.{Sound}
 use Rattle.reader.specs.Areas.{tableStart}
-use Rattle.reader.specs.Wrote.{Wrote}
+use Rattle.writer.specs.Wrote.{Wrote}
 use Rattle.reader.specs.Says.{Reads}
 use Rattle.reader.specs.declared.compiling.Compilation.{Compilation}
 use Rattle.reader.specs.declared.compiling.Compilation.the-variants.{Sound as Compiled·rule, Refused as Failed}

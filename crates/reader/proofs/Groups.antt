@@ -11,19 +11,20 @@ use Rattle.syntax.specs.Tree.{Rule}
 use Rattle.syntax.specs.Names.{Names}
 use Rattle.syntax.specs.Quantifiers.{quantifier}
 use Rattle.syntax.specs.Grammar.{Inner, closing, grouped, Sequence, repeatable, whole, nextItem, part, alternation, inside}
-use Rattle.lexer.specs.Says.{Peeked}
+use Rattle.lexemes.specs.Says.{Peeked}
 use Rattle.linker.specs.Table.{namesIn, NamesFit, length-names}
 use Rattle.linker.specs.Nodes.{Inside}
-use Rattle.reader.specs.declared.Cursor.{Cursor}
-use Rattle.reader.specs.declared.Answer.{Answer}
-use Rattle.reader.specs.declared.Answer.the-variants.{Sound, Refused}
-use Rattle.reader.specs.declared.Turn.{Turn}
-use Rattle.reader.specs.declared.Turn.the-variants.{Goes, Ends}
-use Rattle.reader.specs.declared.Opening.{Opening}
-use Rattle.reader.specs.declared.Opening.the-variants.{Opens, Unopened}
-use Rattle.reader.specs.Says.{Ready, PartAfter, grouping, Begun, Opened, SaysOpening, Closes, Others, Groups, Turns, Alternates}
+use Rattle.parts.specs.declared.Cursor.{Cursor}
+use Rattle.parts.specs.declared.Answer.{Answer}
+use Rattle.parts.specs.declared.Answer.the-variants.{Sound, Refused}
+use Rattle.parts.specs.declared.Turn.{Turn}
+use Rattle.parts.specs.declared.Turn.the-variants.{Goes, Ends}
+use Rattle.parts.specs.declared.Opening.{Opening}
+use Rattle.parts.specs.declared.Opening.the-variants.{Opens, Unopened}
+use Rattle.parts.specs.Says.{Ready, PartAfter, grouping, Begun, Opened, SaysOpening, Closes, Others}
+use Rattle.reader.specs.Says.{Groups, Turns, Alternates}
 use Rattle.reader.proofs.Answers.{said, moved, named, names-stay, names-stay-turn, says-as, moved-on}
-use Rattle.reader.proofs.Standing.{so-far-more, so-far-chain}
+use Rattle.parts.proofs.Standing.{so-far-more, so-far-chain}
 
 -- the opening is known to be x
 pub opening-at : (s : List ℕ) (flags depth at : ℕ) (names : Names) (table : List ℕ) (o x : Opening) → o ≡ x → SaysOpening s flags depth at names table o → SaysOpening s flags depth at names table x

@@ -1,9 +1,4 @@
 -- What the proofs of several functions use.
-mod Writing
-mod Standing
-mod Parentheses
-mod Heads
-mod Items
 mod Answers
 mod Groups
 mod Sequences

@@ -16,16 +16,17 @@ use Rattle.syntax.specs.Laws.Blanks.{blanks-on, blanks-in}
 use Rattle.syntax.specs.Laws.Forward.{inside-on}
 use Rattle.syntax.specs.Laws.Fuel.{sequence-turn}
 use Rattle.syntax.specs.Laws.Within.{ends-false}
-use Rattle.lexer.specs.Says.{Peeked}
+use Rattle.lexemes.specs.Says.{Peeked}
 use Rattle.linker.specs.Table.{namesIn, NamesFit}
-use Rattle.reader.specs.declared.Cursor.{Cursor}
-use Rattle.reader.specs.declared.Answer.the-variants.{Sound, Refused}
-use Rattle.reader.specs.declared.Turn.{Turn}
-use Rattle.reader.specs.declared.Turn.the-variants.{Goes, Ends}
-use Rattle.reader.specs.Wrote.{Below}
-use Rattle.reader.specs.Says.{Ready, Moves, Naming, SoFar, kindOf, Branch, Turns}
+use Rattle.parts.specs.declared.Cursor.{Cursor}
+use Rattle.parts.specs.declared.Answer.the-variants.{Sound, Refused}
+use Rattle.parts.specs.declared.Turn.{Turn}
+use Rattle.parts.specs.declared.Turn.the-variants.{Goes, Ends}
+use Rattle.writer.specs.Wrote.{Below}
+use Rattle.parts.specs.Says.{Ready, Moves, SoFar, kindOf}
+use Rattle.reader.specs.Says.{Naming, Branch, Turns}
 use Rattle.reader.proofs.Answers.{said-turn, moved-turn, named-turn, ready-on, naming-on}
-use Rattle.reader.proofs.Standing.{chain-none, so-far-chain}
+use Rattle.parts.proofs.Standing.{chain-none, so-far-chain}
 
 -- the branch is the rest of a sequence of which the last part so far stands at `last`; `names` and `table` are the table of names before and after
 pub record Rest (s : List ℕ) (flags depth : ℕ) (new names table : List ℕ) (c d : Cursor) (last kind : ℕ) (known : Names) : Type 0 where

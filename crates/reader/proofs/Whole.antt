@@ -14,14 +14,15 @@ use Rattle.syntax.specs.Tree.{Rule}
 use Rattle.syntax.specs.Names.{Names}
 use Rattle.syntax.specs.Grammar.{alternation, inside}
 use Rattle.syntax.specs.Reading.{parsed}
-use Rattle.lexer.specs.Says.{Peeked}
+use Rattle.lexemes.specs.Says.{Peeked}
 use Rattle.linker.specs.Table.{namesIn}
 use Rattle.linker.specs.Nodes.{Inside}
-use Rattle.reader.specs.declared.Cursor.{Cursor}
-use Rattle.reader.specs.declared.Answer.{Answer}
-use Rattle.reader.specs.declared.Answer.the-variants.{Sound, Refused}
+use Rattle.parts.specs.declared.Cursor.{Cursor}
+use Rattle.parts.specs.declared.Answer.{Answer}
+use Rattle.parts.specs.declared.Answer.the-variants.{Sound, Refused}
 use Rattle.reader.specs.Areas.{tableStart}
-use Rattle.reader.specs.Says.{Ready, Naming, Alternates, Reads}
+use Rattle.parts.specs.Says.{Ready}
+use Rattle.reader.specs.Says.{Naming, Alternates, Reads}
 use Rattle.reader.proofs.Answers.{said, moved, named}
 
 -- the cursor behind the end's node

@@ -1,5 +1,4 @@
 -- What the readers of sequences, groups and alternations promise.
-pub mod Wrote
 pub mod Areas
 pub mod Says
 pub mod Compiles

@@ -1,15 +1,15 @@
 // A rule's bytes to a compiled rule: read, then linked.
-use crate::Answer;
 use crate::read_rule;
 use linker::Linkage;
 use linker::link;
+use parts::Answer;
 use syntax::Reason;
 use syntax::Refusal;
 ghost use Prim.Native.Nat.{_≤_};
 ghost use lib.ListN.{length};
 ghost use Rattle.syntax.specs.Limits.{ruleLimit, ruleAreaNeed, spansLength};
 ghost use Rattle.reader.specs.Areas.{tableStart};
-ghost use Rattle.reader.specs.Wrote.{Wrote};
+ghost use Rattle.writer.specs.Wrote.{Wrote};
 ghost use Rattle.reader.specs.Compiles.{SaysWith, Compiles};
 
 // How many numbers of the area a compiled rule takes at most, with the table of names behind it.

@@ -1,104 +1,47 @@
 // Reads a rule's alternations, sequences, items and groups, and appends a node for each part to a lent area. The names of its groups go to a table of
 // their own: two numbers for each, where the name begins in the rule, and its length.
-use lexer::behind_blanks;
-use lexer::peek;
+use lexemes::END;
+use lexemes::behind_blanks;
+use lexemes::peek;
+use parts::Answer;
+use parts::CLOSING;
+use parts::Cursor;
+use parts::NOTHING;
+use parts::Opening;
+use parts::REPEATABLE;
+use parts::Turn;
+use parts::behind;
+use parts::close;
+use parts::opening_at;
+use parts::other;
 use syntax::Reason;
 use syntax::Refusal;
+use writer::BRANCH;
+use writer::FINISH;
+use writer::LAST;
+use writer::put_three;
 ghost use mathlib.Core.Path.{_≡_};
 ghost use Prim.Native.Nat.{_+_, _≤_, _<_};
 ghost use lib.ListN.{length};
 ghost use Rattle.syntax.specs.Limits.{ruleLimit, spansLength};
 ghost use Rattle.syntax.specs.Grammar.{ends};
 ghost use Rattle.reader.specs.Areas.{tableStart};
-ghost use Rattle.reader.specs.Says.{behindNode, Ready, Naming, Groups, Turns, Branch, Furthers, Alternates, Reads};
+ghost use Rattle.parts.specs.Says.{behindNode, Ready};
+ghost use Rattle.reader.specs.Says.{Naming, Groups, Turns, Branch, Furthers, Alternates, Reads};
 
 mod compiling;
-mod nodes;
-mod openings;
-mod parts;
 
 pub use compiling::Compilation;
 pub use compiling::TABLE_START;
 pub use compiling::compile;
-use nodes::BRANCH;
-use nodes::FINISH;
-use nodes::LAST;
-use nodes::put_three;
-use openings::opening;
-use parts::close;
-use parts::other;
 
-// Bytes that a rule gives a meaning, and what stands past its end, as `peek` gives them.
+// Bytes that a rule gives a meaning, as `peek` gives them.
 const OPENING: u32 = b'(' as u32;
-
-const CLOSING: u32 = b')' as u32;
-
-const QUESTION: u32 = b'?' as u32;
-
-const COLON: u32 = b':' as u32;
-
-const LESS: u32 = b'<' as u32;
 
 const BAR: u32 = b'|' as u32;
 
-const END: u32 = 256;
-
-// What a repeat would find behind a part of a sequence: nothing that it can repeat, an item or a group, or a repeat.
-const NOTHING: u32 = 0;
-
-const REPEATABLE: u32 = 1;
-
-const REPEATED: u32 = 2;
-
-// How deep groups may nest, and how many may capture.
+// How deep groups may nest.
 const NESTING_LIMIT: u32 = 24;
-
-const GROUP_LIMIT: u32 = 32;
-
-// How far a rule has been read: the position in it, the numbers of the area that are used, and the groups opened.
-pub struct Cursor {
-    pub at: usize,
-    pub used: usize,
-    pub opened: u32,
-}
-
-// What was read: where it ends and the position of its last node, or 0 for none.
-pub enum Answer {
-    Sound(Cursor, usize),
-    Refused(Refusal),
-}
-
-// One part of a sequence: where it ends, its position, and what a repeat would find behind it.
-enum Turn {
-    Goes(Cursor, usize, u32),
-    Ends(Refusal),
-}
-
-// The first bytes of a group: where its name or its inside begins, its number, 0 for one that does not capture, and whether it has a name.
-enum Bracket {
-    Begins(usize, u32, bool),
-    Unknown(Refusal),
-}
-
-// A group's opening: where its inside begins, the groups then opened, and its number, 0 for one that does not capture.
-enum Opening {
-    Opens(usize, u32, u32),
-    Unopened(Refusal),
-}
-
-// The cursor at a position, behind a node of n numbers.
-fn behind(c: Cursor, at: usize, n: usize) -> Cursor
-    requires { ⌜ c .used + n < 4294967296 ⌝ }
-    ensures { λ r. ⌜ r ≡ behindNode c at n ⌝ }
-{
-    let used = c.used;
-    let opened = c.opened;
-    Cursor {
-        at: at,
-        used: used + n,
-        opened: opened,
-    }
-}
 
 // A group, whose opening bracket stands at the cursor, behind the part at `before`.
 fn group(
@@ -116,7 +59,7 @@ fn group(
     let at = c.at;
     let used = c.used;
     let opened = c.opened;
-    let o = opening(rule, table, at, opened, depth);
+    let o = opening_at(rule, table, at, opened, depth);
     match o {
         Opening::Unopened(f) => Answer::Refused(f),
         Opening::Opens(start, next, number) => {

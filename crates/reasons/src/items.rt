@@ -1,8 +1,8 @@
 // The text of an item.
+use lexemes::behind_blanks;
+use lexemes::quantifier_at;
 use lexer::Token;
-use lexer::behind_blanks;
 use lexer::item_at;
-use lexer::quantifier_at;
 use syntax::Quantifier;
 ghost use mathlib.Core.Path.{_≡_};
 ghost use Prim.Native.Nat.{_<_};

@@ -4,7 +4,8 @@ use mathlib.Core.Logic.{inl, inr, ⊎-elim}
 use mathlib.Core.Path.{sym, _∙_}
 use native.Mathlib.Omega.{arith}
 use Rattle.syntax.specs.Sets.{notNewline}
-use Rattle.lexer.specs.Says.{memberOf, groupOf}
+use Rattle.escapes.specs.Says.{memberOf}
+use Rattle.lexer.specs.Says.{groupOf}
 use Rattle.lexer.proofs.ItemCases.{same-item, escape-newline, escape-text-start, escape-text-end, escape-last-line-end, escape-boundary, escape-no-boundary, escape-octal, escape-called, escape-number, escape-end, escape-common}
 use Rattle.lexer.proofs.items.escape_at.Statement.{statement}
 use Rattle.lexer.proofs.items.escape_at.Tie as tie

@@ -2,7 +2,7 @@
 use borrow.Author.Needs.{needs}
 use mathlib.Core.Path.{refl, sym, _∙_}
 use Rattle.lexer.specs.Says.{groupOf}
-use Rattle.lexer.proofs.CalledCases.{calls-in}
+use Rattle.lexemes.proofs.CalledCases.{calls-in}
 use Rattle.lexer.proofs.ItemCases.{same-item, escape-by-name, escape-by-number}
 use Rattle.lexer.proofs.items.group_at.Statement.{statement}
 use Rattle.lexer.proofs.items.group_at.Tie as tie

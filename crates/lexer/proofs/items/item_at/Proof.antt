@@ -1,6 +1,6 @@
 -- `item_at` meets its contract, by the byte that stands there.
 use borrow.Author.Needs.{needs}
-use Rattle.lexer.proofs.Bytes.{byte-at}
+use Rattle.lexemes.proofs.Bytes.{byte-at}
 use Rattle.lexer.proofs.ItemCases.{as-atom, atom-escape, atom-class, atom-dot, atom-caret, atom-dollar, atom-byte}
 use Rattle.lexer.proofs.items.item_at.Statement.{statement}
 use Rattle.lexer.proofs.items.item_at.Tie as tie

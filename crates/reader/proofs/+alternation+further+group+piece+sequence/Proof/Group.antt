@@ -9,8 +9,8 @@ use Rattle.reader.proofs.+alternation+further+group+piece+sequence.Lts-
 use Rattle.reader.proofs.+alternation+further+group+piece+sequence.Proof.Shared.{group-calls as calls, group-at as at}
 
 module _ (t : ℕ) where
-  pub opening-requires : lts.Need-opening-requires (calls t) (at t) Post
-  opening-requires c κs =
+  pub opening-at-requires : lts.Need-opening-at-requires (calls t) (at t) Post
+  opening-at-requires c κs =
       let fit = c .before .before .before .before .pre .1 .1 .fit in
       search needs
 
@@ -24,15 +24,15 @@ module _ (t : ℕ) where
   sub-alternation c =
       let start = c .before .before .before .before .before .before .before .before .before .before .before .before in
       let a = start .args in
-      let o = opens (a .rule .now) (a .flags) (a .depth) (a .c) (a .before) (a .table .now) (c .before .before .before .before .before .before .before .opening .last .1 .0) (c .before .before .before .before .before .before .before .opening .result) (c .before .before .before .before .before .before .before .opening .ensures (a .flags)) _ _ _ (c .before .before .before .o2 .given .1) in
+      let o = opens (a .rule .now) (a .flags) (a .depth) (a .c) (a .before) (a .table .now) (c .before .before .before .before .before .before .before .opening-at .last .1 .0) (c .before .before .before .before .before .before .before .opening-at .result) (c .before .before .before .before .before .before .before .opening-at .ensures (a .flags)) _ _ _ (c .before .before .before .o2 .given .1) in
       omega (arith, o .deep)
 
   pub alternation-requires : lts.Need-alternation-requires (calls t) (at t) Post
   alternation-requires c κs =
       let start = c .before .before .before .before .before .before .before .before .before .before .before .before in
       let a = start .args in
-      let b = opens (a .rule .now) (a .flags) (a .depth) (a .c) (a .before) (a .table .now) (c .before .before .before .before .before .before .before .opening .last .1 .0) (c .before .before .before .before .before .before .before .opening .result) (c .before .before .before .before .before .before .before .opening .ensures (a .flags)) _ _ _ (c .before .before .before .o2 .given .1) .begins in
-      (omega (arith, start .pre .0, b .on, b .within), (inner-ready (start .pre .1 .0) b, naming-on _ (start .pre .1 .1) (b .fit) (c .before .before .before .before .before .before .before .opening .kept .1 .0)))
+      let b = opens (a .rule .now) (a .flags) (a .depth) (a .c) (a .before) (a .table .now) (c .before .before .before .before .before .before .before .opening-at .last .1 .0) (c .before .before .before .before .before .before .before .opening-at .result) (c .before .before .before .before .before .before .before .opening-at .ensures (a .flags)) _ _ _ (c .before .before .before .o2 .given .1) .begins in
+      (omega (arith, start .pre .0, b .on, b .within), (inner-ready (start .pre .1 .0) b, naming-on _ (start .pre .1 .1) (b .fit) (c .before .before .before .before .before .before .before .opening-at .kept .1 .0)))
 
   pub enum-known-r : lts.Need-enum-known-r (calls t) (at t) Post
   enum-known-r c = search needs
@@ -44,7 +44,7 @@ module _ (t : ℕ) where
   close-requires c κs =
       let start = c .before .before .before .before .before .before .before .before .before .before .before .before .before .before .before .before .before .before .before .before .before in
       let a = start .args in
-      let o = opens (a .rule .now) (a .flags) (a .depth) (a .c) (a .before) (a .table .now) (c .before .before .before .before .before .before .before .before .before .before .before .before .before .before .before .before .opening .last .1 .0) (c .before .before .before .before .before .before .before .before .before .before .before .before .before .before .before .before .opening .result) (c .before .before .before .before .before .before .before .before .before .before .before .before .before .before .before .before .opening .ensures (a .flags)) _ _ _ (c .before .before .before .before .before .before .before .before .before .before .before .before .o2 .given .1) in
+      let o = opens (a .rule .now) (a .flags) (a .depth) (a .c) (a .before) (a .table .now) (c .before .before .before .before .before .before .before .before .before .before .before .before .before .before .before .before .opening-at .last .1 .0) (c .before .before .before .before .before .before .before .before .before .before .before .before .before .before .before .before .opening-at .result) (c .before .before .before .before .before .before .before .before .before .before .before .before .before .before .before .before .opening-at .ensures (a .flags)) _ _ _ (c .before .before .before .before .before .before .before .before .before .before .before .before .o2 .given .1) in
       let b = o .begins in
       let m = moved _ _ _ _ _ (c .before .before .r2 .given .1) (c .before .before .before .before .before .before .before .before .alternation .ensures .moved) in
       search needs
@@ -56,7 +56,7 @@ module _ (t : ℕ) where
   returns c =
       let start = c .before .before .before .before .before .before .before .before .before .before in
       let a = start .args in
-      group-unopened (a .rule .now) (a .flags) (a .depth) (a .c) (a .before) (a .table .now) (c .before .before .before .before .before .opening .last .1 .0) (c .before .before .before .before .before .opening .result) (c .before .before .before .before .before .opening .ensures (a .flags)) (a .area .now) _ (c .before .o .given .1)
+      group-unopened (a .rule .now) (a .flags) (a .depth) (a .c) (a .before) (a .table .now) (c .before .before .before .before .before .opening-at .last .1 .0) (c .before .before .before .before .before .opening-at .result) (c .before .before .before .before .before .opening-at .ensures (a .flags)) (a .area .now) _ (c .before .o .given .1)
 
   pub same-length-2 : lts.Need-same-length-2 (calls t) (at t) Post
   same-length-2 c = search needs
@@ -69,7 +69,7 @@ module _ (t : ℕ) where
       let start = c .before .before .before .before .before .before .before .before .before .before .before .before .before .before .before .before .before .before .before .before in
       let a = start .args in
       let inner = c .before .before .before .before .before .before .before .alternation in
-      group-refused (a .rule .now) (a .flags) (a .depth) (a .c) (a .before) (a .table .now) (c .before .before .before .before .before .before .before .before .before .before .before .before .before .before .before .opening .last .1 .0) (c .before .before .before .before .before .before .before .before .before .before .before .before .before .before .before .opening .result) (c .before .before .before .before .before .before .before .before .before .before .before .before .before .before .before .opening .ensures (a .flags)) _ _ _ (c .before .before .before .before .before .before .before .before .before .before .before .o2 .given .1) (inner .last .1 .1 .1 .0) (inner .result) (inner .ensures) _ (c .before .r .given .1)
+      group-refused (a .rule .now) (a .flags) (a .depth) (a .c) (a .before) (a .table .now) (c .before .before .before .before .before .before .before .before .before .before .before .before .before .before .before .opening-at .last .1 .0) (c .before .before .before .before .before .before .before .before .before .before .before .before .before .before .before .opening-at .result) (c .before .before .before .before .before .before .before .before .before .before .before .before .before .before .before .opening-at .ensures (a .flags)) _ _ _ (c .before .before .before .before .before .before .before .before .before .before .before .o2 .given .1) (inner .last .1 .1 .1 .0) (inner .result) (inner .ensures) _ (c .before .r .given .1)
 
   pub same-length-4 : lts.Need-same-length-4 (calls t) (at t) Post
   same-length-4 c = search needs
@@ -83,4 +83,4 @@ module _ (t : ℕ) where
       let a = start .args in
       let inner = c .before .before .before .before .before .before .before .before .before .before .before .alternation in
       let end = c .before .before .close in
-      group-sound (a .rule .now) (a .flags) (a .depth) (a .c) (a .before) (a .table .now) (c .before .before .before .before .before .before .before .before .before .before .before .before .before .before .before .before .before .before .before .opening .last .1 .0) (c .before .before .before .before .before .before .before .before .before .before .before .before .before .before .before .before .before .before .before .opening .result) (c .before .before .before .before .before .before .before .before .before .before .before .before .before .before .before .before .before .before .before .opening .ensures (a .flags)) _ _ _ (c .before .before .before .before .before .before .before .before .before .before .before .before .before .before .before .o2 .given .1) (inner .last .1 .1 .1 .0) (inner .result) (inner .ensures) _ _ (c .before .before .before .before .before .r2 .given .1) _ (end .result) (end .ensures)
+      group-sound (a .rule .now) (a .flags) (a .depth) (a .c) (a .before) (a .table .now) (c .before .before .before .before .before .before .before .before .before .before .before .before .before .before .before .before .before .before .before .opening-at .last .1 .0) (c .before .before .before .before .before .before .before .before .before .before .before .before .before .before .before .before .before .before .before .opening-at .result) (c .before .before .before .before .before .before .before .before .before .before .before .before .before .before .before .before .before .before .before .opening-at .ensures (a .flags)) _ _ _ (c .before .before .before .before .before .before .before .before .before .before .before .before .before .before .before .o2 .given .1) (inner .last .1 .1 .1 .0) (inner .result) (inner .ensures) _ _ (c .before .before .before .before .before .r2 .given .1) _ (end .result) (end .ensures)

@@ -17,13 +17,13 @@ use Rattle.reader.proofs.+alternation+further+group+piece+sequence.Lts-
 use Rattle.reader.proofs.sequence.Reads as sequence
 use Rattle.reader.proofs.sequence.Kinds as sequence-kinds
 use Rattle.reader.proofs.+alternation+further+group+piece+sequence.Lts-sequence as sequence-lts
-use Rattle.lexer.proofs.behind_blanks.Reads as behind-blanks-reads
-use Rattle.lexer.proofs.peek.Reads as peek-reads
-use Rattle.reader.proofs.behind.Reads as behind-reads
-use Rattle.reader.proofs.nodes.put_three.Reads as put-three-reads
-use Rattle.reader.proofs.openings.opening.Reads as opening-reads
-use Rattle.reader.proofs.parts.close.Reads as close-reads
-use Rattle.reader.proofs.parts.other.Reads as other-reads
+use Rattle.lexemes.proofs.behind_blanks.Reads as behind-blanks-reads
+use Rattle.lexemes.proofs.peek.Reads as peek-reads
+use Rattle.parts.proofs.behind.Reads as behind-reads
+use Rattle.writer.proofs.put_three.Reads as put-three-reads
+use Rattle.parts.proofs.opening_at.Reads as opening-at-reads
+use Rattle.parts.proofs.close.Reads as close-reads
+use Rattle.parts.proofs.other.Reads as other-reads
 use Rattle.reader.proofs.stops.Reads as stops-reads
 use lib.ListN.{length}
 
@@ -82,7 +82,7 @@ abbrev pub further-calls : ℕ → further-lts.Claims
 further-calls t = (peek-reads.Asked, peek-reads.Learnt, put-three-reads.Asked, put-three-reads.Learnt, behind-reads.Asked, behind-reads.Learnt, sequence-below t, sequence.Post)
 
 abbrev pub group-calls : ℕ → group-lts.Claims
-group-calls t = (opening-reads.Asked, opening-reads.Learnt, alternation-below t, alternation.Post, close-reads.Asked, close-reads.Learnt)
+group-calls t = (opening-at-reads.Asked, opening-at-reads.Learnt, alternation-below t, alternation.Post, close-reads.Asked, close-reads.Learnt)
 
 abbrev pub piece-calls : ℕ → piece-lts.Claims
 piece-calls t = (peek-reads.Asked, peek-reads.Learnt, group-below t, group.Post, other-reads.Asked, other-reads.Learnt)

@@ -4,8 +4,8 @@ use Prim.Native.Nat.{_≤_, _-_}
 use native.Mathlib.Omega.{arith}
 use lib.ListN.{length, length-set}
 use Rattle.syntax.specs.Limits.{groupLimit, spansLength}
-use Rattle.reader.specs.Wrote.{Wrote}
-use Rattle.reader.proofs.Writing.{wrote-none, wrote-one}
+use Rattle.writer.specs.Wrote.{Wrote}
+use Rattle.writer.proofs.Writing.{wrote-none, wrote-one}
 use Rattle.reader.proofs.compiling.put_table.Statement.{statement}
 use Rattle.reader.proofs.compiling.put_table.Tie as tie
 

@@ -1,0 +1,2 @@
+-- What the readers of classes promise.
+pub mod Says

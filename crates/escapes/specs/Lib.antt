@@ -1,0 +1,2 @@
+-- What the readers of escapes and named sets promise.
+pub mod Says

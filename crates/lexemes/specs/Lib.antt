@@ -1,0 +1,2 @@
+-- What the readers of bytes, numbers and names promise.
+pub mod Says

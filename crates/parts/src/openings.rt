@@ -1,0 +1,114 @@
+// Reads the openings of groups: what a group is, how deep it nests, and its name, in this order, which is that of the refusals on one bracket.
+use crate::Bracket;
+use crate::GROUP_LIMIT;
+use crate::Opening;
+use crate::QUESTION;
+use lexemes::COLON;
+use lexemes::LESS;
+use lexemes::NameRead;
+use lexemes::name_at;
+use lexemes::peek;
+use linker::group_called;
+use syntax::Reason;
+use syntax::Refusal;
+ghost use mathlib.Core.Bool.{true};
+ghost use mathlib.Core.List.{[], _∷_};
+ghost use Prim.Native.Nat.{ℕ, _+_, _*_, _≤_, _<_};
+ghost use lib.ListN.{length};
+ghost use Rattle.syntax.specs.Limits.{groupLimit, spansLength};
+ghost use Rattle.linker.specs.Table.{namesIn, NamesFit};
+ghost use Rattle.writer.specs.Wrote.{Wrote};
+ghost use Rattle.parts.specs.Says.{headOf, SaysBracket, SaysHead, SaysOpening};
+
+// What group opens at a bracket, where so many groups have been opened.
+fn bracket(rule: &[u8], at: usize, opened: u32) -> Bracket
+    requires { ⌜ (at < length (now rule)) × (opened ≤ groupLimit) ⌝ }
+    ensures { λ r. ⌜ SaysBracket (now (rule .entry)) at opened r ⌝ }
+{
+    let b = peek(rule, at + 1);
+    if b == QUESTION {
+        let d = peek(rule, at + 2);
+        if d == COLON {
+            return Bracket::Begins(at + 3, 0, false);
+        }
+        if d != LESS {
+            return Bracket::Unknown(Refusal {
+                place: at,
+                reason: Reason::UnknownGroup,
+            });
+        }
+        if opened < GROUP_LIMIT {
+            return Bracket::Begins(at + 3, opened + 1, true);
+        }
+        return Bracket::Unknown(Refusal {
+            place: at,
+            reason: Reason::TooManyGroups,
+        });
+    }
+    if opened < GROUP_LIMIT {
+        return Bracket::Begins(at + 1, opened + 1, false);
+    }
+    Bracket::Unknown(Refusal {
+        place: at,
+        reason: Reason::TooManyGroups,
+    })
+}
+
+// Writes the name of the group behind those opened so far: where it begins in the rule, and its length.
+fn put_name(table: &mut [u32], opened: u32, from: u32, len: u32)
+    requires { ⌜ (opened + 1 ≤ groupLimit) × (spansLength ≤ length (now table)) ⌝ }
+    ensures { λ _. ⌜ Wrote (now (table .entry)) (now (table .exit)) (2 * opened) 2 (from ∷ len ∷ []) ⌝ }
+{
+    let at = 2 * opened as usize;
+    table[at] = from;
+    table[at + 1] = len;
+}
+
+// The name of a group that captures, whose bracket stands at a position and whose name begins at `start`.
+fn name(rule: &[u8], table: &mut [u32], at: usize, start: usize, opened: u32) -> Opening
+    requires { ⌜ (start ≤ length (now rule)) × (length (now rule) < 4294967296) × (opened + 1 ≤ groupLimit) × (spansLength ≤ length (now table)) × NamesFit (now rule) (now table) opened ⌝ }
+    ensures { λ r. ⌜ SaysHead (now (rule .entry)) (now (table .exit)) start (opened + 1) (headOf (now (rule .entry)) at (namesIn (now (rule .entry)) (now (table .entry)) opened) start (opened + 1) true) r ⌝ }
+{
+    let n = name_at(rule, b'>', at, start);
+    match n {
+        NameRead::BadName(f) => Opening::Unopened(f),
+        NameRead::Named(from, len, next) => {
+            let same = group_called(rule, table, opened as usize, from, len);
+            if same != 0 {
+                return Opening::Unopened(Refusal {
+                    place: at,
+                    reason: Reason::NameTwice,
+                });
+            }
+            put_name(table, opened, from as u32, len as u32);
+            Opening::Opens(next, opened + 1, opened + 1)
+        }
+    }
+}
+
+// The opening of a group whose bracket stands at a position, where so many more may nest.
+pub fn opening_at(rule: &[u8], table: &mut [u32], at: usize, opened: u32, depth: u32) -> Opening
+    requires { ⌜ (at < length (now rule)) × (length (now rule) < 4294967296) × (opened ≤ groupLimit) × (spansLength ≤ length (now table)) × NamesFit (now rule) (now table) opened ⌝ }
+    ensures { λ r. ⌜ ((flags : ℕ) → SaysOpening (now (rule .entry)) flags depth at (namesIn (now (rule .entry)) (now (table .entry)) opened) (now (table .exit)) r) ⌝ }
+{
+    let b = bracket(rule, at, opened);
+    match b {
+        Bracket::Unknown(f) => Opening::Unopened(f),
+        Bracket::Begins(start, number, named) => {
+            if depth == 0 {
+                return Opening::Unopened(Refusal {
+                    place: at,
+                    reason: Reason::TooDeep,
+                });
+            }
+            if number == 0 {
+                return Opening::Opens(start, opened, 0);
+            }
+            if named {
+                return name(rule, table, at, start, opened);
+            }
+            put_name(table, opened, 0, 0);
+            Opening::Opens(start, opened + 1, number)
+        }
+    }
+}

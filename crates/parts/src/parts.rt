@@ -1,0 +1,185 @@
+// Reads the parts of a sequence that are no groups, and the end of a group.
+use crate::Answer;
+use crate::CLOSING;
+use crate::Cursor;
+use crate::NOTHING;
+use crate::REPEATABLE;
+use crate::REPEATED;
+use crate::Turn;
+use crate::behind;
+use lexemes::peek;
+use lexemes::quantifier_at;
+use lexer::Token;
+use lexer::item_at;
+use syntax::Greed;
+use syntax::Most;
+use syntax::Quantifier;
+use syntax::Reason;
+use syntax::Refusal;
+use writer::ASSERTION;
+use writer::PLAIN;
+use writer::assertion_word;
+use writer::folded_word;
+use writer::put_byte;
+use writer::put_four;
+use writer::put_group;
+use writer::put_named;
+use writer::put_reference;
+use writer::put_repeat;
+use writer::put_three;
+ghost use mathlib.Core.Path.{_≡_};
+ghost use Prim.Native.Nat.{_+_, _≤_, _<_};
+ghost use lib.ListN.{length};
+ghost use Rattle.syntax.specs.Limits.{groupLimit};
+ghost use Rattle.syntax.specs.Read.{byte, refused};
+ghost use Rattle.syntax.specs.Grammar.{Sequence, unfitFor};
+ghost use Rattle.parts.specs.Says.{Ready, kindOf, Items, Others, Repeats, Closes};
+
+// The refusal of a repeat whose bounds do not fit.
+fn unfit(at: usize, kind: u32) -> Refusal
+    ensures { λ r. ⌜ ((q : Sequence) → kind ≡ kindOf q → unfitFor q at ≡ refused (r .place) (r .reason)) ⌝ }
+{
+    if kind == NOTHING {
+        return Refusal {
+            place: at,
+            reason: Reason::NothingToRepeat,
+        };
+    }
+    Refusal {
+        place: at,
+        reason: Reason::BadBraces,
+    }
+}
+
+// A repeat of the last part, which stands at `last`; the repeat ends at `next`.
+fn repeated(
+    area: &mut [u32],
+    c: Cursor,
+    last: usize,
+    kind: u32,
+    least: u32,
+    most: Most,
+    greed: Greed,
+    next: usize,
+) -> Turn
+    requires { ⌜ Ready next (now area) c × (c .at < next) × (last < c .used) ⌝ }
+    ensures { λ r. ⌜ Repeats (now (area .entry)) (now (area .exit)) c last kind least most greed next r ⌝ }
+{
+    let at = c.at;
+    let used = c.used;
+    if kind == NOTHING {
+        return Turn::Ends(Refusal {
+            place: at,
+            reason: Reason::NothingToRepeat,
+        });
+    }
+    if kind == REPEATED {
+        return Turn::Ends(Refusal {
+            place: at,
+            reason: Reason::RepeatOnRepeat,
+        });
+    }
+    let before = area[last + 1];
+    put_repeat(area, used, least, most, greed, last as u32, before);
+    Turn::Goes(behind(c, next, 8), used, REPEATED)
+}
+
+// An item that is no group, behind the part at `last`.
+fn item(rule: &[u8], flags: u32, area: &mut [u32], c: Cursor, last: usize) -> Turn
+    requires { ⌜ Ready (length (now rule)) (now area) c × (c .at < length (now rule)) × (last < c .used) ⌝ }
+    ensures { λ r. ⌜ Items (now (rule .entry)) flags (now (area .entry)) (now (area .exit)) c last r ⌝ }
+{
+    let at = c.at;
+    let used = c.used;
+    let opened = c.opened;
+    let lexed = item_at(rule, flags, opened, at);
+    let words = lexed.words;
+    let token = lexed.token;
+    match token {
+        Token::BadItem(f) => Turn::Ends(f),
+        Token::Byte(next) => {
+            put_byte(area, used, last as u32, at as u32, words);
+            Turn::Goes(behind(c, next, 11), used, REPEATABLE)
+        }
+        Token::Assert(k, next) => {
+            let which = assertion_word(k);
+            put_four(area, used, ASSERTION, last as u32, at as u32, which);
+            Turn::Goes(behind(c, next, 4), used, NOTHING)
+        }
+        Token::Reference(n, next) => {
+            let folded = folded_word(flags);
+            put_reference(area, used, last as u32, at as u32, n, folded);
+            Turn::Goes(behind(c, next, 5), used, REPEATABLE)
+        }
+        Token::Called(from, len, next) => {
+            let folded = folded_word(flags);
+            put_named(
+                area,
+                used,
+                last as u32,
+                at as u32,
+                from as u32,
+                folded,
+                len as u32,
+            );
+            Turn::Goes(behind(c, next, 6), used, REPEATABLE)
+        }
+    }
+}
+
+// One part of a sequence that is no group.
+pub fn other(rule: &[u8], flags: u32, area: &mut [u32], c: Cursor, last: usize, kind: u32) -> Turn
+    requires { ⌜ Ready (length (now rule)) (now area) c × (c .at < length (now rule)) × (last < c .used) × (byte (now rule) (c .at) ≡ 40 → ⊥) ⌝ }
+    ensures { λ r. ⌜ Others (now (rule .entry)) flags (now (area .entry)) (now (area .exit)) c last kind r ⌝ }
+{
+    let at = c.at;
+    let x = quantifier_at(rule, at);
+    match x {
+        Quantifier::Absent => item(rule, flags, area, c, last),
+        Quantifier::Stray => Turn::Ends(Refusal {
+            place: at,
+            reason: Reason::BadBraces,
+        }),
+        Quantifier::Unfit => Turn::Ends(unfit(at, kind)),
+        Quantifier::Times(least, most, greed, next) => repeated(
+            area,
+            c,
+            last,
+            kind,
+            least,
+            most,
+            greed,
+            next,
+        ),
+    }
+}
+
+// The end of the group of a number, 0 for one that does not capture, whose inside stands at p.
+pub fn close(
+    rule: &[u8],
+    area: &mut [u32],
+    opening: usize,
+    number: u32,
+    before: usize,
+    c: Cursor,
+    p: usize,
+) -> Answer
+    requires { ⌜ Ready (length (now rule)) (now area) c × (number ≤ groupLimit) × (before < c .used) × (p < c .used) ⌝ }
+    ensures { λ r. ⌜ Closes (now (rule .entry)) opening number before (now (area .entry)) (now (area .exit)) c p r ⌝ }
+{
+    let at = c.at;
+    let used = c.used;
+    let b = peek(rule, at);
+    if b != CLOSING {
+        return Answer::Refused(Refusal {
+            place: opening,
+            reason: Reason::UnclosedGroup,
+        });
+    }
+    if number == 0 {
+        put_three(area, used, PLAIN, before as u32, p as u32);
+        return Answer::Sound(behind(c, at + 1, 3), used);
+    }
+    put_group(area, used, before as u32, number, p as u32);
+    Answer::Sound(behind(c, at + 1, 7), used)
+}

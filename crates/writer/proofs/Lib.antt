@@ -1,0 +1,2 @@
+-- The laws of written numbers, which proofs above cite too.
+pub mod Writing

@@ -1,0 +1,2 @@
+-- What a writer of numbers promises.
+pub mod Wrote
