@@ -1,8 +1,8 @@
 // The columns of the table: the names that are asked for, or all of the rule.
-use fields_line::COLUMN_LIMIT;
-use fields_line::NAME_LIMIT;
-use fields_line::add_column;
-use fields_line::all_columns;
+use fields_columns::COLUMN_LIMIT;
+use fields_columns::NAME_LIMIT;
+use fields_columns::add_column;
+use fields_columns::all_columns;
 use frame::NAME_INDEX_NEED;
 use index::ROW_LENGTH;
 use index::UNSET;

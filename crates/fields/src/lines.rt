@@ -1,8 +1,8 @@
 // The lines of a file, one after another.
 use crate::columns::COLUMNS;
 use crate::rows::put_row;
+use fields_columns::write_head;
 use fields_line::ask;
-use fields_line::write_head;
 use frame::NAME_INDEX_NEED;
 use index::ROW_LENGTH;
 use office::CLOSED;

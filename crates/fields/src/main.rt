@@ -87,7 +87,7 @@ fn look_on(
 {
     let mut columns = [0u8; COLUMNS];
     let count = collect(o.at + 2, names, &mut columns);
-    if fields_line::COLUMN_LIMIT < count {
+    if fields_columns::COLUMN_LIMIT < count {
         return;
     }
     let fd = open(b"fields", o.at + 1);

@@ -1,12 +1,12 @@
 // A row of the table, put into the buffer.
 use crate::columns::COLUMNS;
-use fields_line::OPENING_ROOM;
-use fields_line::PART_ROOM;
-use fields_line::Place;
-use fields_line::Word;
-use fields_line::kind;
-use fields_line::open_row;
-use fields_line::write_part;
+use fields_row::OPENING_ROOM;
+use fields_row::PART_ROOM;
+use fields_row::Place;
+use fields_row::Word;
+use fields_row::kind;
+use fields_row::open_row;
+use fields_row::write_part;
 use frame::NAME_INDEX_NEED;
 use index::ROW_LENGTH;
 use office::CLOSED;

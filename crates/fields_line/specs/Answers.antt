@@ -1,19 +1,19 @@
 -- The line of the table for a line: "its number, one word and each named field by the lookup".
-use mathlib.Core.List.{List, [], _∷_, map}
+use mathlib.Core.List.{List, [], _∷_}
 use mathlib.Core.Bool.{Bool, true, false, not, _&&_, _||_}
 use Prim.Native.Nat.{ℕ}
 use lib.Dec.{ltb, eqb}
 use lib.ListN.{length, getD}
 use Rattle.syntax.specs.Limits.{subjectLimit}
-use Rattle.syntax.specs.Read.{if_then_else_, bytes}
+use Rattle.syntax.specs.Read.{if_then_else_}
 use Rattle.syntax.specs.Sets.{sameBytes}
 use Rattle.syntax.specs.Tree.{Rule}
 use Rattle.semantics.specs.States.{Row, row}
 use Rattle.semantics.specs.Answers.{Outcome, matched, notMatched, exhausted, answer, Ending, complete, full, exhaustedAt, Listing, listing}
-use Rattle.lookup.specs.Lookup.{lookup, fieldOf}
 use Rattle.fields_text.specs.Table.{tableRow}
-use Rattle.fields_line.specs.declared.words.Word.{Word}
-use Rattle.fields_line.specs.declared.words.Word.the-variants.{Matched, Ambiguous, Undecided, NotMatched, Exhausted, TooLong}
+use Rattle.fields_row.specs.declared.words.Word.{Word}
+use Rattle.fields_row.specs.declared.words.Word.the-variants.{Matched, Ambiguous, Undecided, NotMatched, Exhausted, TooLong}
+use Rattle.fields_row.specs.Fields.{fieldNamed, fields, textOf, kindOf}
 
 -- What is the same for all lines: the rule, with its name index, the budget, the room of a listing, the names of the columns, and the standing text.
 pub record Table : Type 0 where
@@ -24,23 +24,13 @@ pub record Table : Type 0 where
   pub names : List (List ℕ)
   pub standing : List ℕ
 
--- Fields ----------------------------------------------------------------------
+-- Readings ----------------------------------------------------------------------
 
 module _ (index line standing : List ℕ) where
-  -- a field after an answer of that kind, of which 0 is matched, with that row
-  unfoldable pub fieldNamed : (kind : ℕ) (x : Row) (name : List ℕ) → List ℕ
-  fieldNamed kind x name = fieldOf line standing (lookup name index line kind x)
-
-  -- "each named field by the lookup"
-  unfoldable pub fields : (kind : ℕ) (x : Row) (names : List (List ℕ)) → List (List ℕ)
-  fields kind x names = map (fieldNamed kind x) names
-
-  -- Readings ------------------------------------------------------------------
-
   -- two readings have the same fields
   unfoldable pub agree : (x y : Row) (names : List (List ℕ)) → Bool
   agree x y [] = true
-  agree x y (name ∷ names) = sameBytes (fieldNamed 0 x name) (fieldNamed 0 y name) && agree x y names
+  agree x y (name ∷ names) = sameBytes (fieldNamed index line standing 0 x name) (fieldNamed index line standing 0 y name) && agree x y names
 
   -- "another reading of the same stretch (the match's start and end) gives a named field another value"
   unfoldable pub isOther : (names : List (List ℕ)) (x y : Row) → Bool
@@ -64,23 +54,6 @@ isCut start full rows = eqb (lastStart start rows) start
 isCut start (exhaustedAt n) rows = eqb n start
 
 -- The word ----------------------------------------------------------------------
-
-unfoldable pub textOf : Word → List ℕ
-textOf Matched = bytes "matched"
-textOf Ambiguous = bytes "ambiguous"
-textOf Undecided = bytes "undecided"
-textOf NotMatched = bytes "not matched"
-textOf Exhausted = bytes "exhausted"
-textOf TooLong = bytes "too long"
-
--- the kind of an answer, as the lookup asks for it: 0 where there is a match
-unfoldable pub kindOf : Word → ℕ
-kindOf Matched = 0
-kindOf Ambiguous = 0
-kindOf Undecided = 0
-kindOf NotMatched = 1
-kindOf Exhausted = 1
-kindOf TooLong = 1
 
 -- of a match, by its row and the listing
 unfoldable pub verdict : Table → (line : List ℕ) → Row → Listing → Word

@@ -1,7 +1,5 @@
--- What the table of fields has for a line: its columns (Columns), the word and the fields (Answers), and a row written part by part (Parts).
-pub mod Columns
+-- What the table of fields has for a line: the word and the fields (Answers).
 pub mod Answers
-pub mod Parts
 pub mod Promises
 pub mod Settled
 pub mod Examples

@@ -1,12 +1,11 @@
 -- What the functions promise.
 use mathlib.Core.Path.{_≡_}
 use mathlib.Core.Bool.{Bool, false}
-use mathlib.Core.List.{List, _++_}
-use mathlib.Core.Logic.{_⊎_}
-use Prim.Native.Nat.{ℕ, _+_, _-_, _*_, _≤_, _<_}
+use mathlib.Core.List.{List}
+use Prim.Native.Nat.{ℕ, _≤_}
 use lib.Dec.{eqb}
 use lib.ListN.{length, getD}
-use Rattle.syntax.specs.Limits.{ruleAreaNeed, groupLimit, nameIndexNeed}
+use Rattle.syntax.specs.Limits.{ruleAreaNeed}
 use Rattle.syntax.specs.Read.{if_then_else_}
 use Rattle.syntax.specs.Tree.{Rule}
 use Rattle.syntax.specs.WellFormed.{WellFormed}
@@ -15,19 +14,10 @@ use Rattle.semantics.specs.Calls.{workAreaNeed, ListOutcome, Complete, Full, Li
 use Rattle.semantics.specs.Demands.{rowsReported}
 use Rattle.machine.specs.Theorem.{Stands}
 use Rattle.index.specs.Rows.{rowsAt}
-use Rattle.text.specs.Writing.{Wrote}
-use Rattle.fields_text.specs.Table.{cells}
-use Rattle.fields_line.specs.declared.words.Word.{Word}
-use Rattle.fields_line.specs.declared.words.Word.the-variants.{Matched, Ambiguous, Undecided}
-use Rattle.fields_line.specs.declared.parts.Place.{Place}
-use Rattle.fields_line.specs.Columns.{namesFrom}
-use Rattle.fields_line.specs.Answers.{Table, fields, isAmbiguous, lastStart, kindOf, told, fieldsOf}
-use Rattle.fields_line.specs.Parts.{left}
-
--- the names of the columns stand in an area that has room for the most
-pub record Columned (columns : List ℕ) (count : ℕ) : Type 0 where
-  pub few : count ≤ groupLimit
-  pub fits : nameIndexNeed ≤ length columns
+use Rattle.fields_row.specs.declared.words.Word.{Word}
+use Rattle.fields_row.specs.declared.words.Word.the-variants.{Matched, Ambiguous, Undecided}
+use Rattle.fields_row.specs.Fields.{fields, kindOf}
+use Rattle.fields_line.specs.Answers.{Table, isAmbiguous, lastStart, told, fieldsOf}
 
 -- The word ----------------------------------------------------------------------
 
@@ -62,40 +52,3 @@ abbrev pub Answered : (code : List ℕ) (entry groups budget room : ℕ) (index 
 Answered code entry groups budget room index names standing line w x =
     (rule : Rule) → Stands code rule entry → WellFormed groups rule
     → Answers (record { rule = rule; index = index; budget = budget; room = room; names = names; standing = standing }) line w x
-
--- A row in parts ------------------------------------------------------------------
-
--- the bytes of a part at most: a tab, and so many bytes of a field
-unfoldable pub chunk : ℕ
-chunk = 4096
-
-unfoldable pub partRoom : ℕ
-unfolding chunk
-partRoom = 1 + 4 * chunk
-
--- one place follows another: a later column, or more of this one
-abbrev pub Onward : (count : ℕ) (p q : Place) → Type 0
-Onward count p q = ((p .column < q .column) × (q .column ≤ count)) ⊎ ((q .column ≡ p .column) × (p .taken < q .taken))
-
--- what was written, and then what is still to be written, is what was to be written
-pub record Spoken (fieldsFrom : ℕ → List (List ℕ)) (out : List ℕ) (p : Place) (out′ : List ℕ) (q : Place) : Type 0 where
-  pub text : List ℕ
-  pub wrote : Wrote out (p .put) text out′ (q .put)
-  pub near : q .put ≤ p .put + partRoom
-  pub goes-on : left (fieldsFrom (p .column)) (p .taken) ≡ text ++ left (fieldsFrom (q .column)) (q .taken)
-
--- the fields of the columns from one on
-abbrev pub fieldsFrom : (columns : List ℕ) (count : ℕ) (index line standing : List ℕ) (kind : ℕ) (x : List ℕ) → ℕ → List (List ℕ)
-fieldsFrom columns count index line standing kind x i = fields index line standing kind x (namesFrom columns i (count - i))
-
--- The head ------------------------------------------------------------------------
-
-unfoldable pub headRoom : ℕ
-headRoom = 2092
-
--- of the names of so many columns the first were written, each behind a tab
-pub record Named (columns : List ℕ) (count done : ℕ) (out : List ℕ) (at : ℕ) (out′ : List ℕ) (end : ℕ) : Type 0 where
-  pub text : List ℕ
-  pub wrote : Wrote out at text out′ end
-  pub near : end ≤ at + 65 * done
-  pub goes-on : cells (namesFrom columns 0 count) ≡ text ++ cells (namesFrom columns done (count - done))

@@ -26,10 +26,11 @@ use Rattle.index.specs.Laws.Known.{same-self, same-equal}
 use Rattle.text.specs.Lines.{newline}
 use Rattle.fields_text.specs.Table.{tab}
 use Rattle.fields_text.specs.Laws.Columns.{Visible, count, columns-of-row, lines-of-row}
-use Rattle.fields_line.specs.declared.words.Word.{Word}
-use Rattle.fields_line.specs.declared.words.Word.the-variants.{Matched, Ambiguous, Undecided, NotMatched, Exhausted, TooLong}
+use Rattle.fields_row.specs.declared.words.Word.{Word}
+use Rattle.fields_row.specs.declared.words.Word.the-variants.{Matched, Ambiguous, Undecided, NotMatched, Exhausted, TooLong}
+use Rattle.fields_row.specs.Fields.{fieldNamed, fields, textOf, kindOf}
+use Rattle.fields_line.specs.Answers.{Table, agree, isOther, isAmbiguous, lastStart, isCut, verdict, tells, told, fieldsOf, rowFor}
 use Rattle.fields_line.specs.Laws.Comparing.{same-stretch}
-use Rattle.fields_line.specs.Answers.{Table, fieldNamed, fields, agree, isOther, isAmbiguous, lastStart, isCut, textOf, kindOf, verdict, tells, told, fieldsOf, rowFor}
 
 -- The readings of the match's start --------------------------------------------------
 

@@ -1,6 +1,6 @@
 // The word for a line, and the row of its match.
 use crate::comparing::is_ambiguous;
-use crate::words::Word;
+use fields_row::Word;
 use frame::SUBJECT_LIMIT;
 use index::ROW_LENGTH;
 use listing::Listing;
@@ -15,9 +15,10 @@ ghost use Rattle.semantics.specs.Calls.{room};
 ghost use Rattle.semantics.specs.Demands.{rowsReported};
 ghost use Rattle.index.specs.Rows.{rowsAt};
 ghost use Rattle.listing.specs.Listing.{listingOf};
-ghost use Rattle.fields_line.specs.Columns.{namesFrom};
+ghost use Rattle.fields_columns.specs.Columns.{namesFrom};
+ghost use Rattle.fields_columns.specs.Promises.{Columned};
 ghost use Rattle.fields_line.specs.Answers.{lastStart};
-ghost use Rattle.fields_line.specs.Promises.{Columned, cutBy, verdictBy, Lent, Answered};
+ghost use Rattle.fields_line.specs.Promises.{cutBy, verdictBy, Lent, Answered};
 
 // How many rows a listing wrote.
 fn rows_of(listing: Listing) -> usize

@@ -1,6 +1,6 @@
 // Whether another reading of a match's stretch has other fields.
-use crate::columns::column;
 use check::same;
+use fields_columns::column;
 use index::ROW_LENGTH;
 use lookup::field;
 ghost use mathlib.Core.Path.{_≡_};
@@ -9,9 +9,10 @@ ghost use lib.ListN.{length};
 ghost use Rattle.syntax.specs.Limits.{rowLength};
 ghost use Rattle.syntax.specs.Sets.{sameBytes};
 ghost use Rattle.index.specs.Rows.{rowsAt};
-ghost use Rattle.fields_line.specs.Columns.{namesFrom};
-ghost use Rattle.fields_line.specs.Answers.{fieldNamed, agree, isOther, isAmbiguous};
-ghost use Rattle.fields_line.specs.Promises.{Columned};
+ghost use Rattle.fields_columns.specs.Columns.{namesFrom};
+ghost use Rattle.fields_columns.specs.Promises.{Columned};
+ghost use Rattle.fields_row.specs.Fields.{fieldNamed};
+ghost use Rattle.fields_line.specs.Answers.{agree, isOther, isAmbiguous};
 
 // Whether two readings have the same field of a name.
 fn agree_on<'a>(

@@ -1,6 +1,6 @@
 -- What is told of a line, case by case.
 use mathlib.Core.Path.{_≡_, refl, sym, ap, _∙_}
-use mathlib.Core.List.{List, [], _∷_, append-nil}
+use mathlib.Core.List.{List, [], _∷_, _++_, append-nil}
 use Prim.Native.Nat.{ℕ, _≤_, _<_}
 use native.Mathlib.Omega.{arith}
 use borrow.Author.Tests.{lt-ltb, le-ltb}
@@ -19,9 +19,14 @@ use Rattle.matching.specs.Outcomes.{Reports}
 use Rattle.listing.specs.declared.Listing.{Listing as Listed}
 use Rattle.listing.specs.Listing.{listingOf, Lists}
 use Rattle.lookup.specs.Laws.Lookup.{not-matched}
-use Rattle.fields_line.specs.declared.words.Word.{Word}
-use Rattle.fields_line.specs.declared.words.Word.the-variants.{NotMatched, Exhausted, TooLong}
-use Rattle.fields_line.specs.Answers.{Table, fieldNamed, fields, kindOf, verdict, tells, told, fieldsOf}
+use Rattle.text.specs.Numbers.{decimal}
+use Rattle.fields_text.specs.Table.{opening, tableRow}
+use Rattle.fields_row.specs.declared.words.Word.{Word}
+use Rattle.fields_row.specs.declared.words.Word.the-variants.{NotMatched, Exhausted, TooLong}
+use Rattle.fields_row.specs.Fields.{fieldNamed, fields, textOf, kindOf}
+use Rattle.fields_row.specs.Parts.{left}
+use Rattle.fields_row.specs.Laws.Parts.{left-all}
+use Rattle.fields_line.specs.Answers.{Table, verdict, tells, told, fieldsOf, rowFor}
 use Rattle.fields_line.specs.Promises.{verdictBy, Lent, Answers}
 use Rattle.fields_line.specs.Laws.Listings.{verdict-told}
 
@@ -100,3 +105,10 @@ module _ (rule : Rule) (groups budget : ℕ) (formed : WellFormed groups rule) (
 -- a rule that stands is not refused
 pub never-denied : (old new : List ℕ) (o : Reported) (a : Answer) → Reports old new o a → (why : Refusal) → o ≡ Denied why → ⊥
 never-denied old new o a r why e = rw e at r
+
+-- The row ------------------------------------------------------------------------
+
+-- what is written of a line's row, first its opening and then the rest
+pub row-parts : (t : Table) (number : ℕ) (line : List ℕ) → rowFor t number line ≡ opening (decimal number) (textOf (told t line .word)) ++ left (fieldsOf t line) 0
+unfolding rowFor tableRow
+row-parts t number line = rw (left-all (fieldsOf t line))

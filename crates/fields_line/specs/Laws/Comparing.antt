@@ -10,9 +10,10 @@ use Rattle.syntax.specs.Limits.{groupLimit, spansLength, rowLength}
 use Rattle.syntax.specs.Sets.{sameBytes}
 use Rattle.semantics.specs.States.{Row}
 use Rattle.index.specs.Rows.{rowsAt}
-use Rattle.fields_line.specs.Columns.{nameAt, namesFrom}
-use Rattle.fields_line.specs.Answers.{fieldNamed, agree, isOther, isAmbiguous}
-use Rattle.fields_line.specs.Laws.Columns.{names-next, names-none}
+use Rattle.fields_columns.specs.Columns.{nameAt, namesFrom}
+use Rattle.fields_columns.specs.Laws.Columns.{names-next, names-none}
+use Rattle.fields_row.specs.Fields.{fieldNamed}
+use Rattle.fields_line.specs.Answers.{agree, isOther, isAmbiguous}
 
 -- a row as the code takes it
 pub row-part : (i : ℕ) (results : List ℕ) → take (i * 66 + 66 - i * 66) (drop (i * 66) results) ≡ take rowLength (drop (i * rowLength) results)

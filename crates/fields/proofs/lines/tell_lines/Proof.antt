@@ -5,7 +5,7 @@ use native.Mathlib.Omega.{arith}
 use lib.ListN.{length, length-take}
 use Rattle.syntax.specs.Limits.{groupLimit, nameLimit, nameEntry, nameIndexNeed}
 use Rattle.office.specs.Parts.{Within}
-use Rattle.fields_line.specs.Promises.{headRoom}
+use Rattle.fields_columns.specs.Promises.{headRoom}
 use borrow.Author.Needs.{needs}
 use Rattle.fields.proofs.lines.tell_lines.Statement.{statement}
 use Rattle.fields.proofs.lines.tell_lines.Tie as tie

@@ -4,7 +4,7 @@ use Prim.Native.Nat.{_≤_}
 use native.Mathlib.Omega.{arith}
 use mathlib.Core.Logic.{⊎-elim}
 use Rattle.syntax.specs.Limits.{groupLimit, nameLimit, nameEntry, nameIndexNeed}
-use Rattle.fields_line.specs.Promises.{chunk, partRoom}
+use Rattle.fields_row.specs.Promises.{chunk, partRoom}
 use borrow.Author.Needs.{needs}
 use Rattle.fields.proofs.rows.put_fields.Statement.{statement}
 use Rattle.fields.proofs.rows.put_fields.Tie as tie

@@ -6,7 +6,7 @@ use Prim.Native.Nat.{_≤_, _<_}
 use lib.ListN.{length}
 use Rattle.syntax.specs.Limits.{subjectLimit, groupLimit, spansLength, rowLength}
 use Rattle.semantics.specs.Calls.{room}
-use Rattle.fields_line.specs.Columns.{namesFrom}
+use Rattle.fields_columns.specs.Columns.{namesFrom}
 use Rattle.fields_line.specs.Laws.Listings.{rows-within}
 use Rattle.fields_line.specs.Laws.Answers.{lent-held, answers-long, answers-missed, answers-spent, answers-found, never-denied}
 use borrow.Author.Needs.{needs}

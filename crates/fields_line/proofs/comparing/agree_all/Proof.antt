@@ -5,7 +5,7 @@ use native.Mathlib.Omega.{arith}
 use denote.Ref.{now}
 use native.Mathlib.Numerals.{add-one}
 use borrow.Author.Tests.{not-true, not-false}
-use Rattle.fields_line.specs.Columns.{namesFrom}
+use Rattle.fields_columns.specs.Columns.{namesFrom}
 use Rattle.fields_line.specs.Answers.{agree}
 use Rattle.fields_line.specs.Laws.Comparing.{agree-on, agree-not, agree-end}
 use Rattle.fields_line.proofs.comparing.agree_all.Statement.{statement}

@@ -1,7 +1,7 @@
 -- Both fields are looked up, and their bytes compared.
 use Rattle.lookup.specs.Laws.Names.{same-told}
 use Rattle.lookup.specs.Laws.Lookup.{lent-bytes}
-use Rattle.fields_line.specs.Answers.{fieldNamed}
+use Rattle.fields_row.specs.Fields.{fieldNamed}
 use borrow.Author.Needs.{needs}
 use Rattle.fields_line.proofs.comparing.agree_on.Statement.{statement}
 use Rattle.fields_line.proofs.comparing.agree_on.Tie as tie

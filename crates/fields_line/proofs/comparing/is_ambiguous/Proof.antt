@@ -7,7 +7,7 @@ use native.Mathlib.Numerals.{add-one}
 use lib.ListN.{length-take, length-drop}
 use Rattle.syntax.specs.Limits.{groupLimit, spansLength, rowLength}
 use Rattle.index.specs.Rows.{rowsAt}
-use Rattle.fields_line.specs.Columns.{namesFrom}
+use Rattle.fields_columns.specs.Columns.{namesFrom}
 use Rattle.fields_line.specs.Answers.{isAmbiguous}
 use Rattle.fields_line.specs.Laws.Comparing.{row-part, ambiguous-here, ambiguous-on, ambiguous-none}
 use Rattle.fields_line.proofs.comparing.is_ambiguous.Statement.{statement}

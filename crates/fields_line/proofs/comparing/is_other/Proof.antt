@@ -4,7 +4,7 @@ use denote.Ref.{now}
 use native.Mathlib.Omega.{arith}
 use mathlib.Core.Bool.{not}
 use Rattle.syntax.specs.Limits.{groupLimit, spansLength, rowLength}
-use Rattle.fields_line.specs.Columns.{namesFrom}
+use Rattle.fields_columns.specs.Columns.{namesFrom}
 use Rattle.fields_line.specs.Laws.Comparing.{other-start, other-end, same-stretch}
 use borrow.Author.Needs.{needs}
 use Rattle.fields_line.proofs.comparing.is_other.Statement.{statement}

@@ -1,0 +1,3 @@
+-- Facts that proofs cite.
+pub mod Columns
+pub mod Heading

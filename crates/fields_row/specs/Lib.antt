@@ -1,0 +1,5 @@
+-- A row of the table of fields: its fields and its word (Fields), written part by part (Parts).
+pub mod Fields
+pub mod Parts
+pub mod Promises
+pub mod Laws
