@@ -14,7 +14,7 @@ use Rattle.charset.specs.Cases.{otherCase, folding}
 use Rattle.charset.specs.Class.{bit, has}
 use Rattle.charset.specs.Laws.Cases.{Place, before, upper, between, lower, behind, placed, other-before, other-upper, other-between, other-lower, other-behind}
 use Rattle.charset.proofs.Bits.{or-bit, and-bit}
-use Rattle.charset.proofs.Rules.{all, all-at, same}
+use Rattle.charset.specs.Laws.Tables.{all, all-at, same}
 use Rattle.charset.proofs.Words.{has-set, word}
 
 -- whether bit k of the mask is a letter's: A and a are the second bytes of their words, and Z and z stand 25 behind

@@ -1,13 +1,13 @@
 -- Bytes and assertions, in the form in which the code tests them. Assumes nothing.
 use mathlib.Core.Path.{_≡_, refl, sym, _∙_}
 use mathlib.Core.List.{List}
-use mathlib.Core.Bool.{Bool, true, false, not, _&&_, _||_}
+use mathlib.Core.Bool.{Bool, true, false, not, _&&_}
 use Prim.Native.Nat.{ℕ, zero, suc, _+_, _-_, _≤_, _<_}
 use native.Mathlib.Omega.{arith}
 use native.Mathlib.Numerals.{add-one, sub-one}
 use lib.ListN.{length, getD, drop, List·getD-eq-default}
-use lib.Dec.{leb, eqb}
-use borrow.Author.Tests.{lt-ltb, le-ltb, le-leb, lt-leb, eq-eqb, ne-eqb, leb-true}
+use lib.Dec.{eqb}
+use borrow.Author.Tests.{lt-ltb, le-ltb, le-leb, lt-leb, eq-eqb, ne-eqb}
 use Rattle.charset.specs.Class.{has}
 use Rattle.charset.specs.Named.{_to_, inRange}
 use Rattle.syntax.specs.declared.Assertion.the-variants.{TextStart, LineStart, TextEnd, LastLineEnd, LineEnd, WordBoundary, NoWordBoundary}
@@ -37,7 +37,7 @@ unfolding byteBefore
 before-none sub zero h = refl
 before-none sub (suc i) h = absurd (omega arith)
 
--- a byte below a range, above it, and in it
+-- a byte below a range, and above it
 pub under-range : (b low high : ℕ) → b < low → inRange b (low to high) ≡ false
 unfolding inRange
 under-range b low high h = rw (lt-leb low b h)
@@ -45,28 +45,6 @@ under-range b low high h = rw (lt-leb low b h)
 pub over-range : (b low high : ℕ) → low ≤ high → high < b → inRange b (low to high) ≡ false
 unfolding inRange
 over-range b low high l h = rw (le-leb low b (omega arith), lt-leb b high h)
-
-pub in-range : (b low high : ℕ) → low ≤ b → b ≤ high → inRange b (low to high) ≡ true
-unfolding inRange
-in-range b low high l h = rw (le-leb low b l, le-leb b high h)
-
--- one byte as a range
-pub other-byte : (b x : ℕ) → (b ≡ x → ⊥) → inRange b (x to x) ≡ false
-unfolding inRange
-other-byte b x n = by (leb x b) refl
-  where
-    by : (y : Bool) → leb x b ≡ y → (y && leb b x) ≡ false
-    by true e = lt-leb b x (omega (arith, leb-true x b e))
-    by false e = refl
-
--- the last of several ranges
-pub last-range : (b low high : ℕ) → low ≤ b → leb b high ≡ (inRange b (low to high) || false)
-unfolding inRange
-last-range b low high l = rw (le-leb low b l) (or-false (leb b high))
-  where
-    or-false : (y : Bool) → y ≡ (y || false)
-    or-false true = refl
-    or-false false = refl
 
 -- Assertions -------------------------------------------------------------------
 

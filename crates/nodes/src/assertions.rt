@@ -1,7 +1,7 @@
 // The zero-width assertions.
 ghost use mathlib.Core.Path.{_≡_};
 ghost use Prim.Native.Nat.{ℕ, _/_, _%_, _<_, _^_};
-ghost use lib.Dec.{eqb};
+ghost use Rattle.charset.specs.Class.{bit};
 ghost use Rattle.syntax.specs.declared.Assertion.the-variants.{LineStart, LastLineEnd, LineEnd, WordBoundary};
 ghost use Rattle.syntax.specs.Read.{byte};
 ghost use Rattle.semantics.specs.Assertions.{byteBefore, isWord, holds};
@@ -34,7 +34,7 @@ fn byte_before(sub: &[u8], at: usize) -> u32
 
 // The word bytes among 32 byte values in a row, a bit for each: the digits in the second row, the letters and `_` in the third and fourth.
 fn word_row(row: u32) -> u32
-    ensures { λ r. ⌜ ((b : ℕ) → b / 32 ≡ row → eqb (r / 2 ^ (b % 32) % 2) 1 ≡ isWord b) ⌝ }
+    ensures { λ r. ⌜ ((b : ℕ) → b / 32 ≡ row → bit r (b % 32) ≡ isWord b) ⌝ }
 {
     match row {
         1 => 0x03FF0000,
