@@ -1,6 +1,6 @@
 // The C interface: the calls, with each outcome as six numbers, or eleven for an explanation, and the field lookup. `include/terravisco.h` is its header.
 use explaining::Explanation;
-use explaining::Failed;
+use failures::Failed;
 use listing::Listing;
 use lookup::Found;
 use matching::Outcome;
@@ -15,7 +15,7 @@ ghost use Rattle.semantics.specs.Calls.{matchCall, listCall, explainCall};
 ghost use Rattle.frame.specs.Inputs.{callOf};
 ghost use Rattle.matching.specs.Outcomes.{outcomeOf};
 ghost use Rattle.listing.specs.Listing.{listingOf};
-ghost use Rattle.explaining.specs.Best.{failureOf};
+ghost use Rattle.failures.specs.Best.{failureOf};
 ghost use Rattle.explaining.specs.Explanations.{explanationOf};
 ghost use Rattle.lookup.specs.Lookup.{lookup};
 ghost use Rattle.terravisco.specs.Answers.{low, high, numbers, refusalNumbers, matchNumbers, listNumbers, failureNumbers, explainNumbers, fieldNumbers, Answered};
