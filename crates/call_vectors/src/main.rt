@@ -4,7 +4,7 @@
 // area, the work area, the result area (or of the marks) and the name index in decimal; the rule in hex; and how the subject is given, in hex, or 'x' and a count for so many bytes `a`.
 // Behind an answer and its rows the entries of the name index follow that are not all 00, and then why a line does not fit.
 use explaining::Explanation;
-use explaining::Failed;
+use failures::Failed;
 use frame::NAME_INDEX_NEED;
 use index::ROW_LENGTH;
 use index::SPANS_LENGTH;

@@ -1,5 +1,2 @@
--- Facts about the failures that are kept, about plain walks, about marks, and about what is told.
-pub mod Best
-pub mod Walks
-pub mod Marks
+-- Facts about what is told.
 pub mod Explanations

@@ -1,5 +1,3 @@
--- What an explanation keeps of the failures (Best), the walks that it is made from (Walks), and what it tells (Explanations).
-pub mod Best
-pub mod Walks
+-- What an explanation tells.
 pub mod Explanations
 pub mod Laws

@@ -5,20 +5,16 @@
 // match; where that says "not matched", one plain walk of all starts more, and one of the closest attempt's start. The plain walks go over the same
 // events as the match's, so that they reach no end and the budget and the work area are enough for them: each is at a part of a trace that the match
 // has been through.
-mod greatest;
-mod marking;
-mod walking;
-
+use failures::Failed;
+use failures::find_failures;
 use frame::Preparation;
 use frame::REGISTERS;
 use frame::RULE_AREA_NEED;
 use frame::WORK_PER_STEP;
 use frame::finish;
 use frame::prepare;
-pub use greatest::Failed;
 use index::ROW_LENGTH;
 use index::UNSET;
-use marking::find_failures;
 use matching::Outcome;
 use matching::match_held;
 use syntax::Refusal;

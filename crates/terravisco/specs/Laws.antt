@@ -25,10 +25,10 @@ use Rattle.listing.specs.declared.Listing.{Listing}
 use Rattle.listing.specs.declared.Listing.the-variants.{Complete, Full, Exhausted as Cut, Refused as Denied}
 use Rattle.matching.specs.Outcomes.{outcomeOf}
 use Rattle.listing.specs.Listing.{listingOf}
-use Rattle.explaining.specs.declared.greatest.Failed.{Failed}
+use Rattle.failures.specs.declared.greatest.Failed.{Failed}
 use Rattle.explaining.specs.declared.Explanation.{Explanation}
 use Rattle.explaining.specs.declared.Explanation.the-variants.{Matched as Fitting, NotMatched as Unfitting, Exhausted as Ended, Refused as Declined}
-use Rattle.explaining.specs.Best.{failureOf}
+use Rattle.failures.specs.Best.{failureOf}
 use Rattle.explaining.specs.Explanations.{explanationOf}
 use Rattle.batching.specs.declared.Batch.{Batch}
 use Rattle.batching.specs.declared.Batch.the-variants.{Done as All, Refused as Unmade}

@@ -9,8 +9,8 @@ use Rattle.syntax.specs.Limits.{subjectLimit, ruleAreaNeed, unset, registers, w
 use Rattle.semantics.specs.Answers.{Answer}
 use Rattle.semantics.specs.Calls.{workAreaNeed}
 use Rattle.machine.specs.Theorem.{clear-all}
-use Rattle.explaining.specs.Laws.Walks.{not-matched-fruitless}
-use Rattle.explaining.specs.Laws.Marks.{marks-written}
+use Rattle.failures.specs.Laws.Walks.{not-matched-fruitless}
+use Rattle.failures.specs.Laws.Marks.{marks-written}
 use Rattle.explaining.proofs.tell_why.Statement.{statement}
 use Rattle.explaining.proofs.tell_why.Tie as tie
 
