@@ -15,7 +15,7 @@ from walk_vectors import NAMED_READINGS, READINGS, within_references
 TARGET = Path(__file__).resolve().parent.parent / "crates" / "call_vectors"
 RULE_AREA, ROW, INDEX = 16384, 66, 544
 MOST = 100000  # the largest budget
-MATCH, LIST, EXPLAIN = range(3)
+MATCH, LIST, EXPLAIN, SCAN = range(4)
 ENDINGS = {"M": "matched", "N": "not matched", "C": "complete", "F": "full"}
 # Classes of every kind of member, complemented and not.
 CLASSES = [b"[k]", b"[^k]", b"[W-c]", b"[^A-Y]", b"[[:upper:]]", b"[^[:^upper:]b]", b"[[:^lower:]0-9]", b"[\\x00\\x1F-!\\x7e-\\x81\\xFE\\xff]", b"[^\\W_[:digit:]]", b"[^\\d\\D]"]
@@ -52,13 +52,13 @@ def told(kind, rule, flags, subject, budget, areas):
     number = refusal(kind, rule, flags, subject, budget, areas)
     if number:
         return ["refused %d at 0" % number]
-    call = {MATCH: reference.match, LIST: lambda *asked: reference.listing(*asked, areas[2] // ROW), EXPLAIN: reference.explain}[kind]
+    call = {MATCH: reference.match, LIST: reference.listing, EXPLAIN: reference.explain, SCAN: reference.scan}[kind]
     try:
-        got = call(rule, flags, subject, budget)
+        got = call(rule, flags, subject, budget, *([areas[2] // ROW] if kind in (LIST, SCAN) else []))
     except reference.Refuse as refused:
         return ["refused %d at %d" % (refused.n, refused.p)]
     head = "exhausted at %d %d steps" % got[1:3] if got[0] == "X" else "%s %d steps" % (ENDINGS[got[0]], got[1])
-    rows = got[-1] if kind == LIST else [got[2]] if kind == MATCH and got[0] == "M" else []
+    rows = got[-1] if kind in (LIST, SCAN) else [got[2]] if kind == MATCH and got[0] == "M" else []
     why = why_lines(*got[2:], min(areas[-1], len(rule))) if kind == EXPLAIN and got[0] == "N" else []
     return [head] + [row_line(row) for row in rows] + names_line(reference.index(rule, flags)) + why
 

@@ -3,7 +3,7 @@
 their places, and what explanations tell and mark.
 
 Neither is the library, and they share no line: where they differ, one of the two reads the documents wrongly.
-Usage: harness/compare_reference.py [ARGUMENTS OF print_calls] (after `cargo build --release` in harness/), such as --explanations
+Usage: harness/compare_reference.py [ARGUMENTS OF print_calls] (after `cargo build --release` in harness/), such as --explanations or --scans
        harness/compare_reference.py --lookups [ARGUMENTS OF print_lookups], for the field lookup
 """
 import subprocess

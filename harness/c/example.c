@@ -1,4 +1,5 @@
-/* A worked example of the C interface: every reading of one line, fields by their names, and why a line does not match.
+/* A worked example of the C interface: every reading of one line, fields by their names, why a line does not match, and all the quantities
+ * in one message.
  *
  * `1,500 L` is one thousand five hundred litres where the comma stands between thousands, and one and a half litres where it is a decimal
  * comma. The rule allows both, so the listing has two rows, and whoever gets two rows knows that the line has to be asked about.
@@ -86,6 +87,20 @@ static void explain(const char *rule, const char *line)
     printf(" wanted\n");
 }
 
+/* Successive matches: every quantity that a message tells. */
+static void print_quantities(const char *message)
+{
+    static const char rule[] = "(\\d+) (L|kg)";
+    uint32_t answer[TERRAVISCO_ANSWER];
+
+    terravisco_match_all((const uint8_t *)rule, strlen(rule), 0, (const uint8_t *)message, strlen(message), BUDGET,
+                         rule_area, sizeof rule_area / sizeof *rule_area, work_area, sizeof work_area / sizeof *work_area,
+                         rows, sizeof rows / sizeof *rows, names, sizeof names, answer);
+    printf("`%s` tells %u quantities%s\n", message, (unsigned)answer[5], answer[0] == 0 ? "" : " or more");
+    for (uint32_t row = 0; row < answer[5]; row++)
+        print_row(rows + TERRAVISCO_ROW * row, message);
+}
+
 int main(void)
 {
     list("^(?:(\\d{1,3},\\d{3})|(\\d+,\\d+)) L$", 0, "1,500 L");
@@ -98,5 +113,7 @@ int main(void)
     print_litres("^tank \\d+:(?: (?<litres>\\d+) L)?$", "hall 3", "600");
     explain("^tank (\\w+): (\\d+) L$", "tank A1 820 L");
     explain("^tank (\\w+): (\\d+) L$", "tank A1: 820 L");
+    print_quantities("tank 7: 820 L, tank 8: 64 L, feed: 25 kg");
+    print_quantities("no delivery");
     return 0;
 }

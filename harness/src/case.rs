@@ -63,6 +63,7 @@ impl Case {
             Call::Match => "match",
             Call::List => "list",
             Call::Explain => "explain",
+            Call::Scan => "scan",
         };
         format!(
             "{call} rule `{}` (hex {}) flags {} subject \"{}\" (hex {}) budget {} areas {} {} {} {} {}",

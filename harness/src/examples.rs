@@ -69,8 +69,7 @@ impl Example {
             "same" => self.same = Some(value.as_bytes().to_vec()),
             "subject" => self.case.subject = text::unescaped(value)?,
             "flags" => self.case.flags = flags(value)?,
-            "call" if value == "list" => self.case.call = Call::List,
-            "call" if value == "explain" => self.case.call = Call::Explain,
+            "call" => self.case.call = call(value)?,
             "budget" => self.case.budget = value.parse().ok()?,
             "rows" => self.case.result_area = 66 * value.parse::<usize>().ok()?,
             "numbers" => self.case.result_area = value.parse().ok()?,
@@ -105,13 +104,15 @@ impl Example {
     /// The work area follows from the budget. An example expects something.
     fn finish(&mut self) -> Result<(), String> {
         self.case.work_area = if self.case.budget > 100_000 { 0 } else { 16 * self.case.budget as usize };
-        let (listing, explains) = (self.case.call == Call::List, self.case.call == Call::Explain);
+        let call = self.case.call;
+        let (for_one, explains) = (matches!(call, Call::Match | Call::Explain), call == Call::Explain);
         let fits = match self.ending {
             None => self.same.is_some(),
-            Some(Ending::Matched) => !listing && self.rows.len() == usize::from(!explains),
-            Some(Ending::NotMatched) => !listing && self.rows.is_empty() && self.told.explanation(&self.case).is_some() == explains,
-            Some(Ending::Complete | Ending::Full) => listing,
-            Some(Ending::Exhausted(_) | Ending::Refused(_)) => true,
+            Some(Ending::Matched) => for_one && self.rows.len() == usize::from(!explains),
+            Some(Ending::NotMatched) => for_one && self.rows.is_empty() && self.told.explanation(&self.case).is_some() == explains,
+            Some(Ending::Complete | Ending::Full) => matches!(call, Call::List | Call::Scan),
+            Some(Ending::Exhausted(_)) => true,
+            Some(Ending::Refused(_)) => self.rows.is_empty(),
         };
         if fits {
             Ok(())
@@ -172,6 +173,12 @@ fn shown_names(index: &independent::Index) -> String {
         }
     };
     (1..).zip(index.chunks_exact(independent::ENTRY_LENGTH)).filter_map(shown).collect::<Vec<_>>().join(" ")
+}
+
+/// A call other than a match by its name.
+fn call(value: &str) -> Option<Call> {
+    let calls = [("list", Call::List), ("explain", Call::Explain), ("scan", Call::Scan)];
+    calls.into_iter().find(|(name, _)| *name == value).map(|(_, call)| call)
 }
 
 /// Numbers with a blank between two of them; none in an empty text.

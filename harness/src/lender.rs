@@ -95,8 +95,8 @@ impl Lender {
         let ending = match (case.call, kind) {
             (Call::Match | Call::Explain, 0) => Ending::Matched,
             (Call::Match | Call::Explain, 1) => Ending::NotMatched,
-            (Call::List, 0) => Ending::Complete,
-            (Call::List, 1) => Ending::Full,
+            (Call::List | Call::Scan, 0) => Ending::Complete,
+            (Call::List | Call::Scan, 1) => Ending::Full,
             (_, 2) => Ending::Exhausted(detail as usize),
             _ => Ending::Refused(independent::Refusal { number: detail, place: place as usize }),
         };

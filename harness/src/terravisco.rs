@@ -19,7 +19,14 @@
 //! if let Explanation::NotMatched { closest, marks, .. } = matcher.explain(br"^tank \d+: \d+ L$", 0, b"tank 7 820 L") {
 //!     println!("from {} up to {}; wanted in the rule at {:?}", closest.start, closest.at, marks.collect::<Vec<_>>());
 //! }
+//! // All the quantities in one message.
+//! if let Listing::Complete { readings, .. } = matcher.match_all(br"(\d+) L", 0, b"820 L and 640 L") {
+//!     assert_eq!(readings.filter_map(|reading| reading.group(1)).collect::<Vec<_>>(), [0..3, 10..13]);
+//! }
 //! ```
+
+// A program that this is copied into need not use all of it.
+#![allow(dead_code)]
 
 use std::ops::Range;
 
@@ -74,15 +81,16 @@ pub enum Outcome<'m> {
     Refused(Refusal),
 }
 
-/// What a listing answers. Each reading is there once, by rising start and falling priority.
+/// What a listing answers: each reading is there once, by rising start and falling priority. Also what successive matches answer: there the readings
+/// follow one another in the line.
 #[derive(Debug)]
 pub enum Listing<'m> {
-    /// Every reading of the line.
+    /// Every reading of the line, or every match.
     Complete {
         readings: Readings<'m>,
         steps: u64,
     },
-    /// There is one more reading than there is room.
+    /// There is at least one reading more than there is room.
     Full {
         readings: Readings<'m>,
         steps: u64,
@@ -188,7 +196,17 @@ impl Matcher {
 
     /// Every reading of the line, as far as budget and room go.
     pub fn list_readings(&mut self, rule: &[u8], flags: u32, line: &[u8]) -> Listing<'_> {
-        let answer = self.call(Call::List, rule, flags, line);
+        self.listing(Call::List, rule, flags, line)
+    }
+
+    /// Successive matches, as Perl's `/g` finds them, as far as budget and room go: each begins where the one before ended or behind that, and none is
+    /// empty where an empty one was.
+    pub fn match_all(&mut self, rule: &[u8], flags: u32, line: &[u8]) -> Listing<'_> {
+        self.listing(Call::Scan, rule, flags, line)
+    }
+
+    fn listing(&mut self, call: Call, rule: &[u8], flags: u32, line: &[u8]) -> Listing<'_> {
+        let answer = self.call(call, rule, flags, line);
         let steps = answer.steps;
         let readings = Readings { rows: self.rows[..ROW_LENGTH * answer.rows].chunks_exact(ROW_LENGTH), names: &self.names };
         match answer.kind {

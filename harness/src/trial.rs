@@ -59,9 +59,9 @@ impl Kinds {
     }
 
     pub fn told(&self) -> String {
-        let [matched, not, complete, full, exhausted] = self.endings;
-        let listed = if complete + full == 0 { String::new() } else { format!(", {complete} complete, {full} full") };
-        let walked = format!("{matched} matched, {not} not{listed}, {exhausted} exhausted");
+        let words = ["matched", "not", "complete", "full", "exhausted"];
+        let walked = self.endings.iter().zip(words).filter(|(count, _)| **count > 0).map(|(count, word)| format!("{count} {word}"));
+        let walked = walked.collect::<Vec<_>>().join(", ");
         let rarest = (1..27).filter(|number| !self.never.contains(number)).map(|number| self.refusals[number]).min().unwrap_or(0);
         match self.refusals.iter().sum::<u64>() {
             0 => walked,

@@ -54,11 +54,11 @@ impl<'c> Library<'c> {
         let steps = u64::from(high) << 32 | u64::from(low);
         let rows = match (self.case.call, kind) {
             (_, REFUSED) => panic!("a case of the benchmark is refused: {detail} at {place}"),
-            (Call::List, 1) => panic!("a case of the benchmark has too few rows"),
+            (Call::List | Call::Scan, 1) => panic!("a case of the benchmark has too few rows"),
             (_, 2) => return (Reply::GaveUp, steps),
             (Call::Match, 0) => 1,
             (Call::Match | Call::Explain, _) => 0,
-            (Call::List, _) => rows as usize,
+            (Call::List | Call::Scan, _) => rows as usize,
         };
         (Reply::Rows(self.result[..ROW_LENGTH * rows].to_vec()), steps)
     }

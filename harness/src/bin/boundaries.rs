@@ -1,15 +1,15 @@
 //! Calls at the limits of documents 01 and 02: each of refusals 1 to 8 at its last good and first bad value, all of them together in their order,
 //! subjects of 65,535 bytes, the greatest budget, also within a reference, every flag setting, rules of 1,000 bytes that `x` mostly skips, the
-//! longest names and the most, marks of every length around a rule's, and lookups at the edges of an index and of a row.
+//! longest names and the most, marks of every length around a rule's, as many successive matches as there can be, and lookups at the edges of an index and of a row.
 
 use harness::case::{shown, Case};
-use harness::independent::{Ending, FLAG_I, FLAG_X, UNSET};
+use harness::independent::{Ending, FLAG_I, FLAG_X, ROW_LENGTH, UNSET};
 use harness::lender::Lender;
 use harness::looker::{self, Looker};
 use harness::raw::{Call, Lookup};
 use harness::report::Group;
 
-const CALLS: [Call; 3] = [Call::Match, Call::List, Call::Explain];
+const CALLS: [Call; 4] = [Call::Match, Call::List, Call::Explain, Call::Scan];
 
 fn main() -> std::process::ExitCode {
     let mut group = Group::new("boundaries");
@@ -28,6 +28,7 @@ fn main() -> std::process::ExitCode {
     }
     marks(&mut group, &mut lender);
     far_attempts(&mut group, &mut lender);
+    most_matches(&mut group, &mut lender);
     lookups_by_index(&mut group);
     lookups_by_row(&mut group);
     group.end("")
@@ -44,23 +45,10 @@ fn judge(group: &mut Group, lender: &mut Lender, case: &Case) {
 /// and so never refused by 7; in place of that one, its marks have no room, which refuses nothing.
 fn refusals_in_order(group: &mut Group, lender: &mut Lender, call: Call) {
     for broken in 0u32..256 {
-        let breaks = |number: u32| broken >> (number - 1) & 1;
-        let budget = if breaks(4) == 1 { 100_001 } else { 100 };
-        let case = Case {
-            call,
-            rule: vec![b'b'; 1_000 + breaks(1) as usize],
-            flags: if breaks(3) == 1 { 16 } else { 15 },
-            subject: vec![b'a'; 65_535 + breaks(2) as usize],
-            budget,
-            rule_area: 16_384 - breaks(5) as usize,
-            work_area: 16 * budget as usize - breaks(6) as usize,
-            result_area: 66 - breaks(7) as usize,
-            name_index: 544 - breaks(8) as usize,
-            marks: 1_000 * (1 - breaks(7) as usize),
-        };
-        let run = lender.run(&case);
+        let is_broken = |number: u32| broken >> (number - 1) & 1 == 1;
+        let run = lender.run(&with_limits_broken(call, |number| usize::from(is_broken(number))));
         let mut faults = run.faults;
-        let expected = (1..=8).find(|&number| breaks(number) == 1 && (call != Call::Explain || number != 7));
+        let expected = (1..=8).find(|&number| is_broken(number) && (call != Call::Explain || number != 7));
         let told = match run.answer.ending {
             Ending::Refused(refusal) => Some(refusal.number),
             _ => None,
@@ -70,6 +58,23 @@ fn refusals_in_order(group: &mut Group, lender: &mut Lender, call: Call) {
             faults.push(format!("expected refusal {expected:?} and {steps} steps, the library answers {}", shown(&run.answer)));
         }
         group.judge(&format!("limits broken: {broken:08b}"), &faults);
+    }
+}
+
+/// A call with each limit just kept, or broken by one: `breaks` gives 1 for the numbers of those.
+fn with_limits_broken(call: Call, breaks: impl Fn(u32) -> usize) -> Case {
+    let budget = if breaks(4) == 1 { 100_001 } else { 100 };
+    Case {
+        call,
+        rule: vec![b'b'; 1_000 + breaks(1)],
+        flags: if breaks(3) == 1 { 16 } else { 15 },
+        subject: vec![b'a'; 65_535 + breaks(2)],
+        budget,
+        rule_area: 16_384 - breaks(5),
+        work_area: 16 * budget as usize - breaks(6),
+        result_area: ROW_LENGTH - breaks(7),
+        name_index: 544 - breaks(8),
+        marks: 1_000 * (1 - breaks(7)),
     }
 }
 
@@ -257,6 +262,28 @@ fn far_attempts(group: &mut Group, lender: &mut Lender) {
     }
     for (rule, length) in [(&br"\A(?:a{255}){128}b"[..], 32_640), (br"\A(?:a{255}){128}b", 32_641), (br"^((?:a{100}){100})\1b", 20_000)] {
         judge(group, lender, &Case::new(Call::Explain, rule, 0, &vec![b'a'; length], 100_000, 1));
+    }
+}
+
+/// As many matches as a line can have, each with the least budget: on the longest line twice as many tries as it has starts, with a row more, just
+/// enough and one less.
+fn most_matches(group: &mut Group, lender: &mut Lender) {
+    let subject = vec![b'a'; 65_535];
+    for rows in [1, 2, 65_535, 65_536, 65_537] {
+        judge(group, lender, &Case::new(Call::Scan, b"", 0, &subject, 1, rows));
+        judge(group, lender, &Case::new(Call::Scan, b"a", 0, &subject, 2, rows));
+    }
+    // Two matches from each start.
+    for rows in [1_999, 2_000, 2_001, 2_002] {
+        for (rule, budget) in [(&b"a??"[..], 5), (b"|a", 4), (b"(|.)", 6), (b"(?:|a)", 3)] {
+            judge(group, lender, &Case::new(Call::Scan, rule, 0, &subject[..1_000], budget, rows));
+        }
+    }
+    for rule in [&br"(?:a{255}){10}"[..], br"a{255}$", br"\A|\z", br"\Z\n?", br"^", br"$"] {
+        for flags in [0, 2] {
+            let line = [&subject[..3_000], b"\n", &subject[..3_000], b"\n"].concat();
+            judge(group, lender, &Case::new(Call::Scan, rule, flags, &line, 10_000, 9));
+        }
     }
 }
 

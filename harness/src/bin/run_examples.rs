@@ -1,5 +1,5 @@
-//! Runs the examples of `data/`: Perl's documents, documents 01 and 02 with their open points, the guide, and explanations. Both the library and the
-//! independent matcher have to give what was written down by hand.
+//! Runs the examples of `data/`: Perl's documents, documents 01 and 02 with their open points, the guide, explanations and successive matches. Both the
+//! library and the independent matcher have to give what was written down by hand.
 
 use std::path::Path;
 
@@ -19,6 +19,7 @@ fn main() -> std::process::ExitCode {
         ("checked readings, traps and open points", "checked-readings.txt"),
         ("examples of the guide", "guide-examples.txt"),
         ("explanations", "explanations.txt"),
+        ("successive matches", "scans.txt"),
     ];
     let lookups = run_lookups("lookups of fields", "lookups.txt");
     if files.map(|(name, file)| run(name, file)).iter().all(|passed| *passed) && lookups {

@@ -6,7 +6,7 @@ use harness::independent::Answer;
 use harness::random::calls;
 use harness::raw::Call;
 use harness::report::Group;
-use harness::terravisco::{Attempt, Explanation, Failure, Listing, Matcher, Outcome, Reading, Reason, Refusal, FLAG_I, FLAG_M, FLAG_S, FLAG_X};
+use harness::terravisco::{Attempt, Explanation, Failure, Listing, Matcher, Outcome, Readings, Reason, Refusal, FLAG_I, FLAG_M, FLAG_S, FLAG_X};
 
 const BUDGET: u32 = 1_000;
 const ROWS: usize = 5;
@@ -18,6 +18,7 @@ fn main() -> std::process::ExitCode {
     flags(&mut group, &mut matcher);
     fields(&mut group, &mut matcher);
     explanations(&mut group, &mut matcher);
+    successive_matches(&mut group, &mut matcher);
     let greedy =
         matches!(Matcher::new(u32::MAX, 1).match_line(b"a", 0, b"a"), Outcome::Refused(Refusal { reason: Reason::BudgetTooGreat, place: 0 }));
     group.judge("a budget over its limit", &if greedy { Vec::new() } else { vec!["it is not refused".to_string()] });
@@ -38,7 +39,7 @@ fn random_calls(seed: u64) -> Vec<(String, Vec<String>)> {
     for number in 0..2_000 {
         let random = calls::case(seed, number);
         let flags = random.flags & (FLAG_S | FLAG_M | FLAG_I | FLAG_X);
-        for call in [random.call, Call::Explain] {
+        for call in [random.call, Call::Explain, Call::Scan] {
             let case = Case::new(call, &random.rule, flags, &random.subject, BUDGET, ROWS);
             // The words have no names: fields are looked up on the examples.
             let (ours, expected) = (told(&mut matcher, &case), shown(&Answer { names: None, ..case.expected() }));
@@ -131,10 +132,24 @@ fn explanations(group: &mut Group, matcher: &mut Matcher) {
     group.judge("other explanations", &if others == [true; 5] { Vec::new() } else { vec![format!("{others:?}")] });
 }
 
+/// The quantities of one message, and a match behind an empty one.
+fn successive_matches(group: &mut Group, matcher: &mut Matcher) {
+    for (rule, line, expected) in [
+        (&br"(\d+) L"[..], &b"tank 7: 820 L, tank 8: 640 L"[..], &["8-13 1:8-11", "23-28 1:23-26"][..]),
+        (b"a*?", b"aa", &["0-0", "0-1", "1-1", "1-2", "2-2"]),
+        (b"x", b"aa", &[]),
+    ] {
+        let readings: Vec<String> = match matcher.match_all(rule, 0, line) {
+            Listing::Complete { readings, .. } => readings.map(|reading| format!("{reading:?}")).collect(),
+            other => vec![format!("{other:?}")],
+        };
+        let what = format!("successive matches in {}", String::from_utf8_lossy(line));
+        group.judge(&what, &if readings == expected { Vec::new() } else { vec![format!("{readings:?}")] });
+    }
+}
+
 /// What the matcher says, in the words of `shown`.
 fn told(matcher: &mut Matcher, case: &Case) -> String {
-    let rows = |readings: &mut dyn Iterator<Item = Reading>| readings.map(|reading| format!("{reading:?}")).collect::<Vec<_>>().join("; ");
-    let refused = |refusal: Refusal| format!("refused {} at {}", refusal.reason.number(), refusal.place);
     match case.call {
         Call::Match => match matcher.match_line(&case.rule, case.flags, &case.subject) {
             Outcome::Matched { reading, steps } => format!("matched, {steps} steps [{reading:?}]"),
@@ -142,22 +157,37 @@ fn told(matcher: &mut Matcher, case: &Case) -> String {
             Outcome::Exhausted { start, steps } => format!("exhausted at {start}, {steps} steps []"),
             Outcome::Refused(refusal) => refused(refusal),
         },
-        Call::List => match matcher.list_readings(&case.rule, case.flags, &case.subject) {
-            Listing::Complete { mut readings, steps } => format!("complete, {steps} steps [{}]", rows(&mut readings)),
-            Listing::Full { mut readings, steps } => format!("full, {steps} steps [{}]", rows(&mut readings)),
-            Listing::Exhausted { start, mut readings, steps } => format!("exhausted at {start}, {steps} steps [{}]", rows(&mut readings)),
-            Listing::Refused(refusal) => refused(refusal),
-        },
-        Call::Explain => match matcher.explain(&case.rule, case.flags, &case.subject) {
-            Explanation::Matched { steps } => format!("matched, {steps} steps []"),
-            Explanation::NotMatched { steps, furthest, closest, marks } => {
-                let marked: Vec<usize> = marks.collect();
-                let marks: String = (0..case.rule.len()).map(|item| if marked.contains(&item) { '1' } else { '0' }).collect();
-                let (Failure { at, item }, Attempt { start, at: close_at, item: close_item }) = (furthest, closest);
-                format!("not matched, {steps} steps [] furthest {at} {item} closest {start} {close_at} {close_item} marks {marks}")
-            }
-            Explanation::Exhausted { start, steps } => format!("exhausted at {start}, {steps} steps []"),
-            Explanation::Refused(refusal) => refused(refusal),
-        },
+        Call::List => told_listing(matcher.list_readings(&case.rule, case.flags, &case.subject)),
+        Call::Scan => told_listing(matcher.match_all(&case.rule, case.flags, &case.subject)),
+        Call::Explain => told_explanation(matcher.explain(&case.rule, case.flags, &case.subject), case.rule.len()),
+    }
+}
+
+fn refused(refusal: Refusal) -> String {
+    format!("refused {} at {}", refusal.reason.number(), refusal.place)
+}
+
+fn told_listing(listing: Listing) -> String {
+    let rows = |readings: Readings| readings.map(|reading| format!("{reading:?}")).collect::<Vec<_>>().join("; ");
+    match listing {
+        Listing::Complete { readings, steps } => format!("complete, {steps} steps [{}]", rows(readings)),
+        Listing::Full { readings, steps } => format!("full, {steps} steps [{}]", rows(readings)),
+        Listing::Exhausted { start, readings, steps } => format!("exhausted at {start}, {steps} steps [{}]", rows(readings)),
+        Listing::Refused(refusal) => refused(refusal),
+    }
+}
+
+/// An explanation with a mark for each byte of the rule.
+fn told_explanation(explanation: Explanation, rule: usize) -> String {
+    match explanation {
+        Explanation::Matched { steps } => format!("matched, {steps} steps []"),
+        Explanation::NotMatched { steps, furthest, closest, marks } => {
+            let marked: Vec<usize> = marks.collect();
+            let marks: String = (0..rule).map(|item| if marked.contains(&item) { '1' } else { '0' }).collect();
+            let (Failure { at, item }, Attempt { start, at: close_at, item: close_item }) = (furthest, closest);
+            format!("not matched, {steps} steps [] furthest {at} {item} closest {start} {close_at} {close_item} marks {marks}")
+        }
+        Explanation::Exhausted { start, steps } => format!("exhausted at {start}, {steps} steps []"),
+        Explanation::Refused(refusal) => refused(refusal),
     }
 }

@@ -8,13 +8,15 @@ mod explain;
 pub mod lookup;
 mod names;
 mod reader;
+mod scan;
 mod sets;
 pub mod tree;
 mod walk;
 
-pub use calls::{answer, references_at, steps_at, Answer, Ending, Inputs, Row, ROW_LENGTH, RULE_AREA, UNSET, WORK_PER_STEP};
+pub use calls::{answer, references_at, steps_at, Answer, Ending, Inputs, Row, Walks, ROW_LENGTH, RULE_AREA, UNSET, WORK_PER_STEP};
 pub use explain::{Attempt, Explanation};
 pub use names::{named, Index, ENTRIES, ENTRY_LENGTH, INDEX_LENGTH};
 pub use reader::{read, Refusal, ALL_FLAGS, FLAG_I, FLAG_M, FLAG_S, FLAG_X};
+pub use scan::{Outcome, Tries};
 pub use sets::ByteSet;
 pub use walk::Miss;

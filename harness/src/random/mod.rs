@@ -6,7 +6,9 @@ pub mod explanations;
 pub mod fast;
 pub mod lookups;
 pub mod rules;
+pub mod scans;
 pub mod shared;
+pub mod sound;
 pub mod subjects;
 
 /// SplitMix64: the same seed gives the same numbers on every machine.
