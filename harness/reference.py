@@ -1,5 +1,5 @@
 #!/usr/bin/env python3
-"""An independent matcher written from documents 01 and 02: parse, walk, match, list, explain, scan."""
+"""An independent matcher written from documents 01 and 02: parse, walk, match, list, explain, scan, batch."""
 import sys
 sys.setrecursionlimit(1000000)
 U=4294967295
@@ -350,3 +350,11 @@ def scan(rule,flags,sub,budget,room):
         if len(rows)==room: return ('F',total,rows)
         rows.append(hit[0]); bar=hit[0][1]==st; st=hit[0][1]
     return ('C',total,rows)
+def lines(buf):
+    """the lines of a buffer: a last piece without 0A counts if not empty"""
+    ls=buf.split(b'\n')
+    return ls if ls[-1] else ls[:-1]
+def batch(rule,flags,buf,budget):
+    """what match gives for each line; ('R',2) for one that is too long"""
+    read(rule,flags)
+    return [('R',2) if len(l)>65535 else match(rule,flags,l,budget) for l in lines(buf)]

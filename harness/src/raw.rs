@@ -1,7 +1,7 @@
 //! The library's C interface as it stands, and one call of it on lent areas. Tests use this; a program uses `terravisco::Matcher`.
 //!
 //! A library from before names, which `bench --before` may be given, takes no name index and has no lookup: `build.rs` sets `before_names` for it, and
-//! `before_explanations` or `before_scans` for one that has none of these.
+//! `before_explanations`, `before_scans` or `before_batches` for one that has none of these.
 
 #![allow(unexpected_cfgs)]
 // A program that this is copied into need not use all of it.
@@ -15,6 +15,8 @@ pub enum Call {
     Explain,
     /// Successive matches.
     Scan,
+    /// A day's lines: the subject is a buffer of them.
+    Batch,
 }
 
 /// The most numbers that an answer has: those of an explanation. The other calls have the first six.
@@ -49,6 +51,8 @@ calls! {
     terravisco_explain(names: u8, marks: u8);
     #[cfg(not(before_scans))]
     terravisco_match_all(result: u32, names: u8);
+    #[cfg(not(before_batches))]
+    terravisco_match_lines(result: u32, names: u8);
 }
 
 extern "C" {
@@ -128,7 +132,9 @@ pub fn call(call: Call, question: Question, areas: Areas, answer: &mut [u32; ANS
         Call::Explain => ask!(terravisco_explain(question, areas: names, marks) -> answer),
         #[cfg(not(before_scans))]
         Call::Scan => ask!(terravisco_match_all(question, areas: result, names) -> answer),
-        #[cfg(any(before_explanations, before_scans))]
+        #[cfg(not(before_batches))]
+        Call::Batch => ask!(terravisco_match_lines(question, areas: result, names) -> answer),
+        #[cfg(any(before_explanations, before_scans, before_batches))]
         _ => panic!("this library is from before that call: {call:?}"),
     }
 }

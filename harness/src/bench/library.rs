@@ -3,7 +3,7 @@
 use std::hint::black_box;
 
 use super::{Case, Reply};
-use crate::independent::{INDEX_LENGTH, ROW_LENGTH, RULE_AREA, WORK_PER_STEP};
+use crate::independent::{INDEX_LENGTH, PART_LENGTH, ROW_LENGTH, RULE_AREA, WORK_PER_STEP};
 use crate::raw::{self, Areas, Call, Question, ANSWER_LENGTH};
 
 /// An answer's kind when the call is refused, and the reasons for which a library from before a flag, `\k` or `(?<` refuses one that has it.
@@ -25,7 +25,7 @@ impl<'c> Library<'c> {
             case,
             rule_area: vec![0; RULE_AREA],
             work_area: vec![0; WORK_PER_STEP * case.budget as usize],
-            result: vec![0; ROW_LENGTH * case.room],
+            result: vec![0; case.room * if case.call == Call::Batch { PART_LENGTH } else { ROW_LENGTH }],
             names: vec![0; INDEX_LENGTH],
             answer: [0; ANSWER_LENGTH],
         }
@@ -59,6 +59,7 @@ impl<'c> Library<'c> {
             (Call::Match, 0) => 1,
             (Call::Match | Call::Explain, _) => 0,
             (Call::List | Call::Scan, _) => rows as usize,
+            (Call::Batch, _) => return (Reply::Rows(self.result[..PART_LENGTH * rows as usize].to_vec()), steps),
         };
         (Reply::Rows(self.result[..ROW_LENGTH * rows].to_vec()), steps)
     }

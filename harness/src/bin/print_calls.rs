@@ -1,19 +1,19 @@
 //! Prints random calls, each on a line with what the independent matcher answers, for `compare_reference.py`: call, flags, budget, the lengths
-//! of the areas, of the name index and of the marks, rule and subject in hex, and the answer, with tabs between them. `--fast`, `--explanations`
-//! and `--scans` print the calls of that kind.
+//! of the areas, of the name index and of the marks, rule and subject in hex, and the answer, with tabs between them. `--fast`, `--explanations`,
+//! `--scans` and `--batches` print the calls of that kind.
 
 use harness::arguments::arguments_and_switches;
 use harness::case::{shown, Case};
-use harness::random::{calls, explanations, fast, scans};
+use harness::random::{batches, calls, explanations, fast, scans};
 use harness::raw::Call;
 use harness::text::hex;
 
 /// The calls by their numbers.
-const KINDS: [Call; 4] = [Call::Match, Call::List, Call::Explain, Call::Scan];
+const KINDS: [Call; 5] = [Call::Match, Call::List, Call::Explain, Call::Scan, Call::Batch];
 
 fn main() {
-    let (arguments, switches) = arguments_and_switches(["--fast", "--explanations", "--scans"], 10_000, 1..2);
-    let makers: [fn(u64, u64) -> Case; 3] = [fast::case, explanations::case, scans::case];
+    let (arguments, switches) = arguments_and_switches(["--fast", "--explanations", "--scans", "--batches"], 10_000, 1..2);
+    let makers: [fn(u64, u64) -> Case; 4] = [fast::case, explanations::case, scans::case, batches::case];
     let make = switches.iter().zip(makers).find(|(is_given, _)| **is_given).map_or(calls::case as fn(u64, u64) -> Case, |(_, make)| make);
     for seed in arguments.seeds.clone() {
         for number in 0..arguments.cases {

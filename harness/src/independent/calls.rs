@@ -1,10 +1,11 @@
-//! The calls: refusals 1 to 8, the starts one after another, rows, what failed, the name index, and how a call ends. Successive matches have a
-//! file of their own.
+//! The calls: refusals 1 to 8, the starts one after another, rows, what failed, the name index, and how a call ends. Successive matches and a day's
+//! lines have files of their own.
 
 use std::collections::HashSet;
 
 use crate::raw::Call;
 
+use super::batch::{self, Part, PART_LENGTH};
 use super::explain::{Explanation, Log};
 use super::names::{self, Index, INDEX_LENGTH};
 use super::reader::{self, Refusal, ALL_FLAGS};
@@ -13,6 +14,7 @@ use super::tree::Rule;
 use super::walk::{End, Event, Walk};
 
 pub const ROW_LENGTH: usize = 66;
+pub const LONGEST_SUBJECT: usize = 65_535;
 pub const UNSET: u32 = 4_294_967_295;
 pub const RULE_AREA: usize = 16_384;
 pub const WORK_PER_STEP: usize = 16;
@@ -24,6 +26,7 @@ pub type Row = [u32; ROW_LENGTH];
 pub struct Inputs<'a> {
     pub rule: &'a [u8],
     pub flags: u32,
+    /// For a day's lines the buffer.
     pub subject: &'a [u8],
     pub budget: u32,
     pub rule_area: usize,
@@ -42,12 +45,14 @@ pub enum Ending {
     NotMatched,
     Complete,
     Full,
+    /// A day's lines, each with its own outcome.
+    Done,
     /// Exhausted at this start.
     Exhausted(usize),
     Refused(Refusal),
 }
 
-/// What a call answers, and the rows or marks that it writes. A refusal has no steps.
+/// What a call answers, and the rows, marks or parts that it writes. A refusal has no steps, and a call for a day's lines none of its own.
 #[derive(PartialEq, Eq)]
 pub struct Answer {
     pub ending: Ending,
@@ -57,12 +62,14 @@ pub struct Answer {
     pub names: Option<Box<Index>>,
     /// What an explanation tells where it says "not matched".
     pub explanation: Option<Explanation>,
+    /// What a day's lines get, one after another.
+    pub parts: Vec<Part>,
 }
 
 impl Answer {
     /// An answer with nothing beside its ending.
     fn bare(ending: Ending) -> Answer {
-        Answer { ending, steps: 0, rows: Vec::new(), names: None, explanation: None }
+        Answer { ending, steps: 0, rows: Vec::new(), names: None, explanation: None, parts: Vec::new() }
     }
 
     /// "After refusals 1 to 7 both areas are unchanged; after any other return their needed first part is zero"; 02: "New refusal 8, after 7 and like it
@@ -91,6 +98,7 @@ fn walked_answer(call: Call, rule: &Rule, inputs: &Inputs) -> Answer {
         Call::Match | Call::Explain => first_reading(walks, &mut log),
         Call::List => all_readings(walks, inputs.result_area / ROW_LENGTH),
         Call::Scan => scan::all_matches(walks, inputs.result_area / ROW_LENGTH),
+        Call::Batch => return Answer { parts: batch::parts(walks), ..Answer::bare(Ending::Done) },
     };
     let mut explanation = None;
     if call == Call::Explain {
@@ -132,23 +140,29 @@ fn walked<'r>(call: Call, rule: &'r Rule, subject: &'r [u8], start: usize, budge
     walk
 }
 
-/// The first of refusals 1 to 8 that is due, "tested in this order". 02 f): "No result area is lent, so 7 isn't given."
+/// The first of refusals 1 to 8 that is due, "tested in this order". 02 f): "No result area is lent, so 7 isn't given." 02 h): "A line over 65,535 bytes
+/// gets refusal 2 in its own outcome", "7 is given here only if lines outnumber parts".
 fn unacceptable(call: Call, inputs: &Inputs) -> Option<u32> {
+    let is_short = match call {
+        Call::Match | Call::List | Call::Scan => inputs.result_area < ROW_LENGTH,
+        Call::Explain => false,
+        Call::Batch => batch::lines(inputs.subject).len() > inputs.result_area / PART_LENGTH,
+    };
     let tests = [
         inputs.rule.len() > 1_000,
-        inputs.subject.len() > 65_535,
+        call != Call::Batch && inputs.subject.len() > LONGEST_SUBJECT,
         inputs.flags > ALL_FLAGS,
         inputs.budget > 100_000,
         inputs.rule_area < RULE_AREA,
         inputs.work_area < WORK_PER_STEP * inputs.budget as usize,
-        call != Call::Explain && inputs.result_area < ROW_LENGTH,
+        is_short,
         inputs.name_index < INDEX_LENGTH,
     ];
     (1..).zip(tests).find(|&(_, due)| due).map(|(number, _)| number)
 }
 
 /// "A match stops at the first end reached". The budget holds afresh at each start. What failed at a start without an end goes into the log.
-fn first_reading(walks: Walks, log: &mut Log) -> (Ending, u64, Vec<Row>) {
+pub fn first_reading(walks: Walks, log: &mut Log) -> (Ending, u64, Vec<Row>) {
     let mut steps = 0;
     for start in 0..=walks.subject.len() {
         let mut walk = walks.from(start);

@@ -1,5 +1,6 @@
 //! Random tests that can be made again: a small generator of numbers from a seed, and makers of rules, subjects and calls on top of it.
 
+pub mod batches;
 pub mod calls;
 pub mod damage;
 pub mod explanations;
