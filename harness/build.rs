@@ -30,6 +30,8 @@ fn link_terravisco() {
     // With the field lookup came calls that fill a name index.
     tell_age(&archive, "before_names", b"terravisco_field");
     tell_age(&archive, "before_explanations", b"terravisco_explain");
+    tell_age(&archive, "before_scans", b"terravisco_match_all");
+    tell_age(&archive, "before_batches", b"terravisco_match_lines");
 }
 
 /// Tells the program if the archive is from before this function. Such a one can still be timed.

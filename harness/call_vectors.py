@@ -13,9 +13,9 @@ from reference import I, X
 from walk_vectors import NAMED_READINGS, READINGS, within_references
 
 TARGET = Path(__file__).resolve().parent.parent / "crates" / "call_vectors"
-RULE_AREA, ROW, INDEX = 16384, 66, 544
+RULE_AREA, ROW, PART, INDEX = 16384, 66, 70, 544
 MOST = 100000  # the largest budget
-MATCH, LIST, EXPLAIN = range(3)
+MATCH, LIST, EXPLAIN, SCAN, BATCH = range(5)
 ENDINGS = {"M": "matched", "N": "not matched", "C": "complete", "F": "full"}
 # Classes of every kind of member, complemented and not.
 CLASSES = [b"[k]", b"[^k]", b"[W-c]", b"[^A-Y]", b"[[:upper:]]", b"[^[:^upper:]b]", b"[[:^lower:]0-9]", b"[\\x00\\x1F-!\\x7e-\\x81\\xFE\\xff]", b"[^\\W_[:digit:]]", b"[^\\d\\D]"]
@@ -39,26 +39,38 @@ def why_lines(furthest, closest, items, marks):
     return ["  furthest %d %d" % furthest, "  closest %d %d %d" % closest, "  marks " + marked]
 
 
+def part_line(got):
+    """What a line of a batch gets: its outcome, its steps and its row."""
+    if got[0] == "R":
+        return "  refused %d, 0 steps" % got[1]
+    head = "exhausted at %d, %d steps" % got[1:3] if got[0] == "X" else "%s, %d steps" % (ENDINGS[got[0]], got[1])
+    row = row_line(got[2]).split() if got[0] == "M" else []
+    return "  " + " ".join([head] + (["-".join(row[:2])] + row[2:] if row else []))
+
+
 def refusal(kind, rule, flags, subject, budget, areas):
-    """Refusals 1 to 8, in their order; 0 for none. An explanation is lent no result area."""
-    tests = [len(rule) > 1000, len(subject) > 65535, flags > 15, budget > 100000, areas[0] < RULE_AREA, areas[1] < 16 * budget,
-             kind != EXPLAIN and areas[2] < ROW, areas[3] < INDEX]
+    """Refusals 1 to 8, in their order; 0 for none. An explanation is lent no result area; of a batch the lines may be too long, and too many."""
+    is_short = {EXPLAIN: lambda: False, BATCH: lambda: len(reference.lines(subject)) > areas[2] // PART}.get(kind, lambda: areas[2] < ROW)
+    tests = [len(rule) > 1000, kind != BATCH and len(subject) > 65535, flags > 15, budget > 100000, areas[0] < RULE_AREA,
+             areas[1] < 16 * budget, is_short(), areas[3] < INDEX]
     return tests.index(True) + 1 if True in tests else 0
 
 
 def told(kind, rule, flags, subject, budget, areas):
-    """The lines of one call: its outcome, its rows, its names if it has some, and, if it was to explain, why the line is not matched. The
-    last of an explanation's areas are the marks."""
+    """The lines of one call: its outcome, its rows or the parts of its lines, its names if it has some, and, if it was to explain, why the line is
+    not matched. The last of an explanation's areas are the marks."""
     number = refusal(kind, rule, flags, subject, budget, areas)
     if number:
         return ["refused %d at 0" % number]
-    call = {MATCH: reference.match, LIST: lambda *asked: reference.listing(*asked, areas[2] // ROW), EXPLAIN: reference.explain}[kind]
+    call = {MATCH: reference.match, LIST: reference.listing, EXPLAIN: reference.explain, SCAN: reference.scan, BATCH: reference.batch}[kind]
     try:
-        got = call(rule, flags, subject, budget)
+        got = call(rule, flags, subject, budget, *([areas[2] // ROW] if kind in (LIST, SCAN) else []))
     except reference.Refuse as refused:
         return ["refused %d at %d" % (refused.n, refused.p)]
+    if kind == BATCH:
+        return ["done %d lines" % len(got)] + [part_line(part) for part in got] + names_line(reference.index(rule, flags))
     head = "exhausted at %d %d steps" % got[1:3] if got[0] == "X" else "%s %d steps" % (ENDINGS[got[0]], got[1])
-    rows = got[-1] if kind == LIST else [got[2]] if kind == MATCH and got[0] == "M" else []
+    rows = got[-1] if kind in (LIST, SCAN) else [got[2]] if kind == MATCH and got[0] == "M" else []
     why = why_lines(*got[2:], min(areas[-1], len(rule))) if kind == EXPLAIN and got[0] == "N" else []
     return [head] + [row_line(row) for row in rows] + names_line(reference.index(rule, flags)) + why
 

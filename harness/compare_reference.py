@@ -1,9 +1,10 @@
 #!/usr/bin/env python3
 """Compares reference.py with the independent matcher in src/independent on random calls: outcomes, steps, rows, names, refusals with
-their places, and what explanations tell and mark.
+their places, what explanations tell and mark, and the parts of a batch's lines.
 
 Neither is the library, and they share no line: where they differ, one of the two reads the documents wrongly.
-Usage: harness/compare_reference.py [ARGUMENTS OF print_calls] (after `cargo build --release` in harness/), such as --explanations
+Usage: harness/compare_reference.py [ARGUMENTS OF print_calls] (after `cargo build --release` in harness/), such as --explanations,
+       --scans or --batches
        harness/compare_reference.py --lookups [ARGUMENTS OF print_lookups], for the field lookup
 """
 import subprocess
@@ -23,12 +24,14 @@ def shown(lines):
         first, *more = line.split()
         if first.isdigit():
             rows.append(" ".join([first + "-" + more[0]] + more[1:]))
+        elif head.startswith("done") and first != "names":
+            rows.append(line[2:])
         else:
             others += line[1:]
     if head.startswith("refused"):
         return head
-    ending, steps, _ = head.rsplit(" ", 2)
-    return "%s, %s steps [%s]%s" % (ending, steps, "; ".join(rows), others)
+    ending, number, what = head.rsplit(" ", 2)
+    return "%s, %s %s [%s]%s" % (ending, number, what, "; ".join(rows), others)
 
 
 def call(fields):

@@ -5,16 +5,13 @@ Small cases and all messages are held to texts written here by hand. Large ones,
 written a second time, over the rows and the lookup of reference.py. It shares nothing with the program.
 Usage: harness/fields_cases.py [SEED] (in the repository's root, after `rt check fields`). The last line is 'N passed, M failed'.
 """
-import os
 import random
 import subprocess
 import sys
-import tempfile
-import time
 from pathlib import Path
 
 import reference
-import unwritable
+from cases import Cases
 
 ROOT = Path(__file__).resolve().parent.parent
 PROGRAM = ROOT / "target" / "bin" / "fields"
@@ -76,26 +73,7 @@ def table(rule, text, flags=0, budget=100000, standing=b"", names=None):
 # Running ------------------------------------------------------------------------
 
 
-class Cases:
-    def __init__(self):
-        self.passed = self.failed = 0
-        self.folder = tempfile.TemporaryDirectory()
-        os.chdir(self.folder.name)
-
-    def same(self, name, got, expected):
-        if got == expected:
-            self.passed += 1
-            return
-        self.failed += 1
-        at = next((i for i, (a, b) in enumerate(zip(got, expected)) if a != b), min(len(got), len(expected)))
-        print("FAILED %s: at %d expected %r, found %r" % (name, at, expected[at:at + 200], got[at:at + 200]))
-
-    def run(self, name, arguments, out, err=""):
-        ran = subprocess.run([str(PROGRAM), *arguments], capture_output=True, timeout=300, stdin=subprocess.DEVNULL)
-        for kind, got, expected in (("stdout", ran.stdout, out), ("stderr", ran.stderr, err)):
-            if expected is not None:
-                self.same("%s, %s" % (name, kind), got.decode("latin1"), expected)
-
+class Tables(Cases):
     def on(self, name, rule, text, out=None, err="", flags=0, budget=None, standing=None, names=()):
         """The table of a rule and lines; without a text of its own it is held to `table`."""
         Path("rule").write_bytes(rule + b"\n")
@@ -217,19 +195,8 @@ def files(t):
     Path("lines").write_bytes(b"1,5 L\n" * 25000)
     t.run("25000 lines", ["rule", "lines"], HEAD + "".join("%d\tmatched\t\t1,5\n" % n for n in range(1, 25001)), "fields: 10000 lines\nfields: 20000 lines\n")
     text = b"1,5 L\n\n1,500 L\n\xff\n7,250 L"
-    for size in (1, 2, 3, 7):
-        ran = subprocess.Popen([str(PROGRAM), "rule", "/dev/stdin"], stdin=subprocess.PIPE, stdout=subprocess.PIPE)
-        for at in range(0, len(text), size):
-            ran.stdin.write(text[at:at + size])
-            ran.stdin.flush()
-            time.sleep(0.002)
-        t.same("pieces of %d bytes" % size, ran.communicate()[0].decode("latin1"), table(LITRES, text))
-    for name, data in (("lines that never end", None), ("one line", b"y\n"), ("no lines", b"")):
-        for place, output, _ in unwritable.OUTPUTS:
-            with output() as out:
-                said = unwritable.said([str(PROGRAM), "rule", "/dev/stdin"], out, data)
-            heard = [line for line in said.splitlines() if not line.endswith(" lines")]  # but for its progress
-            t.same("%s, %s" % (name, place), heard, ["fields: the table could not be written"])
+    t.in_pieces(text, table(LITRES, text))
+    t.unwritten("fields: the table could not be written")
 
 
 def random_rules(t, seed):
@@ -253,15 +220,14 @@ def random_rules(t, seed):
 
 
 def main():
-    t = Cases()
+    t = Tables(PROGRAM)
     seed = int(sys.argv[1]) if len(sys.argv) > 1 else 1
     rule, text = (DATA / "rule.txt").read_bytes().split(b"\n")[0], (DATA / "lines.txt").read_bytes()
     t.same("the crate's own file", (DATA.parent / "stdout").read_text(), table(rule, text, standing=b"-"))
     for part in (words, cuts, bytes_and_columns, arguments, mistakes, files):
         part(t)
     random_rules(t, seed)
-    print("%d passed, %d failed" % (t.passed, t.failed))
-    sys.exit(t.failed > 0)
+    t.end()
 
 
 if __name__ == "__main__":

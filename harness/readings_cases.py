@@ -5,16 +5,13 @@ Small cases and all messages are held to texts written here by hand. Large ones,
 layout written a second time, over the rows of reference.py. It shares nothing with the program.
 Usage: harness/readings_cases.py [SEED] (in the repository's root, after `rt check readings`). The last line is 'N passed, M failed'.
 """
-import os
 import random
 import subprocess
 import sys
-import tempfile
-import time
 from pathlib import Path
 
 import reference
-import unwritable
+from cases import Cases
 
 ROOT = Path(__file__).resolve().parent.parent
 PROGRAM = ROOT / "target" / "bin" / "readings"
@@ -159,28 +156,7 @@ def report(rule, text, flags=0, budget=100000):
 # Running ------------------------------------------------------------------------
 
 
-class Cases:
-    def __init__(self):
-        self.passed = self.failed = 0
-        self.folder = tempfile.TemporaryDirectory()
-        os.chdir(self.folder.name)
-
-    def same(self, name, got, expected):
-        if got == expected:
-            self.passed += 1
-            return
-        self.failed += 1
-        at = next((i for i, (a, b) in enumerate(zip(got, expected)) if a != b), min(len(got), len(expected)))
-        print("FAILED %s: at %d expected %r, found %r" % (name, at, expected[at:at + 200], got[at:at + 200]))
-
-    def run(self, name, arguments, out, err):
-        """Runs the program and compares both of what it writes; a text that is None is not looked at."""
-        ran = subprocess.run([str(PROGRAM), *arguments], capture_output=True, timeout=300, stdin=subprocess.DEVNULL)
-        for kind, got, expected in (("stdout", ran.stdout, out), ("stderr", ran.stderr, err)):
-            if expected is not None:
-                self.same("%s, %s" % (name, kind), got.decode("latin1"), expected)
-        self.same("%s, status" % name, str(ran.returncode), "0")
-
+class Reports(Cases):
     def on(self, name, rule, text, out=None, err="", flags=0, budget=100000, words=None):
         """The report on a rule and lines; without a text of its own it is held to `report`."""
         Path("rule").write_bytes(rule + b"\n")
@@ -365,13 +341,7 @@ def pieces(t):
         t.on("a line that ends at %d" % at, LITRES, b"w" * at + b"\n1,500 L")
     Path("rule").write_bytes(LITRES + b"\n")
     text = b"1,5 L\n\n1,500 L\n\xff\n7,250 L"
-    for size in (1, 2, 3, 7):
-        ran = subprocess.Popen([str(PROGRAM), "rule", "/dev/stdin"], stdin=subprocess.PIPE, stdout=subprocess.PIPE)
-        for at in range(0, len(text), size):
-            ran.stdin.write(text[at:at + size])
-            ran.stdin.flush()
-            time.sleep(0.002)
-        t.same("pieces of %d bytes" % size, ran.communicate()[0].decode("latin1"), report(LITRES, text))
+    t.in_pieces(text, report(LITRES, text))
 
 
 def listings(t):
@@ -619,15 +589,8 @@ line 3: not matched
 
 
 def unwritten(t):
-    """A report that cannot be written: that is said once, and lines that never end are not read on."""
     Path("rule").write_bytes(b"^y$\n")
-    message = "readings: the report could not be written"
-    for name, data in (("lines that never end", None), ("one line", b"y\n"), ("no lines", b"")):
-        for place, output, _ in unwritable.OUTPUTS:
-            with output() as out:
-                said = unwritable.said([str(PROGRAM), "rule", "/dev/stdin"], out, data)
-            heard = [line[:len(message)] for line in said.splitlines() if not line.endswith(" lines")]  # but for its progress
-            t.same("%s, %s" % (name, place), heard, [message])
+    t.unwritten("readings: the report could not be written")
 
 
 def random_rules(t, seed):
@@ -670,7 +633,7 @@ def random_reasons(t, seed):
 
 
 def main():
-    t = Cases()
+    t = Reports(PROGRAM)
     seed = int(sys.argv[1]) if len(sys.argv) > 1 else 1
     rule, text = (DATA / "rule.txt").read_bytes().split(b"\n")[0], (DATA / "lines.txt").read_bytes()
     t.same("the crate's own file", (DATA.parent / "stdout").read_text(), report(rule, text, 0, 1100))
@@ -678,8 +641,7 @@ def main():
         part(t)
     random_rules(t, seed)
     random_reasons(t, seed)
-    print("%d passed, %d failed" % (t.passed, t.failed))
-    sys.exit(t.failed > 0)
+    t.end()
 
 
 if __name__ == "__main__":

@@ -1,5 +1,5 @@
 #!/usr/bin/env python3
-"""An independent matcher written from documents 01 and 02: parse, walk, match, list, explain."""
+"""An independent matcher written from documents 01 and 02: parse, walk, match, list, explain, scan, batch."""
 import sys
 sys.setrecursionlimit(1000000)
 U=4294967295
@@ -334,3 +334,27 @@ def explain(rule,flags,sub,budget):
     item=next(p for st,i,p in missed if i==far)
     close=next(m for m in missed if m[1]-m[0]==long)
     return ('N',got[1],(far,item),close,sorted({p for st,i,p in missed if (st,i)==close[:2]}))
+def scan(rule,flags,sub,budget,room):
+    """successive matches: each search from where the last match ended, and after an empty match with the empty end barred at that place"""
+    t,g=read(rule,flags); total=0; rows=[]; st=0; bar=False
+    while st<=len(sub):
+        w=Walk(sub,t,budget); hit=[]
+        def e(i,c):
+            if bar and i==st: return
+            hit.append(row(st,i,c)); raise Done
+        try: w.run(st,e)
+        except Done: pass
+        total+=w.steps
+        if w.cut: return ('X',st,total,rows)
+        if not hit: st+=1; bar=False; continue
+        if len(rows)==room: return ('F',total,rows)
+        rows.append(hit[0]); bar=hit[0][1]==st; st=hit[0][1]
+    return ('C',total,rows)
+def lines(buf):
+    """the lines of a buffer: a last piece without 0A counts if not empty"""
+    ls=buf.split(b'\n')
+    return ls if ls[-1] else ls[:-1]
+def batch(rule,flags,buf,budget):
+    """what match gives for each line; ('R',2) for one that is too long"""
+    read(rule,flags)
+    return [('R',2) if len(l)>65535 else match(rule,flags,l,budget) for l in lines(buf)]

@@ -1,4 +1,4 @@
-"""Programs that are run with an output that cannot be written, for the cases of gateway and readings."""
+"""Programs that are run with an output that cannot be written, for the cases of the gateway and of the office programs."""
 import contextlib
 import os
 import subprocess

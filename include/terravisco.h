@@ -1,18 +1,19 @@
-/* Terravisco: matching a Perl regular expression against a line, within a budget of steps, and telling why a line does not match.
+/* Terravisco: matching a Perl regular expression against a line or a day's lines, within a budget of steps, and telling why a line does not match.
  *
  * Link with libterravisco.a, which `rt staticlib terravisco` writes to target/staticlib/.
  *
  * Nothing is required of what is handed in: any bytes, any flags, any budget and areas of any length give an answer or a refusal.
  * What a caller owes is only what C cannot tell: each pointer leads to as many bytes or numbers as the length beside it says, and the three
- * areas, the names, the marks and the answer overlap neither each other nor the rule and the subject. A pointer is never null, even beside a
- * length of 0.
+ * areas, the names, the marks and the answer overlap neither each other nor the rule and the subject or buffer. A pointer is never null, even
+ * beside a length of 0.
  *
  * flags         bit 0 is `s`, bit 1 is `m`, bit 2 is `i`, bit 3 is `x`
  * budget        steps for each start in the subject, at most 100,000
  * rule_area     at least TERRAVISCO_RULE_AREA numbers
  * work_area     at least TERRAVISCO_WORK_PER_STEP numbers for each step of the budget
  * result        rows of TERRAVISCO_ROW numbers: start, end, then a pair for each group, TERRAVISCO_UNSET twice for a group that is not set.
- *               A match writes one row if it matched. A listing writes as many as there are readings, or as fit.
+ *               A match writes one row if it matched. A listing writes as many as there are readings, or as fit, and a call for successive matches
+ *               as many as there are, or as fit. A day's lines have parts of their own, see terravisco_match_lines.
  *
  * names         the name index, at least TERRAVISCO_NAME_INDEX bytes: TERRAVISCO_NAME_ENTRY for each group, the length of its name (0 if it has none) and the
  *               name, padded with 00. A call that is not refused fills it; the bytes behind are as they were.
@@ -35,6 +36,7 @@ enum {
     TERRAVISCO_RULE_AREA = 16384,
     TERRAVISCO_WORK_PER_STEP = 16,
     TERRAVISCO_ROW = 66,
+    TERRAVISCO_PART = 70,
     TERRAVISCO_NAME_ENTRY = 17,
     TERRAVISCO_NAME_INDEX = 544,
     TERRAVISCO_LONGEST_RULE = 1000,
@@ -47,7 +49,7 @@ enum {
 /* answer: [0] kind, [1] exhausted start or refusal number, else 0, [2] refusal's place, else 0,
    [3] steps' low 32 bits, [4] their high 32 bits, [5] rows written (their low 32 bits: 2^32 rows would take 1.1 TB).
    Kind of a match: 0 matched, 1 not matched, 2 exhausted, 3 refused.
-   Kind of a listing: 0 complete, 1 full, 2 exhausted, 3 refused. Steps are 0 if refused. */
+   Kind of a listing and of successive matches: 0 complete, 1 full, 2 exhausted, 3 refused. Steps are 0 if refused. */
 void terravisco_match(const uint8_t *rule, size_t rule_len, uint32_t flags,
                       const uint8_t *subject, size_t subject_len, uint32_t budget,
                       uint32_t *rule_area, size_t rule_area_len, uint32_t *work_area, size_t work_area_len,
@@ -57,6 +59,34 @@ void terravisco_list(const uint8_t *rule, size_t rule_len, uint32_t flags,
                      const uint8_t *subject, size_t subject_len, uint32_t budget,
                      uint32_t *rule_area, size_t rule_area_len, uint32_t *work_area, size_t work_area_len,
                      uint32_t *result, size_t result_len, uint8_t *names, size_t names_len, uint32_t answer[TERRAVISCO_ANSWER]);
+
+/* Successive matches, as Perl's `/g` finds them: each search begins where the match before it ended, and after an empty match the next one may not be
+   empty at that same place. A row for each, in their order; they do not overlap. The first row is that of terravisco_match, and where that does not
+   match there is none.
+   answer    that of a listing: 0 complete, behind the last match; 1 full, where a further match was found and no row was left for it; 2 exhausted,
+             [1] the start. After an empty match its place is tried a second time, with a budget of its own, so that the steps are at most
+             2 x budget x (subject_len + 1).
+   What is handed in, refusals, and what is left behind are those of a listing. */
+void terravisco_match_all(const uint8_t *rule, size_t rule_len, uint32_t flags,
+                          const uint8_t *subject, size_t subject_len, uint32_t budget,
+                          uint32_t *rule_area, size_t rule_area_len, uint32_t *work_area, size_t work_area_len,
+                          uint32_t *result, size_t result_len, uint8_t *names, size_t names_len, uint32_t answer[TERRAVISCO_ANSWER]);
+
+/* A match on each line of a buffer. Lines end at a byte 0A, which is no part of them; what stands behind the last 0A is a line if it is not empty.
+   buffer    of any length; only each line is limited, to 65,535 bytes
+   result    a part of TERRAVISCO_PART numbers for each line: its row, as terravisco_match writes it if the line matched, else left as it was; then
+             four numbers, 0 matched, 1 not matched, 2 exhausted or 3 refused; the exhausted start or the refusal's number, else 0; the steps' low
+             32 bits and their high 32 bits, 0 if refused. The row of line n, counted from 0, begins at TERRAVISCO_PART x n.
+             Parts behind the last line, and numbers behind the last part, are as they were.
+   answer    [0] 0 done or 3 refused, [1] refusal number and [2] its place, else 0, [3] and [4] 0, [5] the number of lines (its low 32 bits), 0 if
+             refused
+   A line over 65,535 bytes is refused by itself, with number 2, and the others go on; the call is never refused for that. It is refused for 7 if there are
+   more lines than whole parts, and otherwise for what a match is refused for, before any line is matched, also where there is no line at all. Areas
+   and name index are left as by a match, where no line is matched too. */
+void terravisco_match_lines(const uint8_t *rule, size_t rule_len, uint32_t flags,
+                            const uint8_t *buffer, size_t buffer_len, uint32_t budget,
+                            uint32_t *rule_area, size_t rule_area_len, uint32_t *work_area, size_t work_area_len,
+                            uint32_t *result, size_t result_len, uint8_t *names, size_t names_len, uint32_t answer[TERRAVISCO_ANSWER]);
 
 /* Tells why a line does not match: which items of the rule failed, and where. An item is what takes one byte (a byte, `.`, a class, an escape for a
    byte or a set), a place (`^`, `$`, `\b` and the like) or a reference. It is tried at a place in the line, a reference where it begins, and has
@@ -79,7 +109,8 @@ void terravisco_explain(const uint8_t *rule, size_t rule_len, uint32_t flags,
 /* Looks a field up: what the group of that name took of a line.
    names     a name index: for each group TERRAVISCO_NAME_ENTRY bytes, the length of its name (0 if none) and the name, whatever follows it. Of the
              first entries, as many as a rule can have groups, the first of that name counts that lies whole in the index.
-   kind      of the answer: 0 matched; every other number is not. For a row of a listing hand in 0.
+   kind      of the answer: 0 matched; every other number is not. For a row of a listing or of successive matches hand in 0, for a line of a buffer
+             the first of its four numbers.
    row       the answer's row, TERRAVISCO_ROW numbers; what follows them is not looked at. Fewer, or numbers that are no row for that line (start <= end
              <= line_len; each pair TERRAVISCO_UNSET twice or a span from start to end), count as not matched.
    standing  the text that stands for a group that is not set

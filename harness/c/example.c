@@ -1,4 +1,5 @@
-/* A worked example of the C interface: every reading of one line, fields by their names, and why a line does not match.
+/* A worked example of the C interface: every reading of one line, fields by their names, why a line does not match, all the quantities in one message,
+ * and a day's lines at once.
  *
  * `1,500 L` is one thousand five hundred litres where the comma stands between thousands, and one and a half litres where it is a decimal
  * comma. The rule allows both, so the listing has two rows, and whoever gets two rows knows that the line has to be asked about.
@@ -11,13 +12,14 @@
 
 #include "terravisco.h"
 
-enum { BUDGET = 1000, ROWS = 8 };
+enum { BUDGET = 1000, ROWS = 8, LINES = 8 };
 enum { FLAG_S = 1, FLAG_M = 2, FLAG_I = 4, FLAG_X = 8 };
 
 /* The library has no heap: it works in these, and needs nothing of what they held before. */
 static uint32_t rule_area[TERRAVISCO_RULE_AREA];
 static uint32_t work_area[TERRAVISCO_WORK_PER_STEP * BUDGET];
 static uint32_t rows[TERRAVISCO_ROW * ROWS];
+static uint32_t parts[TERRAVISCO_PART * LINES];
 static uint8_t names[TERRAVISCO_NAME_INDEX];
 static uint8_t marks[TERRAVISCO_LONGEST_RULE];
 
@@ -86,6 +88,46 @@ static void explain(const char *rule, const char *line)
     printf(" wanted\n");
 }
 
+/* Successive matches: every quantity that a message tells. */
+static void print_quantities(const char *message)
+{
+    static const char rule[] = "(\\d+) (L|kg)";
+    uint32_t answer[TERRAVISCO_ANSWER];
+
+    terravisco_match_all((const uint8_t *)rule, strlen(rule), 0, (const uint8_t *)message, strlen(message), BUDGET,
+                         rule_area, sizeof rule_area / sizeof *rule_area, work_area, sizeof work_area / sizeof *work_area,
+                         rows, sizeof rows / sizeof *rows, names, sizeof names, answer);
+    printf("`%s` tells %u quantities%s\n", message, (unsigned)answer[5], answer[0] == 0 ? "" : " or more");
+    for (uint32_t row = 0; row < answer[5]; row++)
+        print_row(rows + TERRAVISCO_ROW * row, message);
+}
+
+/* A day's lines: the litres of each. */
+static void print_day(const char *rule, const char *day)
+{
+    uint32_t answer[TERRAVISCO_ANSWER];
+    const char *line = day;
+
+    terravisco_match_lines((const uint8_t *)rule, strlen(rule), 0, (const uint8_t *)day, strlen(day), BUDGET,
+                           rule_area, sizeof rule_area / sizeof *rule_area, work_area, sizeof work_area / sizeof *work_area,
+                           parts, sizeof parts / sizeof *parts, names, sizeof names, answer);
+    if (answer[0] != 0) {
+        printf("the day is refused, number %u at %u\n", (unsigned)answer[1], (unsigned)answer[2]);
+        return;
+    }
+    for (uint32_t number = 0; number < answer[5]; number++) {
+        const uint32_t *row = parts + TERRAVISCO_PART * number, *outcome = row + TERRAVISCO_ROW;
+        size_t length = strcspn(line, "\n");
+        uint64_t field[3];
+
+        terravisco_field((const uint8_t *)"litres", 6, names, sizeof names, (const uint8_t *)line, length, outcome[0],
+                         row, TERRAVISCO_ROW, (const uint8_t *)"600", 3, field);
+        printf("line %u, `%.*s`: %s, litres `%.*s`\n", (unsigned)number, (int)length, line, outcome[0] == 0 ? "matched" : "not matched",
+               (int)(field[2] - field[1]), (field[0] == 0 ? line : "600") + field[1]);
+        line += length + (line[length] == '\n');
+    }
+}
+
 int main(void)
 {
     list("^(?:(\\d{1,3},\\d{3})|(\\d+,\\d+)) L$", 0, "1,500 L");
@@ -98,5 +140,9 @@ int main(void)
     print_litres("^tank \\d+:(?: (?<litres>\\d+) L)?$", "hall 3", "600");
     explain("^tank (\\w+): (\\d+) L$", "tank A1 820 L");
     explain("^tank (\\w+): (\\d+) L$", "tank A1: 820 L");
+    print_quantities("tank 7: 820 L, tank 8: 64 L, feed: 25 kg");
+    print_quantities("no delivery");
+    print_day("^tank \\d+:(?: (?<litres>\\d+) L)?$", "tank 7: 820 L\ntank 8:\n\nhall 3\ntank 9: 5 L");
+    print_day("^tank (", "tank 7: 820 L\n");
     return 0;
 }

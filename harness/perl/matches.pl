@@ -1,7 +1,8 @@
-# Reads one question a line: flags, the character set's modifier (`a`, or nothing for `/d`), rule and subject in hex, and the number of groups, with
-# tabs between them.
-# Answers on one line each: `failed` for a rule refused or a panic, `slow` for a match that takes more than ten seconds, `none`, or start, end,
-# the span of each group that is set, and each name that `%-` has, with what `%+` has of it in hex, or `-` for nothing.
+# Reads one question a line: flags, the character set's modifier (`a`, or nothing for `/d`), rule and subject in hex, the number of groups, and 1 for
+# all matches by `/g` or 0 for the first one, with tabs between them.
+# Answers on one line each: `failed` for a rule refused or a panic, `slow` for a match that takes more than ten seconds, `none`, or start, end and
+# the span of each group that is set. Behind the first match stands each name that `%-` has, with what `%+` has of it in hex, or `-` for nothing;
+# between all matches stand bars.
 # The rule stands in a variable, so that nothing in it is interpolated.
 use strict;
 no warnings;
@@ -9,9 +10,31 @@ use POSIX ();
 $| = 0;
 # Taken at once, and not between two of Perl's own steps: a match is one of these.
 POSIX::sigaction(POSIX::SIGALRM(), POSIX::SigAction->new(sub { die "slow\n" }));
+
+# The match that was just made.
+sub row {
+    my $groups = shift;
+    return join " ", "$-[0]-$+[0]", map { defined $-[$_] ? "$_:$-[$_]-$+[$_]" : () } 1 .. $groups;
+}
+
+sub first_match {
+    my ($compiled, $subject, $groups) = @_;
+    return "none" if $subject !~ $compiled;
+    return join " ", row($groups), map { "$_=" . (exists $+{$_} ? unpack("H*", $+{$_}) : "-") } sort keys %-;
+}
+
+sub all_matches {
+    my ($compiled, $subject, $groups) = @_;
+    my @rows;
+    while ($subject =~ /$compiled/g) {
+        push @rows, row($groups);
+    }
+    return @rows ? join "|", @rows : "none";
+}
+
 while (my $line = <STDIN>) {
     chomp $line;
-    my ($flags, $charset, $rule, $subject, $groups) = split /\t/, $line, -1;
+    my ($flags, $charset, $rule, $subject, $groups, $all) = split /\t/, $line, -1;
     ($rule, $subject) = (pack("H*", $rule), pack("H*", $subject));
     my $modifiers = join "", $charset, map { $flags & 1 << $_ ? qw(s m i x)[$_] : () } 0 .. 3;
     # Under `x` the rule may end in a comment.
@@ -21,13 +44,9 @@ while (my $line = <STDIN>) {
         print "failed\n";
         next;
     }
-    # The spans are read where the match was made: they are gone once that block is left.
     my $answer = eval {
         alarm 10;
-        $subject =~ $compiled
-            ? join(" ", "$-[0]-$+[0]", (map { defined $-[$_] ? "$_:$-[$_]-$+[$_]" : () } 1 .. $groups),
-                map { "$_=" . (exists $+{$_} ? unpack("H*", $+{$_}) : "-") } sort keys %-)
-            : "none";
+        $all ? all_matches($compiled, $subject, $groups) : first_match($compiled, $subject, $groups);
     };
     alarm 0;
     print defined $answer ? $answer : $@ eq "slow\n" ? "slow" : "failed", "\n";

@@ -1,7 +1,7 @@
 //! One call with all that it is given, and how it and its answer are shown.
 
 use crate::independent::{
-    self, Answer, Ending, Explanation, Index, Inputs, Row, ENTRY_LENGTH, INDEX_LENGTH, ROW_LENGTH, RULE_AREA, UNSET, WORK_PER_STEP,
+    self, Answer, Ending, Explanation, Index, Inputs, Part, Row, ENTRY_LENGTH, INDEX_LENGTH, PART_LENGTH, ROW_LENGTH, RULE_AREA, UNSET, WORK_PER_STEP,
 };
 use crate::raw::Call;
 use crate::text;
@@ -11,6 +11,7 @@ pub struct Case {
     pub call: Call,
     pub rule: Vec<u8>,
     pub flags: u32,
+    /// For a day's lines the buffer.
     pub subject: Vec<u8>,
     pub budget: u32,
     /// The lengths of the areas.
@@ -25,7 +26,7 @@ pub struct Case {
 }
 
 impl Case {
-    /// A call whose areas are exactly enough, with room for so many rows, or for a mark for each byte of the rule.
+    /// A call whose areas are exactly enough, with room for so many rows or lines, or for a mark for each byte of the rule.
     pub fn new(call: Call, rule: &[u8], flags: u32, subject: &[u8], budget: u32, rows: usize) -> Case {
         Case {
             call,
@@ -35,7 +36,7 @@ impl Case {
             budget,
             rule_area: RULE_AREA,
             work_area: if budget > 100_000 { 0 } else { WORK_PER_STEP * budget as usize },
-            result_area: ROW_LENGTH * rows,
+            result_area: rows * if call == Call::Batch { PART_LENGTH } else { ROW_LENGTH },
             name_index: INDEX_LENGTH,
             marks: rule.len(),
         }
@@ -63,6 +64,8 @@ impl Case {
             Call::Match => "match",
             Call::List => "list",
             Call::Explain => "explain",
+            Call::Scan => "scan",
+            Call::Batch => "batch",
         };
         format!(
             "{call} rule `{}` (hex {}) flags {} subject \"{}\" (hex {}) budget {} areas {} {} {} {} {}",
@@ -89,12 +92,35 @@ pub fn shown(answer: &Answer) -> String {
         Ending::Complete => "complete".to_string(),
         Ending::Full => "full".to_string(),
         Ending::Exhausted(start) => format!("exhausted at {start}"),
+        Ending::Done => return shown_batch(answer),
         Ending::Refused(refusal) => return format!("refused {} at {}", refusal.number, refusal.place),
     };
     let rows: Vec<String> = answer.rows.iter().map(shown_row).collect();
     let names = answer.names.as_deref().map_or(String::new(), shown_names);
     let explanation = answer.explanation.as_ref().map_or(String::new(), shown_explanation);
     format!("{ending}, {} steps [{}]{names}{explanation}", answer.steps, rows.join("; "))
+}
+
+/// How many lines, and the part of each.
+fn shown_batch(answer: &Answer) -> String {
+    let parts: Vec<String> = answer.parts.iter().map(shown_part).collect();
+    let names = answer.names.as_deref().map_or(String::new(), shown_names);
+    format!("done, {} lines [{}]{names}", parts.len(), parts.join("; "))
+}
+
+/// A line's part: its outcome in words, its steps, and its row if it has one.
+pub fn shown_part(part: &Part) -> String {
+    let [kind, detail, low, high] = part.outcome;
+    let steps = u64::from(high) << 32 | u64::from(low);
+    let outcome = match (kind, detail) {
+        (0, 0) => "matched".to_string(),
+        (1, 0) => "not matched".to_string(),
+        (2, start) => format!("exhausted at {start}"),
+        (3, reason) => format!("refused {reason}"),
+        other => format!("the numbers {other:?}"),
+    };
+    let row = part.row.as_ref().map_or(String::new(), |row| format!(" {}", shown_row(row)));
+    format!("{outcome}, {steps} steps{row}")
 }
 
 /// ` furthest AT ITEM closest START AT ITEM marks` and the marks, a digit for each.

@@ -1,6 +1,6 @@
 //! Examples written down by hand in `data/`: what is asked and what is expected. The head of `source-examples.txt` says how they look.
 
-use crate::case::{shown_row, Case};
+use crate::case::{shown_part, shown_row, Case};
 use crate::independent::{self, Answer, Attempt, Ending, Explanation, Miss, FLAG_I, FLAG_M, FLAG_S, FLAG_X};
 use crate::raw::Call;
 use crate::text;
@@ -13,13 +13,15 @@ pub struct Example {
     pub case: Case,
     /// A second rule that takes the same single bytes, instead of an expected answer.
     pub same: Option<Vec<u8>>,
-    /// The readings in order, as `shown_row` writes them.
+    /// The readings in order, as `shown_row` writes them, or the lines' parts as `shown_part` does.
     rows: Vec<String>,
     ending: Option<Ending>,
     steps: Option<u64>,
     /// The groups' names, as `shown_names` writes them.
     names: Option<String>,
     told: Told,
+    /// How many letters `a` stand for each `~` of the subject.
+    long: Option<usize>,
 }
 
 /// What an explanation is to tell, as far as it is written down.
@@ -58,7 +60,7 @@ impl Example {
     fn new(line: usize) -> Example {
         let case = Case { marks: 1_000, ..Case::new(Call::Match, b"", 0, b"", 10_000, 10) };
         let (from, rows, told) = (String::new(), Vec::new(), Told::default());
-        Example { from, line, case, same: None, rows, ending: None, steps: None, names: None, told }
+        Example { from, line, case, same: None, rows, ending: None, steps: None, names: None, told, long: None }
     }
 
     fn set(&mut self, field: &str, value: &str) -> Option<()> {
@@ -68,16 +70,18 @@ impl Example {
             "escaped" => self.case.rule = text::unescaped(value)?,
             "same" => self.same = Some(value.as_bytes().to_vec()),
             "subject" => self.case.subject = text::unescaped(value)?,
+            "long" => self.long = Some(value.parse().ok()?),
             "flags" => self.case.flags = flags(value)?,
-            "call" if value == "list" => self.case.call = Call::List,
-            "call" if value == "explain" => self.case.call = Call::Explain,
+            "call" => self.case.call = call(value)?,
             "budget" => self.case.budget = value.parse().ok()?,
             "rows" => self.case.result_area = 66 * value.parse::<usize>().ok()?,
+            "parts" => self.case.result_area = 70 * value.parse::<usize>().ok()?,
             "numbers" => self.case.result_area = value.parse().ok()?,
             "index" => self.case.name_index = value.parse().ok()?,
             "marks" => self.case.marks = value.parse().ok()?,
             "names" => self.names = Some(value.to_string()),
             "furthest" | "closest" | "marked" => self.told.set(field, &numbers(value)?)?,
+            "line" => self.rows.push(value.to_string()),
             "steps" => self.steps = Some(value.parse().ok()?),
             "expect" => self.expect(value)?,
             _ => return None,
@@ -90,6 +94,7 @@ impl Example {
         self.ending = Some(match words[..] {
             ["none"] => Ending::NotMatched,
             ["matched"] if self.case.call == Call::Explain => Ending::Matched,
+            ["done"] => Ending::Done,
             ["complete"] => Ending::Complete,
             ["full"] => Ending::Full,
             ["exhausted", start] => Ending::Exhausted(start.parse().ok()?),
@@ -104,14 +109,20 @@ impl Example {
 
     /// The work area follows from the budget. An example expects something.
     fn finish(&mut self) -> Result<(), String> {
+        if let Some(letters) = self.long {
+            self.case.subject = self.case.subject.split(|&byte| byte == b'~').collect::<Vec<_>>().join(&vec![b'a'; letters][..]);
+        }
         self.case.work_area = if self.case.budget > 100_000 { 0 } else { 16 * self.case.budget as usize };
-        let (listing, explains) = (self.case.call == Call::List, self.case.call == Call::Explain);
+        let call = self.case.call;
+        let (for_one, explains) = (matches!(call, Call::Match | Call::Explain), call == Call::Explain);
         let fits = match self.ending {
             None => self.same.is_some(),
-            Some(Ending::Matched) => !listing && self.rows.len() == usize::from(!explains),
-            Some(Ending::NotMatched) => !listing && self.rows.is_empty() && self.told.explanation(&self.case).is_some() == explains,
-            Some(Ending::Complete | Ending::Full) => listing,
-            Some(Ending::Exhausted(_) | Ending::Refused(_)) => true,
+            Some(Ending::Matched) => for_one && self.rows.len() == usize::from(!explains),
+            Some(Ending::NotMatched) => for_one && self.rows.is_empty() && self.told.explanation(&self.case).is_some() == explains,
+            Some(Ending::Complete | Ending::Full) => matches!(call, Call::List | Call::Scan),
+            Some(Ending::Done) => call == Call::Batch,
+            Some(Ending::Exhausted(_)) => call != Call::Batch,
+            Some(Ending::Refused(_)) => self.rows.is_empty(),
         };
         if fits {
             Ok(())
@@ -123,7 +134,7 @@ impl Example {
     /// What an answer has that is not expected.
     pub fn faults(&self, who: &str, answer: &Answer) -> Vec<String> {
         let mut faults = Vec::new();
-        let rows: Vec<String> = answer.rows.iter().map(shown_row).collect();
+        let rows: Vec<String> = answer.rows.iter().map(shown_row).chain(answer.parts.iter().map(shown_part)).collect();
         if Some(answer.ending) != self.ending || rows != self.rows {
             faults.push(format!("{who} answers {}, expected {:?} {:?}", crate::case::shown(answer), self.ending, self.rows));
         }
@@ -172,6 +183,12 @@ fn shown_names(index: &independent::Index) -> String {
         }
     };
     (1..).zip(index.chunks_exact(independent::ENTRY_LENGTH)).filter_map(shown).collect::<Vec<_>>().join(" ")
+}
+
+/// A call other than a match by its name.
+fn call(value: &str) -> Option<Call> {
+    let calls = [("list", Call::List), ("explain", Call::Explain), ("scan", Call::Scan), ("batch", Call::Batch)];
+    calls.into_iter().find(|(name, _)| *name == value).map(|(_, call)| call)
 }
 
 /// Numbers with a blank between two of them; none in an empty text.

@@ -32,6 +32,13 @@ impl Fenced {
         }
     }
 
+    /// Room for so many bytes, in another place if there is too little here.
+    pub fn make_room(&mut self, bytes: usize) {
+        if self.room < bytes {
+            *self = Fenced::new(bytes);
+        }
+    }
+
     /// A copy of the bytes that ends at the fence.
     pub fn hold(&mut self, bytes: &[u8]) -> &[u8] {
         assert!(bytes.len() <= self.room, "the bytes have room");

@@ -4,7 +4,9 @@ use std::ops::Range;
 
 use crate::case::{shown, Case};
 use crate::fence::Fenced;
-use crate::independent::{self, Answer, Attempt, Ending, Explanation, Miss, INDEX_LENGTH, ROW_LENGTH, RULE_AREA, WORK_PER_STEP};
+use crate::independent::{
+    self, Answer, Attempt, Ending, Explanation, Miss, Part, Row, INDEX_LENGTH, PART_LENGTH, ROW_LENGTH, RULE_AREA, WORK_PER_STEP,
+};
 use crate::raw::{self, Areas, Call, Question, ANSWER_LENGTH};
 
 /// Lends areas to the library and looks at every number of them, and of some around them, after the call. The rule and the subject end at a
@@ -57,6 +59,7 @@ impl Lender {
     pub fn run(&mut self, case: &Case) -> Run {
         self.fill(case);
         let mut numbers: Numbers = [UNWRITTEN; ANSWER_LENGTH + 5];
+        self.subject_text.make_room(case.subject.len());
         let (rule, subject) = (self.rule_text.hold(&case.rule), self.subject_text.hold(&case.subject));
         let question = Question { rule, flags: case.flags, subject, budget: case.budget };
         let areas = Areas {
@@ -89,29 +92,43 @@ impl Lender {
         }
     }
 
-    /// The answer that the numbers are, with its rows, names and marks from their areas. "What has nothing to say is 0".
+    /// The answer that the numbers are, with its rows, parts, names and marks from their areas. "What has nothing to say is 0".
     fn told(&self, case: &Case, numbers: &Numbers, faults: &mut Vec<String>) -> Answer {
-        let [kind, detail, place, low, high, rows, explained @ ..] = *numbers;
-        let ending = match (case.call, kind) {
-            (Call::Match | Call::Explain, 0) => Ending::Matched,
-            (Call::Match | Call::Explain, 1) => Ending::NotMatched,
-            (Call::List, 0) => Ending::Complete,
-            (Call::List, 1) => Ending::Full,
-            (_, 2) => Ending::Exhausted(detail as usize),
-            _ => Ending::Refused(independent::Refusal { number: detail, place: place as usize }),
-        };
+        let [kind, detail, place, low, high, count, explained @ ..] = *numbers;
+        let ending = ending(case.call, kind, detail, place);
         let refused = matches!(ending, Ending::Refused(_));
         let no_detail = !refused && !matches!(ending, Ending::Exhausted(_));
-        let room = if case.call == Call::Explain { 0 } else { case.result_area / ROW_LENGTH };
-        if kind > 3 || (no_detail && detail != 0) || (!refused && place != 0) || (refused && (low, high, rows) != (0, 0, 0)) || rows as usize > room {
+        let room = match case.call {
+            Call::Match | Call::List | Call::Scan => case.result_area / ROW_LENGTH,
+            Call::Explain => 0,
+            Call::Batch => case.result_area / PART_LENGTH,
+        };
+        let is_kind = kind == 0 || kind == 3 || (kind < 3 && case.call != Call::Batch);
+        let is_quiet = (!no_detail || detail == 0) && (refused || place == 0) && (!refused || (low, high, count) == (0, 0, 0));
+        if !is_kind || !is_quiet || count as usize > room {
             faults.push(format!("the answer's numbers are {numbers:?}"));
         }
-        let written = &self.result[GUARD..][..ROW_LENGTH * room.min(rows as usize)];
-        let rows = written.chunks_exact(ROW_LENGTH).map(|row| row.try_into().expect("a chunk is a row")).collect();
         let filled = self.names.get(GUARD..GUARD + INDEX_LENGTH).and_then(|names| names.try_into().ok());
         let names = if refused { None } else { filled.map(Box::new) };
         let explanation = self.explained(case, ending, &explained, faults);
-        Answer { ending, steps: u64::from(high) << 32 | u64::from(low), rows, names, explanation }
+        let count = room.min(count as usize);
+        let (rows, parts) = if case.call == Call::Batch { (Vec::new(), self.parts(count)) } else { (self.rows(count), Vec::new()) };
+        Answer { ending, steps: u64::from(high) << 32 | u64::from(low), rows, names, explanation, parts }
+    }
+
+    /// So many rows of the result area.
+    fn rows(&self, count: usize) -> Vec<Row> {
+        self.result[GUARD..][..ROW_LENGTH * count].chunks_exact(ROW_LENGTH).map(|row| row.try_into().expect("a chunk is a row")).collect()
+    }
+
+    /// So many parts of the result area. A line that is not matched has no row: what stands there is looked at with the rest of the area.
+    fn parts(&self, count: usize) -> Vec<Part> {
+        let part = |part: &[u32]| {
+            let (row, outcome) = part.split_at(ROW_LENGTH);
+            let row = (outcome[0] == 0).then(|| row.try_into().expect("it has a row's length"));
+            Part { row, outcome: outcome.try_into().expect("four numbers are left") }
+        };
+        self.result[GUARD..][..PART_LENGTH * count].chunks_exact(PART_LENGTH).map(part).collect()
     }
 
     /// The explanation that the numbers behind the first six are, with its marks. They are 0 where an explanation has none, and as they were where
@@ -149,8 +166,8 @@ impl Lender {
         if !zero(&self.work, work) || !kept(&self.work, work) {
             faults.push(format!("the work area is not {work} zeros and otherwise unchanged"));
         }
-        if !kept(&self.result, ROW_LENGTH * answer.rows.len()) {
-            faults.push(format!("the result area is changed behind its {} rows", answer.rows.len()));
+        if self.is_result_changed_beside(&written_numbers(answer)) {
+            faults.push(format!("the result area is changed beside its {} rows or {} parts", answer.rows.len(), answer.parts.len()));
         }
         let filled = if answer.names.is_some() { INDEX_LENGTH } else { 0 };
         let marked = answer.explanation.as_ref().map_or(0, |explanation| explanation.marks.len());
@@ -160,6 +177,41 @@ impl Lender {
             }
         }
     }
+
+    /// Has a number of the result area changed, or one of those around it, that is not among these?
+    fn is_result_changed_beside(&self, written: &[Range<usize>]) -> bool {
+        let mut kept_from = 0;
+        let mut is_changed = false;
+        for range in written {
+            is_changed |= self.result[kept_from..GUARD + range.start] != self.pattern[kept_from..GUARD + range.start];
+            kept_from = GUARD + range.end;
+        }
+        is_changed || self.result[kept_from..] != self.pattern[kept_from..self.result.len()]
+    }
+}
+
+/// What an answer's numbers say of how the call ended. Kinds that there are not count as refusals.
+fn ending(call: Call, kind: u32, detail: u32, place: u32) -> Ending {
+    match (call, kind) {
+        (Call::Match | Call::Explain, 0) => Ending::Matched,
+        (Call::Match | Call::Explain, 1) => Ending::NotMatched,
+        (Call::List | Call::Scan, 0) => Ending::Complete,
+        (Call::List | Call::Scan, 1) => Ending::Full,
+        (Call::Match | Call::Explain | Call::List | Call::Scan, 2) => Ending::Exhausted(detail as usize),
+        (Call::Batch, 0) => Ending::Done,
+        _ => Ending::Refused(independent::Refusal { number: detail, place: place as usize }),
+    }
+}
+
+/// The numbers of the result area that a call with this answer writes, by rising places: its rows, or of each line the row, if it is matched, and the
+/// outcome.
+fn written_numbers(answer: &Answer) -> Vec<Range<usize>> {
+    let mut written = vec![0..ROW_LENGTH * answer.rows.len()];
+    for (index, part) in answer.parts.iter().enumerate() {
+        let (row, end) = (PART_LENGTH * index, PART_LENGTH * (index + 1));
+        written.push(if part.row.is_some() { row..end } else { row + ROW_LENGTH..end });
+    }
+    written
 }
 
 fn is_changed_beside(area: &[u8], written: Range<usize>) -> bool {

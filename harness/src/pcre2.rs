@@ -1,4 +1,4 @@
-//! PCRE2's own answers: matches, all readings from a start by a callout at the rule's end, and the names of groups.
+//! PCRE2's own answers: matches, all readings from a start by a callout at the rule's end, successive matches, and the names of groups.
 
 pub mod sys;
 
@@ -19,6 +19,25 @@ pub enum Found {
     Rows(Vec<Row>),
     /// It gave up at its own limit.
     Limit,
+}
+
+/// A loop over PCRE2's matches. Both search on from where the last match ended, and give the same rows.
+#[derive(Clone, Copy, PartialEq, Eq)]
+pub enum Loop {
+    /// As document 02 g) says it: behind an empty match one search, in which the empty end is barred at its first place alone.
+    Plain,
+    /// As PCRE2's documents have it (pcre2demo): behind an empty match one try at that place alone, without the empty end, and then a search from the
+    /// next byte; it stops at an empty match at the subject's end, where document 02 tries once more.
+    Documented,
+}
+
+impl Loop {
+    fn options_after_empty(self) -> u32 {
+        match self {
+            Loop::Plain => NOTEMPTY_ATSTART,
+            Loop::Documented => NOTEMPTY_ATSTART | ANCHORED,
+        }
+    }
 }
 
 /// A rule that PCRE2 has compiled, with a callout behind it. The callout does nothing in a plain match.
@@ -73,13 +92,38 @@ impl Pattern {
         match self.run(subject, 0, 0, None, null_mut()) {
             NO_MATCH => Found::Rows(Vec::new()),
             error if error < 0 => Found::Limit,
-            _ => {
-                // Safety: after a match the vector holds as many pairs as it counts.
-                let offsets = unsafe {
-                    let pairs = pcre2_get_ovector_count_8(self.data) as usize;
-                    std::slice::from_raw_parts(pcre2_get_ovector_pointer_8(self.data), 2 * pairs)
-                };
-                Found::Rows(vec![row(offsets[0], offsets[1], &offsets[2..])])
+            _ => Found::Rows(vec![self.matched()]),
+        }
+    }
+
+    /// The row of the match that was just made.
+    fn matched(&self) -> Row {
+        // Safety: after a match the vector holds as many pairs as it counts.
+        let offsets = unsafe {
+            let pairs = pcre2_get_ovector_count_8(self.data) as usize;
+            std::slice::from_raw_parts(pcre2_get_ovector_pointer_8(self.data), 2 * pairs)
+        };
+        row(offsets[0], offsets[1], &offsets[2..])
+    }
+
+    /// Successive matches, by one of the loops.
+    pub fn successive(&self, subject: &[u8], by: Loop) -> Found {
+        let (mut rows, mut from, mut options) = (Vec::new(), 0, 0);
+        loop {
+            match self.run(subject, from, options, None, null_mut()) {
+                NO_MATCH if options & ANCHORED != 0 => (from, options) = (from + 1, 0),
+                NO_MATCH => return Found::Rows(rows),
+                error if error < 0 => return Found::Limit,
+                _ => {
+                    let row = self.matched();
+                    rows.push(row);
+                    from = row[1] as usize;
+                    let is_empty = row[0] == row[1];
+                    if is_empty && from == subject.len() && by == Loop::Documented {
+                        return Found::Rows(rows);
+                    }
+                    options = if is_empty { by.options_after_empty() } else { 0 };
+                }
             }
         }
     }

@@ -14,6 +14,8 @@ pub struct Question<'a> {
     pub charset: Charset,
     pub subject: &'a [u8],
     pub groups: usize,
+    /// All matches, by `/g`, and not the first alone.
+    pub all: bool,
 }
 
 /// By which of its character sets Perl reads a rule. On bytes the two have the same sets, and differ in what `i` folds.
@@ -30,8 +32,8 @@ pub enum Answer {
     Failed,
     /// Perl took too long.
     Slow,
-    NotMatched,
-    Matched(Box<Row>, Fields),
+    /// The matches, one after another, and the names of the first one where it alone was asked for.
+    Rows(Vec<Row>, Fields),
 }
 
 /// The names of a rule's groups, and what each group took, or none where it is not set.
@@ -44,8 +46,9 @@ pub fn answers(questions: &[Question]) -> Result<Vec<Answer>, String> {
     let mut asked = String::new();
     for question in questions {
         let Question { flags, groups, .. } = question;
+        let all = u8::from(question.all);
         let charset = if let Charset::Ascii = question.charset { "a" } else { "" };
-        asked += &format!("{flags}\t{charset}\t{}\t{}\t{groups}\n", text::hex(question.rule), text::hex(question.subject));
+        asked += &format!("{flags}\t{charset}\t{}\t{}\t{groups}\t{all}\n", text::hex(question.rule), text::hex(question.subject));
     }
     let output = run_script(SCRIPT, asked).map_err(|error| format!("perl does not run: {error}"))?;
     let answers: Option<Vec<Answer>> = output.lines().map(answer).collect();
@@ -66,17 +69,24 @@ pub fn run_script(script: &str, asked: String) -> std::io::Result<String> {
     Ok(String::from_utf8_lossy(&output.stdout).into_owned())
 }
 
-/// One line of the script: `failed`, `slow`, `none`, or `start-end`, `group:start-end` for each group that is set, and `name=hex` or `name=-` for each
-/// name.
+/// One line of the script: `failed`, `slow`, `none`, or rows with bars between them, the names of the first among its parts.
 fn answer(line: &str) -> Option<Answer> {
+    let mut fields = Fields::new();
     match line {
-        "failed" => return Some(Answer::Failed),
-        "slow" => return Some(Answer::Slow),
-        "none" => return Some(Answer::NotMatched),
-        _ => {}
+        "failed" => Some(Answer::Failed),
+        "slow" => Some(Answer::Slow),
+        "none" => Some(Answer::Rows(Vec::new(), fields)),
+        _ => {
+            let rows = line.split('|').map(|written| row(written, &mut fields)).collect::<Option<Vec<Row>>>()?;
+            Some(Answer::Rows(rows, fields))
+        }
     }
-    let (mut row, mut fields) = ([UNSET; ROW_LENGTH], Fields::new());
-    for part in line.split(' ') {
+}
+
+/// `start-end`, `group:start-end` for each group that is set, and `name=hex` or `name=-` for each name.
+fn row(written: &str, fields: &mut Fields) -> Option<Row> {
+    let mut row = [UNSET; ROW_LENGTH];
+    for part in written.split(' ') {
         if let Some((name, taken)) = part.split_once('=') {
             let taken = if taken == "-" { None } else { Some(text::from_hex(taken)?) };
             fields.insert(name.as_bytes().to_vec(), taken);
@@ -87,5 +97,5 @@ fn answer(line: &str) -> Option<Answer> {
         let (from, to) = span.split_once('-')?;
         (row[2 * group], row[2 * group + 1]) = (from.parse().ok()?, to.parse().ok()?);
     }
-    Some(Answer::Matched(Box::new(row), fields))
+    Some(row)
 }

@@ -1,9 +1,11 @@
 //! The library's C interface as it stands, and one call of it on lent areas. Tests use this; a program uses `terravisco::Matcher`.
 //!
 //! A library from before names, which `bench --before` may be given, takes no name index and has no lookup: `build.rs` sets `before_names` for it, and
-//! `before_explanations` for one that has none.
+//! `before_explanations`, `before_scans` or `before_batches` for one that has none of these.
 
 #![allow(unexpected_cfgs)]
+// A program that this is copied into need not use all of it.
+#![allow(dead_code)]
 
 /// Which of the calls.
 #[derive(Clone, Copy, PartialEq, Eq, Debug)]
@@ -11,64 +13,49 @@ pub enum Call {
     Match,
     List,
     Explain,
+    /// Successive matches.
+    Scan,
+    /// A day's lines: the subject is a buffer of them.
+    Batch,
 }
 
-/// The most numbers that an answer has: those of an explanation. A match and a listing have the first six.
+/// The most numbers that an answer has: those of an explanation. The other calls have the first six.
 pub const ANSWER_LENGTH: usize = 11;
 
-extern "C" {
-    fn terravisco_match(
-        rule: *const u8,
-        rule_len: usize,
-        flags: u32,
-        subject: *const u8,
-        subject_len: usize,
-        budget: u32,
-        rule_area: *mut u32,
-        rule_area_len: usize,
-        work_area: *mut u32,
-        work_area_len: usize,
-        result: *mut u32,
-        result_len: usize,
-        #[cfg(not(before_names))] names: *mut u8,
-        #[cfg(not(before_names))] names_len: usize,
-        answer: *mut u32,
-    );
-    fn terravisco_list(
-        rule: *const u8,
-        rule_len: usize,
-        flags: u32,
-        subject: *const u8,
-        subject_len: usize,
-        budget: u32,
-        rule_area: *mut u32,
-        rule_area_len: usize,
-        work_area: *mut u32,
-        work_area_len: usize,
-        result: *mut u32,
-        result_len: usize,
-        #[cfg(not(before_names))] names: *mut u8,
-        #[cfg(not(before_names))] names_len: usize,
-        answer: *mut u32,
-    );
+/// Declares calls: all are given a question and two areas, and have an answer; what else they are lent stands in brackets.
+macro_rules! calls {
+    ($($(#[$when:meta])* $name:ident($($(#[$since:meta])* $lent:ident: $number:ty),*);)*) => {
+        extern "C" {
+            $($(#[$when])* fn $name(
+                rule: *const u8,
+                rule_len: usize,
+                flags: u32,
+                subject: *const u8,
+                subject_len: usize,
+                budget: u32,
+                rule_area: *mut u32,
+                rule_area_len: usize,
+                work_area: *mut u32,
+                work_area_len: usize,
+                $($(#[$since])* $lent: *mut $number, $(#[$since])* _: usize,)*
+                answer: *mut u32,
+            );)*
+        }
+    };
+}
+
+calls! {
+    terravisco_match(result: u32, #[cfg(not(before_names))] names: u8);
+    terravisco_list(result: u32, #[cfg(not(before_names))] names: u8);
     #[cfg(not(before_explanations))]
-    fn terravisco_explain(
-        rule: *const u8,
-        rule_len: usize,
-        flags: u32,
-        subject: *const u8,
-        subject_len: usize,
-        budget: u32,
-        rule_area: *mut u32,
-        rule_area_len: usize,
-        work_area: *mut u32,
-        work_area_len: usize,
-        names: *mut u8,
-        names_len: usize,
-        marks: *mut u8,
-        marks_len: usize,
-        answer: *mut u32,
-    );
+    terravisco_explain(names: u8, marks: u8);
+    #[cfg(not(before_scans))]
+    terravisco_match_all(result: u32, names: u8);
+    #[cfg(not(before_batches))]
+    terravisco_match_lines(result: u32, names: u8);
+}
+
+extern "C" {
     #[cfg(not(before_names))]
     fn terravisco_field(
         name: *const u8,
@@ -107,87 +94,49 @@ pub struct Areas<'a> {
     pub marks: &'a mut [u8],
 }
 
+/// Calls a function of the library, with these of the areas beside the two that every call is lent.
+macro_rules! ask {
+    ($function:ident($question:ident, $areas:ident: $($lent:ident),*) -> $answer:ident) => {
+        // Safety: every pointer leads to as many elements as the length beside it says, and the borrows keep the areas apart.
+        unsafe {
+            $function(
+                $question.rule.as_ptr(),
+                $question.rule.len(),
+                $question.flags,
+                $question.subject.as_ptr(),
+                $question.subject.len(),
+                $question.budget,
+                $areas.rule.as_mut_ptr(),
+                $areas.rule.len(),
+                $areas.work.as_mut_ptr(),
+                $areas.work.len(),
+                $($areas.$lent.as_mut_ptr(), $areas.$lent.len(),)*
+                $answer.as_mut_ptr(),
+            )
+        }
+    };
+}
+
 /// Calls the library. The answer's numbers are written over those handed in, as many as the call has.
 pub fn call(call: Call, question: Question, areas: Areas, answer: &mut [u32; ANSWER_LENGTH]) {
     match call {
-        Call::Match | Call::List => call_for_rows(call, question, areas, answer),
-        Call::Explain => explain(question, areas, answer),
-    }
-}
-
-/// A match or a listing.
-#[cfg_attr(before_names, allow(unused_variables))]
-fn call_for_rows(call: Call, question: Question, areas: Areas, answer: &mut [u32; ANSWER_LENGTH]) {
-    let function = if call == Call::List { terravisco_list } else { terravisco_match };
-    let (rule, rule_len, subject, subject_len) = (question.rule.as_ptr(), question.rule.len(), question.subject.as_ptr(), question.subject.len());
-    let (rule_area, rule_area_len, work_area, work_area_len) = (areas.rule.as_mut_ptr(), areas.rule.len(), areas.work.as_mut_ptr(), areas.work.len());
-    let (result, result_len, names, names_len) = (areas.result.as_mut_ptr(), areas.result.len(), areas.names.as_mut_ptr(), areas.names.len());
-    // Safety: every pointer leads to as many elements as the length beside it says, and the borrows keep the areas apart.
-    unsafe {
         #[cfg(not(before_names))]
-        function(
-            rule,
-            rule_len,
-            question.flags,
-            subject,
-            subject_len,
-            question.budget,
-            rule_area,
-            rule_area_len,
-            work_area,
-            work_area_len,
-            result,
-            result_len,
-            names,
-            names_len,
-            answer.as_mut_ptr(),
-        );
+        Call::Match => ask!(terravisco_match(question, areas: result, names) -> answer),
+        #[cfg(not(before_names))]
+        Call::List => ask!(terravisco_list(question, areas: result, names) -> answer),
         #[cfg(before_names)]
-        function(
-            rule,
-            rule_len,
-            question.flags,
-            subject,
-            subject_len,
-            question.budget,
-            rule_area,
-            rule_area_len,
-            work_area,
-            work_area_len,
-            result,
-            result_len,
-            answer.as_mut_ptr(),
-        );
+        Call::Match => ask!(terravisco_match(question, areas: result) -> answer),
+        #[cfg(before_names)]
+        Call::List => ask!(terravisco_list(question, areas: result) -> answer),
+        #[cfg(not(before_explanations))]
+        Call::Explain => ask!(terravisco_explain(question, areas: names, marks) -> answer),
+        #[cfg(not(before_scans))]
+        Call::Scan => ask!(terravisco_match_all(question, areas: result, names) -> answer),
+        #[cfg(not(before_batches))]
+        Call::Batch => ask!(terravisco_match_lines(question, areas: result, names) -> answer),
+        #[cfg(any(before_explanations, before_scans, before_batches))]
+        _ => panic!("this library is from before that call: {call:?}"),
     }
-}
-
-#[cfg(not(before_explanations))]
-fn explain(question: Question, areas: Areas, answer: &mut [u32; ANSWER_LENGTH]) {
-    // Safety: every pointer leads to as many elements as the length beside it says, and the borrows keep the areas apart.
-    unsafe {
-        terravisco_explain(
-            question.rule.as_ptr(),
-            question.rule.len(),
-            question.flags,
-            question.subject.as_ptr(),
-            question.subject.len(),
-            question.budget,
-            areas.rule.as_mut_ptr(),
-            areas.rule.len(),
-            areas.work.as_mut_ptr(),
-            areas.work.len(),
-            areas.names.as_mut_ptr(),
-            areas.names.len(),
-            areas.marks.as_mut_ptr(),
-            areas.marks.len(),
-            answer.as_mut_ptr(),
-        );
-    }
-}
-
-#[cfg(before_explanations)]
-fn explain(_: Question, _: Areas, _: &mut [u32; ANSWER_LENGTH]) {
-    panic!("this library is from before explanations");
 }
 
 /// What a field is looked up by: its name, the index that a call filled, and the line with that call's answer, 0 for matched, and its row; and the

@@ -1,5 +1,8 @@
 //! Why a call was refused: document 01, "Refusal numbers", and document 02.
 
+// A program that this is copied into need not use all of it.
+#![allow(dead_code)]
+
 use std::fmt;
 
 /// The reason, and the place in the rule that it is about, counted in bytes from 0; 0 for reasons 1 to 8.

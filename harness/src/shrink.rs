@@ -20,7 +20,11 @@ fn candidates(case: &Case) -> Vec<Case> {
             smaller.rule.drain(from..from + length);
             candidates.push(smaller);
         }
-        for from in 0..case.subject.len().saturating_sub(length - 1) {
+    }
+    // Of a long subject longer parts, at some hundred places.
+    let (bytes, apart) = (case.subject.len(), 1 + case.subject.len() / 200);
+    for length in [bytes / 2, 8 * apart, 4 * apart, 2 * apart, 1].into_iter().filter(|&length| length > 0) {
+        for from in (0..bytes.saturating_sub(length - 1)).step_by(apart) {
             let mut smaller = case.clone();
             smaller.subject.drain(from..from + length);
             candidates.push(smaller);

@@ -19,7 +19,18 @@
 //! if let Explanation::NotMatched { closest, marks, .. } = matcher.explain(br"^tank \d+: \d+ L$", 0, b"tank 7 820 L") {
 //!     println!("from {} up to {}; wanted in the rule at {:?}", closest.start, closest.at, marks.collect::<Vec<_>>());
 //! }
+//! // All the quantities in one message.
+//! if let Listing::Complete { readings, .. } = matcher.match_all(br"(\d+) L", 0, b"820 L and 640 L") {
+//!     assert_eq!(readings.filter_map(|reading| reading.group(1)).collect::<Vec<_>>(), [0..3, 10..13]);
+//! }
+//! // A day's lines: one answer for each.
+//! for (line, outcome) in matcher.match_lines(br"^tank \d+: (?<litres>\d+) L$", 0, b"tank 7: 820 L\ntank 8: off\n").expect("the rule is sound") {
+//!     println!("{:?}: {:?}", line, outcome.field(b"litres", line, b"600"));
+//! }
 //! ```
+
+// A program that this is copied into need not use all of it.
+#![allow(dead_code)]
 
 use std::ops::Range;
 
@@ -40,6 +51,7 @@ const WORK_PER_STEP: usize = 16;
 const MOST_BUDGET: u32 = 100_000;
 const LONGEST_RULE: usize = 1_000;
 const ROW_LENGTH: usize = 66;
+const PART_LENGTH: usize = 70;
 const GROUPS: usize = 32;
 const INDEX_LENGTH: usize = 544;
 const UNSET: u32 = u32::MAX;
@@ -53,6 +65,8 @@ pub struct Matcher {
     names: Vec<u8>,
     /// One for each byte of the longest rule.
     marks: Vec<u8>,
+    /// One for each line of the longest buffer so far.
+    parts: Vec<u32>,
 }
 
 /// What a match answers.
@@ -74,15 +88,16 @@ pub enum Outcome<'m> {
     Refused(Refusal),
 }
 
-/// What a listing answers. Each reading is there once, by rising start and falling priority.
+/// What a listing answers: each reading is there once, by rising start and falling priority. Also what successive matches answer: there the readings
+/// follow one another in the line.
 #[derive(Debug)]
 pub enum Listing<'m> {
-    /// Every reading of the line.
+    /// Every reading of the line, or every match.
     Complete {
         readings: Readings<'m>,
         steps: u64,
     },
-    /// There is one more reading than there is room.
+    /// There is at least one reading more than there is room.
     Full {
         readings: Readings<'m>,
         steps: u64,
@@ -153,6 +168,15 @@ pub struct Readings<'m> {
     names: &'m [u8],
 }
 
+/// The lines of a buffer, each with what a match answers on it.
+#[derive(Clone, Debug)]
+pub struct Lines<'m, 't> {
+    /// What of the buffer is left.
+    rest: &'t [u8],
+    parts: std::slice::ChunksExact<'m, u32>,
+    names: &'m [u8],
+}
+
 /// One way to read a line: where the rule begins and ends in it, and what each group took.
 #[derive(Clone, Copy)]
 pub struct Reading<'m> {
@@ -171,31 +195,50 @@ impl Matcher {
             rows: vec![0; ROW_LENGTH * readings.max(1)],
             names: vec![0; INDEX_LENGTH],
             marks: vec![0; LONGEST_RULE],
+            parts: Vec::new(),
         }
     }
 
     /// The first reading of the line. The flags are `FLAG_S`, `FLAG_M`, `FLAG_I` and `FLAG_X`, as many as are wanted added up, or 0.
     pub fn match_line(&mut self, rule: &[u8], flags: u32, line: &[u8]) -> Outcome<'_> {
-        let answer = self.call(Call::Match, rule, flags, line);
-        let steps = answer.steps;
-        match answer.kind {
-            0 => Outcome::Matched { reading: Reading { row: &self.rows[..ROW_LENGTH], names: &self.names }, steps },
-            1 => Outcome::NotMatched { steps },
-            2 => Outcome::Exhausted { start: answer.detail as usize, steps },
-            _ => Outcome::Refused(answer.refusal()),
-        }
+        let Answer { kind, detail, place, steps, .. } = self.call(Call::Match, rule, flags, line);
+        outcome([kind, detail], place, steps, Reading { row: &self.rows[..ROW_LENGTH], names: &self.names })
     }
 
     /// Every reading of the line, as far as budget and room go.
     pub fn list_readings(&mut self, rule: &[u8], flags: u32, line: &[u8]) -> Listing<'_> {
-        let answer = self.call(Call::List, rule, flags, line);
+        self.listing(Call::List, rule, flags, line)
+    }
+
+    /// Successive matches, as Perl's `/g` finds them, as far as budget and room go: each begins where the one before ended or behind that, and none is
+    /// empty where an empty one was.
+    pub fn match_all(&mut self, rule: &[u8], flags: u32, line: &[u8]) -> Listing<'_> {
+        self.listing(Call::Scan, rule, flags, line)
+    }
+
+    /// Each line of a buffer with what `match_line` answers on it. Lines end at an 0A, the last one also at the buffer's end. A line over 65,535 bytes
+    /// is refused by itself; what refuses every line refuses the call.
+    pub fn match_lines<'t>(&mut self, rule: &[u8], flags: u32, buffer: &'t [u8]) -> Result<Lines<'_, 't>, Refusal> {
+        let lines = buffer.iter().filter(|&&byte| byte == b'\n').count() + usize::from(buffer.last().is_some_and(|&byte| byte != b'\n'));
+        if self.parts.len() < PART_LENGTH * lines {
+            self.parts.resize(PART_LENGTH * lines, 0);
+        }
+        let answer = self.call(Call::Batch, rule, flags, buffer);
+        if answer.kind != 0 {
+            return Err(refusal(answer.detail, answer.place));
+        }
+        Ok(Lines { rest: buffer, parts: self.parts[..PART_LENGTH * lines].chunks_exact(PART_LENGTH), names: &self.names })
+    }
+
+    fn listing(&mut self, call: Call, rule: &[u8], flags: u32, line: &[u8]) -> Listing<'_> {
+        let answer = self.call(call, rule, flags, line);
         let steps = answer.steps;
         let readings = Readings { rows: self.rows[..ROW_LENGTH * answer.rows].chunks_exact(ROW_LENGTH), names: &self.names };
         match answer.kind {
             0 => Listing::Complete { readings, steps },
             1 => Listing::Full { readings, steps },
             2 => Listing::Exhausted { start: answer.detail as usize, readings, steps },
-            _ => Listing::Refused(answer.refusal()),
+            _ => Listing::Refused(refusal(answer.detail, answer.place)),
         }
     }
 
@@ -211,7 +254,7 @@ impl Matcher {
                 Explanation::NotMatched { steps, furthest, closest, marks: Marks { marks: self.marks[..rule.len()].iter().enumerate() } }
             }
             2 => Explanation::Exhausted { start: answer.detail as usize, steps },
-            _ => Explanation::Refused(answer.refusal()),
+            _ => Explanation::Refused(refusal(answer.detail, answer.place)),
         }
     }
 
@@ -220,7 +263,7 @@ impl Matcher {
         let areas = raw::Areas {
             rule: &mut self.rule_area,
             work: &mut self.work_area,
-            result: &mut self.rows,
+            result: if call == Call::Batch { &mut self.parts } else { &mut self.rows },
             names: &mut self.names,
             marks: &mut self.marks,
         };
@@ -243,10 +286,18 @@ struct Answer {
     places: [usize; 5],
 }
 
-impl Answer {
-    fn refusal(&self) -> Refusal {
-        Refusal { reason: Reason::from_number(self.detail).expect("the library gives only the numbers of its table"), place: self.place }
+/// What a match answers, by its kind and detail, and the reading if it has one.
+fn outcome([kind, detail]: [u32; 2], place: usize, steps: u64, reading: Reading) -> Outcome {
+    match kind {
+        0 => Outcome::Matched { reading, steps },
+        1 => Outcome::NotMatched { steps },
+        2 => Outcome::Exhausted { start: detail as usize, steps },
+        _ => Outcome::Refused(refusal(detail, place)),
     }
+}
+
+fn refusal(number: u32, place: usize) -> Refusal {
+    Refusal { reason: Reason::from_number(number).expect("the library gives only the numbers of its table"), place }
 }
 
 impl Outcome<'_> {
@@ -322,6 +373,25 @@ impl<'m> Iterator for Readings<'m> {
 }
 
 impl ExactSizeIterator for Readings<'_> {}
+
+impl<'m, 't> Iterator for Lines<'m, 't> {
+    type Item = (&'t [u8], Outcome<'m>);
+
+    fn next(&mut self) -> Option<(&'t [u8], Outcome<'m>)> {
+        let (row, numbers) = self.parts.next()?.split_at(ROW_LENGTH);
+        let end = self.rest.iter().position(|&byte| byte == b'\n').unwrap_or(self.rest.len());
+        let line = &self.rest[..end];
+        self.rest = self.rest.get(end + 1..).unwrap_or(&[]);
+        let steps = u64::from(numbers[3]) << 32 | u64::from(numbers[2]);
+        Some((line, outcome([numbers[0], numbers[1]], 0, steps, Reading { row, names: self.names })))
+    }
+
+    fn size_hint(&self) -> (usize, Option<usize>) {
+        self.parts.size_hint()
+    }
+}
+
+impl ExactSizeIterator for Lines<'_, '_> {}
 
 impl Iterator for Marks<'_> {
     type Item = usize;

@@ -36,7 +36,7 @@ fn told(lender: &mut Lender, seed: u64, number: u64, case: &Case, faults: &[Stri
 
 /// How many cases had which answer: a test that meets only some of them shows little.
 pub struct Kinds {
-    endings: [u64; 5],
+    endings: [u64; 6],
     refusals: [u64; 27],
     /// Numbers that are not given.
     never: &'static [usize],
@@ -44,7 +44,7 @@ pub struct Kinds {
 
 impl Kinds {
     pub fn new(never: &'static [usize]) -> Kinds {
-        Kinds { endings: [0; 5], refusals: [0; 27], never }
+        Kinds { endings: [0; 6], refusals: [0; 27], never }
     }
 
     pub fn count(&mut self, answer: &Answer) {
@@ -54,14 +54,15 @@ impl Kinds {
             Ending::Complete => self.endings[2] += 1,
             Ending::Full => self.endings[3] += 1,
             Ending::Exhausted(_) => self.endings[4] += 1,
+            Ending::Done => self.endings[5] += 1,
             Ending::Refused(refusal) => self.refusals[refusal.number as usize] += 1,
         }
     }
 
     pub fn told(&self) -> String {
-        let [matched, not, complete, full, exhausted] = self.endings;
-        let listed = if complete + full == 0 { String::new() } else { format!(", {complete} complete, {full} full") };
-        let walked = format!("{matched} matched, {not} not{listed}, {exhausted} exhausted");
+        let words = ["matched", "not", "complete", "full", "exhausted", "done"];
+        let walked = self.endings.iter().zip(words).filter(|(count, _)| **count > 0).map(|(count, word)| format!("{count} {word}"));
+        let walked = walked.collect::<Vec<_>>().join(", ");
         let rarest = (1..27).filter(|number| !self.never.contains(number)).map(|number| self.refusals[number]).min().unwrap_or(0);
         match self.refusals.iter().sum::<u64>() {
             0 => walked,

@@ -8,8 +8,8 @@ use super::contest::walk_seconds;
 use super::library::Library;
 use super::table::{digits, grouped, time};
 use super::turns::shortest;
-use super::{Case, Reply};
-use crate::independent::ROW_LENGTH;
+use super::{lines, Case, Reply};
+use crate::independent::{PART_LENGTH, ROW_LENGTH};
 use crate::raw::Call;
 
 /// Passes over all points; the shortest time of each counts.
@@ -17,7 +17,7 @@ const PASSES: usize = 4;
 
 /// Calls of one kind in several sizes.
 struct Series {
-    name: &'static str,
+    name: String,
     points: Vec<(u64, Case)>,
 }
 
@@ -38,10 +38,15 @@ pub fn print() {
     print_row("the same, clearing and the rest of the fixed part taken off", &cut_off[0], &times[0], Times::walk);
 }
 
+/// The same for a day's lines, by their number.
+pub fn print_by_lines() {
+    print_table("Time beyond the fixed part by the lines of a batch", &by_lines());
+}
+
 fn print_table(title: &str, all: &[Series]) {
     print_head(title);
     for (series, times) in all.iter().zip(measured(all, false)) {
-        print_row(series.name, series, &times, Times::walk);
+        print_row(&series.name, series, &times, Times::walk);
     }
 }
 
@@ -69,13 +74,25 @@ fn by_rows() -> Vec<Series> {
     ]
 }
 
+/// Three of the gateway's rules: with groups and branches, one that is searched for, and one that does not match.
+fn by_lines() -> Vec<Series> {
+    let sizes = [1_000, 10_000, 100_000, 1_000_000];
+    let mut all: Vec<Vec<Case>> = sizes.iter().map(|&size| lines::gateway(size)).collect();
+    [5, 4, 1]
+        .map(|number| {
+            let points: Vec<(u64, Case)> = sizes.iter().zip(&mut all).map(|(&size, cases)| (size as u64, cases.swap_remove(number))).collect();
+            Series { name: points[0].1.name.clone(), points }
+        })
+        .into()
+}
+
 fn by_budget() -> Series {
     Series::new("", [1_000, 10_000, 100_000], |budget| match_of("(a|a)*b", vec![b'a'; 30], budget as u32))
 }
 
 impl Series {
     fn new<const N: usize>(name: &'static str, sizes: [usize; N], case: impl Fn(usize) -> Case) -> Series {
-        Series { name, points: sizes.map(|size| (size as u64, case(size))).into() }
+        Series { name: name.to_string(), points: sizes.map(|size| (size as u64, case(size))).into() }
     }
 }
 
@@ -117,7 +134,8 @@ fn measure(case: &Case, cut_off: bool) -> Times {
         Reply::GaveUp => assert!(cut_off, "a walk is cut off by its budget, so that its time says nothing of its size"),
         Reply::Rows(rows) => {
             assert!(!cut_off, "a walk that was to be cut off comes to its end");
-            assert!(case.call == Call::Match || rows.len() == ROW_LENGTH * case.room, "a listing has other rows than its size says");
+            let length = if case.call == Call::Batch { PART_LENGTH } else { ROW_LENGTH };
+            assert!(case.call == Call::Match || rows.len() == length * case.room, "a call has other rows than its size says");
         }
     }
     let times = shortest(&mut [Box::new(|| library.borrow_mut().call(&case.subject)), Box::new(|| library.borrow_mut().call(b""))]);

@@ -3,7 +3,7 @@
 use std::hint::black_box;
 
 use super::{Case, Reply};
-use crate::independent::{INDEX_LENGTH, ROW_LENGTH, RULE_AREA, WORK_PER_STEP};
+use crate::independent::{INDEX_LENGTH, PART_LENGTH, ROW_LENGTH, RULE_AREA, WORK_PER_STEP};
 use crate::raw::{self, Areas, Call, Question, ANSWER_LENGTH};
 
 /// An answer's kind when the call is refused, and the reasons for which a library from before a flag, `\k` or `(?<` refuses one that has it.
@@ -25,7 +25,7 @@ impl<'c> Library<'c> {
             case,
             rule_area: vec![0; RULE_AREA],
             work_area: vec![0; WORK_PER_STEP * case.budget as usize],
-            result: vec![0; ROW_LENGTH * case.room],
+            result: vec![0; case.room * if case.call == Call::Batch { PART_LENGTH } else { ROW_LENGTH }],
             names: vec![0; INDEX_LENGTH],
             answer: [0; ANSWER_LENGTH],
         }
@@ -54,11 +54,12 @@ impl<'c> Library<'c> {
         let steps = u64::from(high) << 32 | u64::from(low);
         let rows = match (self.case.call, kind) {
             (_, REFUSED) => panic!("a case of the benchmark is refused: {detail} at {place}"),
-            (Call::List, 1) => panic!("a case of the benchmark has too few rows"),
+            (Call::List | Call::Scan, 1) => panic!("a case of the benchmark has too few rows"),
             (_, 2) => return (Reply::GaveUp, steps),
             (Call::Match, 0) => 1,
             (Call::Match | Call::Explain, _) => 0,
-            (Call::List, _) => rows as usize,
+            (Call::List | Call::Scan, _) => rows as usize,
+            (Call::Batch, _) => return (Reply::Rows(self.result[..PART_LENGTH * rows as usize].to_vec()), steps),
         };
         (Reply::Rows(self.result[..ROW_LENGTH * rows].to_vec()), steps)
     }

@@ -6,6 +6,7 @@ pub mod compare;
 pub mod contest;
 pub mod growth;
 pub mod library;
+pub mod lines;
 pub mod pcre2;
 pub mod perl;
 pub mod table;
@@ -22,7 +23,7 @@ pub struct Case {
     pub flags: u32,
     pub subject: Vec<u8>,
     pub budget: u32,
-    /// Rows in the result area.
+    /// Rows in the result area, or parts for a day's lines.
     pub room: usize,
     /// What PCRE2 may try at most where it walks without shortcuts; its own default if none.
     pub match_limit: Option<u32>,

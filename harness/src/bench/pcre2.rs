@@ -99,6 +99,55 @@ impl Drop for Rival<'_> {
     }
 }
 
+/// PCRE2 over the lines of a buffer: its rule compiled once, with its default options, and the lines split by C's `memchr`. What a match finds stays in
+/// PCRE2's own offsets, to be read before the next one.
+pub struct OverLines<'c> {
+    compiled: Compiled,
+    buffer: &'c [u8],
+}
+
+impl<'c> OverLines<'c> {
+    pub fn new(case: &'c Case) -> OverLines<'c> {
+        OverLines { compiled: Compiled::new(&case.rule, options_of(case.flags)), buffer: &case.subject }
+    }
+
+    /// Hands on what PCRE2 says of each line: below 0 where it does not match.
+    fn each(&self, mut take: impl FnMut(c_int)) {
+        let mut rest = black_box(self.buffer);
+        while !rest.is_empty() {
+            // Safety: the pointer goes with the length, and what `memchr` finds lies among the bytes.
+            let end = unsafe {
+                let found = memchr(rest.as_ptr().cast(), c_int::from(b'\n'), rest.len());
+                if found.is_null() {
+                    rest.len()
+                } else {
+                    found.cast::<u8>().offset_from_unsigned(rest.as_ptr())
+                }
+            };
+            // Safety: as above, and the rule and its match data live as long as this.
+            take(unsafe { pcre2_match_8(self.compiled.code, rest.as_ptr(), end, 0, 0, self.compiled.data, null_mut()) });
+            rest = rest.get(end + 1..).unwrap_or(&[]);
+        }
+    }
+
+    pub fn call(&self) {
+        let mut matched = 0;
+        self.each(|end| matched += u32::from(end >= 0));
+        black_box(matched);
+    }
+
+    /// The row of each line, or none where it is not matched.
+    pub fn rows(&self) -> Vec<Option<Vec<u32>>> {
+        let mut rows = Vec::new();
+        self.each(|end| rows.push((end >= 0).then(|| self.compiled.first_row())));
+        rows
+    }
+}
+
+extern "C" {
+    fn memchr(bytes: *const c_void, byte: c_int, length: usize) -> *const c_void;
+}
+
 /// A compiled rule with room for its match.
 struct Compiled {
     code: *mut c_void,

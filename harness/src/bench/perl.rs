@@ -30,13 +30,12 @@ pub fn run(cases: &[Case]) -> Result<Perl, String> {
 fn replies(cases: &[&Case]) -> Result<Vec<Reply>, String> {
     let questions: Vec<Question> = cases.iter().map(|case| question(case)).collect();
     let reply = |answer| match answer {
-        Answer::Matched(row, _) => Reply::Rows(row.to_vec()),
-        Answer::NotMatched => Reply::Rows(Vec::new()),
+        Answer::Rows(rows, _) => Reply::Rows(rows.concat()),
         Answer::Failed | Answer::Slow => Reply::GaveUp,
     };
     Ok(perl::answers(&questions)?.into_iter().map(reply).collect())
 }
 
 fn question(case: &Case) -> Question<'_> {
-    Question { rule: &case.rule, flags: case.flags, charset: Charset::Ascii, subject: &case.subject, groups: 32 }
+    Question { rule: &case.rule, flags: case.flags, charset: Charset::Ascii, subject: &case.subject, groups: 32, all: false }
 }

@@ -1,14 +1,14 @@
 //! The library's matches against those of Perl on random sound rules: matched or not, start, end, captures, and each field by its name against
-//! what Perl's `%+` has of it. A difference has to have the
+//! what Perl's `%+` has of it; with `--scans` its successive matches against those of Perl's `/g`. A difference has to have the
 //! marks of a known class, and PCRE2 has to side with the library, unless it has a difference of its own there. `--independent` puts the
 //! independent matcher in the library's place: what the library is held against elsewhere is then held against Perl itself.
 
-use harness::arguments::arguments_and_switch;
+use harness::arguments::arguments_and_switches;
 use harness::case::{shown, shown_row, Case};
 use harness::contender::Contender;
 use harness::differences::{Class, Compared, SetAside};
 use harness::independent::{self, Ending, Row};
-use harness::pcre2::{Found, Pattern};
+use harness::pcre2::{Found, Loop, Pattern};
 use harness::perl::{self, Answer, Charset, Fields, Question};
 use harness::random::shared::{self, Shared};
 use harness::raw::{Call, Lookup};
@@ -21,42 +21,49 @@ const CLASSES: u64 = 100;
 const BATCH: usize = 5_000;
 
 fn main() -> std::process::ExitCode {
-    let (arguments, is_independent) = arguments_and_switch("--independent", 50_000, 1..2);
+    let (arguments, [is_independent, scans]) = arguments_and_switches(["--independent", "--scans"], 50_000, 1..2);
     let mut tester = Tester {
-        group: Group::new("matches against Perl"),
+        group: Group::new(if scans { "successive matches against Perl" } else { "matches against Perl" }),
+        call: if scans { Call::Scan } else { Call::Match },
         contender: Contender::new(is_independent),
         aside: SetAside::default(),
         confirmed: 0,
         left_out: 0,
+        rows: 0,
         fields: 0,
     };
-    tester.batch(shared::set_cases());
+    let make = if scans { shared::scan_case } else { shared::case };
+    // Sets and classes on single bytes tell nothing more of successive matches.
+    let (sets, classes) = if scans { (Vec::new(), 0) } else { (shared::set_cases(), CLASSES) };
+    tester.batch(sets);
     for seed in arguments.seeds.clone() {
         let numbers: Vec<u64> = (0..arguments.cases).collect();
         for batch in numbers.chunks(BATCH) {
-            let cases = batch.iter().filter_map(|&number| shared::case(seed, number)).collect();
-            tester.batch(cases);
+            tester.batch(batch.iter().filter_map(|&number| make(seed, number)).collect());
         }
-        tester.batch((0..CLASSES).flat_map(|number| shared::class_cases(seed, number)).collect());
+        tester.batch((0..classes).flat_map(|number| shared::class_cases(seed, number)).collect());
     }
     let aside = format!("{}, {} of them confirmed by PCRE2", tester.aside.told(), tester.confirmed);
-    let remark = format!("{} fields by name; {aside}; {} left out as too long", tester.fields, tester.left_out);
+    let remark = format!("{} rows; {} fields by name; {aside}; {} left out as too long", tester.rows, tester.fields, tester.left_out);
     tester.group.end(&remark)
 }
 
 struct Tester {
     group: Group,
+    /// A match or a scan.
+    call: Call,
     contender: Contender,
     aside: SetAside,
     confirmed: u64,
     left_out: u64,
+    rows: usize,
     fields: usize,
 }
 
-/// A case with what the library answers: its row, or none where it does not match, and its fields.
+/// A case with what the library answers: its rows, none where it does not match, and the fields of a match.
 struct Ours {
     case: Shared,
-    row: Option<Row>,
+    rows: Vec<Row>,
     fields: Fields,
 }
 
@@ -73,7 +80,7 @@ impl Tester {
                 Some(class) => exceeded.push((ours, class)),
             }
         }
-        let questions: Vec<Question> = usual.iter().map(|ours| question(&ours.case, &ours.case.rule, Charset::Ascii)).collect();
+        let questions: Vec<Question> = usual.iter().map(|ours| self.question(&ours.case, &ours.case.rule, Charset::Ascii)).collect();
         for (ours, answer) in usual.iter().zip(self.answers(&questions)) {
             self.judge(ours, &answer);
         }
@@ -84,8 +91,8 @@ impl Tester {
     /// and set aside where it differs.
     fn without_excess(&mut self, cases: &[(&Ours, Class)]) {
         let rules: Vec<Vec<u8>> = cases.iter().map(|(ours, _)| Compared { case: &ours.case }.plain_rule()).collect();
-        let without: Vec<Question> = cases.iter().zip(&rules).map(|((ours, _), rule)| question(&ours.case, rule, Charset::Native)).collect();
-        let with: Vec<Question> = cases.iter().map(|(ours, _)| question(&ours.case, &ours.case.rule, Charset::Ascii)).collect();
+        let without: Vec<Question> = cases.iter().zip(&rules).map(|((ours, _), rule)| self.question(&ours.case, rule, Charset::Native)).collect();
+        let with: Vec<Question> = cases.iter().map(|(ours, _)| self.question(&ours.case, &ours.case.rule, Charset::Ascii)).collect();
         let answers = self.answers(&without).into_iter().zip(self.answers(&with));
         for (&(ours, class), (without, with)) in cases.iter().zip(answers) {
             if ours.is_same(&without) && !ours.is_same(&with) {
@@ -106,12 +113,15 @@ impl Tester {
 
     /// What the library answers. Cases that are too long are left out.
     fn ours(&mut self, case: Shared) -> Option<Ours> {
-        let call = Case::new(Call::Match, &case.rule, case.flags, &case.subject, case.budget(), 1);
+        // A start has two matches at most, an empty one and then another.
+        let room = if self.call == Call::Match { 1 } else { 2 * case.subject.len() + 2 };
+        let call = Case::new(self.call, &case.rule, case.flags, &case.subject, case.budget(), room);
         let answer = self.contender.answer(&call);
         match answer.ending {
-            Ending::Matched | Ending::NotMatched => {
-                let (row, fields) = (answer.rows.first().copied(), self.fields(&case, &answer));
-                return Some(Ours { case, row, fields });
+            Ending::Matched | Ending::NotMatched | Ending::Complete => {
+                let fields = if self.call == Call::Match { self.fields(&case, &answer) } else { Fields::new() };
+                self.rows += answer.rows.len();
+                return Some(Ours { case, rows: answer.rows, fields });
             }
             Ending::Exhausted(_) => self.left_out += 1,
             _ => self.group.fail(&format!("{}\nis sound, and the library answers: {}", call.shown(), shown(&answer))),
@@ -139,7 +149,6 @@ impl Tester {
 
     fn judge(&mut self, ours: &Ours, answer: &Answer) {
         let compared = Compared { case: &ours.case };
-        let row = ours.row.as_ref();
         let class = match answer {
             _ if ours.is_same(answer) => return self.group.pass(),
             Answer::Slow => {
@@ -147,10 +156,12 @@ impl Tester {
                 return;
             }
             Answer::Failed => compared.perl_failure_class(),
-            Answer::NotMatched => compared.perl_class(row, None),
-            // The same row with other fields is of no class.
-            Answer::Matched(perls, _) if row == Some(&**perls) => None,
-            Answer::Matched(perls, _) => compared.perl_class(row, Some(perls)),
+            // The same rows with other fields are of no class.
+            Answer::Rows(perls, _) if ours.rows == *perls => None,
+            Answer::Rows(perls, _) => {
+                let same = ours.rows.iter().zip(perls).take_while(|(row, perls)| row == perls).count();
+                compared.perl_class(ours.rows.get(same), perls.get(same))
+            }
         };
         match class {
             Some(class) => self.set_aside(ours, answer, class),
@@ -159,55 +170,61 @@ impl Tester {
     }
 
     fn set_aside(&mut self, ours: &Ours, answer: &Answer, class: Class) {
-        if self.pcre2_sides_with(ours.row.as_ref(), &ours.case) {
+        if self.pcre2_sides_with(&ours.rows, &ours.case) {
             self.aside.count(class);
         } else {
             self.group.fail(&format!("{}\nPCRE2 does not side with the library", told(ours, answer)));
         }
     }
 
-    /// Does PCRE2 find the library's row? Where it differs by a point of its own, it cannot be asked.
-    fn pcre2_sides_with(&mut self, ours: Option<&Row>, case: &Shared) -> bool {
+    /// Does PCRE2 find the library's rows? Where it differs by a point of its own, it cannot be asked.
+    fn pcre2_sides_with(&mut self, ours: &[Row], case: &Shared) -> bool {
         let compared = Compared { case };
         if compared.pcre2_class().is_some() {
             return true;
         }
         let found = match Pattern::new(&compared.plain_rule(), case.flags) {
-            Ok(pattern) => pattern.first(&case.subject),
+            Ok(pattern) if self.call == Call::Match => pattern.first(&case.subject),
+            Ok(pattern) => pattern.successive(&case.subject, Loop::Plain),
             Err(error) => return compared.pcre2_refusal_class(error).is_some(),
         };
-        let sides = found == Found::Rows(ours.into_iter().copied().collect());
+        let sides = found == Found::Rows(ours.to_vec());
         self.confirmed += u64::from(sides);
         sides
     }
-}
 
-fn question<'c>(case: &'c Shared, rule: &'c [u8], charset: Charset) -> Question<'c> {
-    Question { rule, flags: case.flags, charset, subject: &case.subject, groups: case.tree.groups }
+    fn question<'c>(&self, case: &'c Shared, rule: &'c [u8], charset: Charset) -> Question<'c> {
+        Question { rule, flags: case.flags, charset, subject: &case.subject, groups: case.tree.groups, all: self.call == Call::Scan }
+    }
 }
 
 impl Ours {
-    /// Is Perl's answer this row with these fields, or "not matched" where there is none?
+    /// Is Perl's answer these rows with these fields?
     fn is_same(&self, answer: &Answer) -> bool {
         match answer {
-            Answer::NotMatched => self.row.is_none(),
-            Answer::Matched(row, fields) => self.row.as_ref() == Some(&**row) && self.fields == *fields,
+            Answer::Rows(rows, fields) => self.rows == *rows && self.fields == *fields,
             Answer::Failed | Answer::Slow => false,
         }
     }
 }
 
 fn told(ours: &Ours, answer: &Answer) -> String {
-    let row = |row: &Row, fields: &Fields| format!("{} {}", shown_row(row), shown_fields(fields));
     let perls = match answer {
         Answer::Failed => "failed".to_string(),
         Answer::Slow => "slow".to_string(),
-        Answer::NotMatched => "not matched".to_string(),
-        Answer::Matched(perls, fields) => row(perls, fields),
+        Answer::Rows(rows, fields) => shown_rows(rows, fields),
     };
     let (rule, subject) = (text::escaped(&ours.case.rule), text::escaped(&ours.case.subject));
-    let library = ours.row.as_ref().map_or("not matched".to_string(), |found| row(found, &ours.fields));
-    format!("`{rule}` flags {} on \"{subject}\": library {library}, Perl {perls}", ours.case.flags)
+    format!("`{rule}` flags {} on \"{subject}\": library {}, Perl {perls}", ours.case.flags, shown_rows(&ours.rows, &ours.fields))
+}
+
+fn shown_rows(rows: &[Row], fields: &Fields) -> String {
+    let shown: Vec<String> = rows.iter().map(shown_row).collect();
+    if shown.is_empty() {
+        "not matched".to_string()
+    } else {
+        format!("{} {}", shown.join("; "), shown_fields(fields))
+    }
 }
 
 fn shown_fields(fields: &Fields) -> String {

@@ -1,5 +1,5 @@
 //! Times the library beside PCRE2's interpreter and Perl, and prints a table for docs/BENCHMARKS.md; `--only WORDS` of the cases that have the words in
-//! their name. `--growth` prints how the library's times grow with the size. For two libraries there are as many programs: `--numbers WORDS`
+//! their name. `--growth` prints how the library's times grow with the size, and `--lines` times a day's lines at once. For two libraries there are as many programs: `--numbers WORDS`
 //! prints the numbers of the cases of that name, `--plain NUMBER` plain numbers of one of them (nothing where the library does not hold its flags),
 //! and `--compare BEFORE AFTER` a table of two files of such lines.
 
@@ -9,7 +9,7 @@ use std::process::ExitCode;
 use harness::bench::contest::{measure, Measured, Rate};
 use harness::bench::library::Library;
 use harness::bench::perl::{self, Perl};
-use harness::bench::{cases, compare, growth, pcre2, table, Case, Reply};
+use harness::bench::{cases, compare, growth, lines, pcre2, table, Case, Reply};
 
 /// Passes over all cases: work beside that slows a whole case down is hardly there at the same case of each pass.
 const PASSES: usize = 4;
@@ -27,9 +27,14 @@ fn main() -> ExitCode {
             }
         }
         ["--growth"] => growth::print(),
+        ["--lines"] => {
+            println!("{}\n", pcre2::version());
+            lines::print();
+            growth::print_by_lines();
+        }
         ["--compare", before, after] => return print_comparison(before, after),
         _ => {
-            eprintln!("usage: [--only WORDS | --growth | --numbers WORDS | --plain NUMBER | --compare BEFORE AFTER]");
+            eprintln!("usage: [--only WORDS | --growth | --lines | --numbers WORDS | --plain NUMBER | --compare BEFORE AFTER]");
             return ExitCode::from(2);
         }
     }

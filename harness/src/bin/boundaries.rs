@@ -1,15 +1,16 @@
 //! Calls at the limits of documents 01 and 02: each of refusals 1 to 8 at its last good and first bad value, all of them together in their order,
 //! subjects of 65,535 bytes, the greatest budget, also within a reference, every flag setting, rules of 1,000 bytes that `x` mostly skips, the
-//! longest names and the most, marks of every length around a rule's, and lookups at the edges of an index and of a row.
+//! longest names and the most, marks of every length around a rule's, as many successive matches as there can be, lines of every length around the
+//! limit and result areas around what they need, and lookups at the edges of an index and of a row.
 
 use harness::case::{shown, Case};
-use harness::independent::{Ending, FLAG_I, FLAG_X, UNSET};
+use harness::independent::{Ending, FLAG_I, FLAG_X, PART_LENGTH, ROW_LENGTH, UNSET};
 use harness::lender::Lender;
 use harness::looker::{self, Looker};
 use harness::raw::{Call, Lookup};
 use harness::report::Group;
 
-const CALLS: [Call; 3] = [Call::Match, Call::List, Call::Explain];
+const CALLS: [Call; 5] = [Call::Match, Call::List, Call::Explain, Call::Scan, Call::Batch];
 
 fn main() -> std::process::ExitCode {
     let mut group = Group::new("boundaries");
@@ -28,6 +29,10 @@ fn main() -> std::process::ExitCode {
     }
     marks(&mut group, &mut lender);
     far_attempts(&mut group, &mut lender);
+    most_matches(&mut group, &mut lender);
+    line_lengths(&mut group, &mut lender);
+    parts(&mut group, &mut lender);
+    many_lines(&mut group, &mut lender);
     lookups_by_index(&mut group);
     lookups_by_row(&mut group);
     group.end("")
@@ -41,35 +46,46 @@ fn judge(group: &mut Group, lender: &mut Lender, case: &Case) {
 }
 
 /// All 256 ways to break some of the eight limits by one: the lowest number is given, and nothing is changed. An explanation is lent no result area
-/// and so never refused by 7; in place of that one, its marks have no room, which refuses nothing.
+/// and so never refused by 7; in place of that one, its marks have no room, which refuses nothing. A day's lines are never refused by 2: the line is.
 fn refusals_in_order(group: &mut Group, lender: &mut Lender, call: Call) {
     for broken in 0u32..256 {
-        let breaks = |number: u32| broken >> (number - 1) & 1;
-        let budget = if breaks(4) == 1 { 100_001 } else { 100 };
-        let case = Case {
-            call,
-            rule: vec![b'b'; 1_000 + breaks(1) as usize],
-            flags: if breaks(3) == 1 { 16 } else { 15 },
-            subject: vec![b'a'; 65_535 + breaks(2) as usize],
-            budget,
-            rule_area: 16_384 - breaks(5) as usize,
-            work_area: 16 * budget as usize - breaks(6) as usize,
-            result_area: 66 - breaks(7) as usize,
-            name_index: 544 - breaks(8) as usize,
-            marks: 1_000 * (1 - breaks(7) as usize),
-        };
-        let run = lender.run(&case);
+        let is_broken = |number: u32| broken >> (number - 1) & 1 == 1;
+        let run = lender.run(&with_limits_broken(call, |number| usize::from(is_broken(number))));
         let mut faults = run.faults;
-        let expected = (1..=8).find(|&number| breaks(number) == 1 && (call != Call::Explain || number != 7));
+        let is_given = |number| !matches!((call, number), (Call::Explain, 7) | (Call::Batch, 2));
+        let expected = (1..=8).find(|&number| is_broken(number) && is_given(number));
         let told = match run.answer.ending {
             Ending::Refused(refusal) => Some(refusal.number),
             _ => None,
         };
-        let steps = if expected.is_some() { 0 } else { 65_536 };
+        let steps = if expected.is_some() || call == Call::Batch { 0 } else { 65_536 };
         if told != expected || run.answer.steps != steps {
             faults.push(format!("expected refusal {expected:?} and {steps} steps, the library answers {}", shown(&run.answer)));
         }
+        if expected.is_none() && call == Call::Batch {
+            let outcomes: Vec<[u32; 4]> = run.answer.parts.iter().map(|part| part.outcome).collect();
+            let outcome = if is_broken(2) { [3, 2, 0, 0] } else { [1, 0, 65_536, 0] };
+            faults.extend((outcomes != [outcome]).then(|| format!("the line's outcome is {outcomes:?}")));
+        }
         group.judge(&format!("limits broken: {broken:08b}"), &faults);
+    }
+}
+
+/// A call with each limit just kept, or broken by one: `breaks` gives 1 for the numbers of those.
+fn with_limits_broken(call: Call, breaks: impl Fn(u32) -> usize) -> Case {
+    let budget = if breaks(4) == 1 { 100_001 } else { 100 };
+    let room = if call == Call::Batch { PART_LENGTH } else { ROW_LENGTH };
+    Case {
+        call,
+        rule: vec![b'b'; 1_000 + breaks(1)],
+        flags: if breaks(3) == 1 { 16 } else { 15 },
+        subject: vec![b'a'; 65_535 + breaks(2)],
+        budget,
+        rule_area: 16_384 - breaks(5),
+        work_area: 16 * budget as usize - breaks(6),
+        result_area: room - breaks(7),
+        name_index: 544 - breaks(8),
+        marks: 1_000 * (1 - breaks(7)),
     }
 }
 
@@ -257,6 +273,65 @@ fn far_attempts(group: &mut Group, lender: &mut Lender) {
     }
     for (rule, length) in [(&br"\A(?:a{255}){128}b"[..], 32_640), (br"\A(?:a{255}){128}b", 32_641), (br"^((?:a{100}){100})\1b", 20_000)] {
         judge(group, lender, &Case::new(Call::Explain, rule, 0, &vec![b'a'; length], 100_000, 1));
+    }
+}
+
+/// As many matches as a line can have, each with the least budget: on the longest line twice as many tries as it has starts, with a row more, just
+/// enough and one less.
+fn most_matches(group: &mut Group, lender: &mut Lender) {
+    let subject = vec![b'a'; 65_535];
+    for rows in [1, 2, 65_535, 65_536, 65_537] {
+        judge(group, lender, &Case::new(Call::Scan, b"", 0, &subject, 1, rows));
+        judge(group, lender, &Case::new(Call::Scan, b"a", 0, &subject, 2, rows));
+    }
+    // Two matches from each start.
+    for rows in [1_999, 2_000, 2_001, 2_002] {
+        for (rule, budget) in [(&b"a??"[..], 5), (b"|a", 4), (b"(|.)", 6), (b"(?:|a)", 3)] {
+            judge(group, lender, &Case::new(Call::Scan, rule, 0, &subject[..1_000], budget, rows));
+        }
+    }
+    for rule in [&br"(?:a{255}){10}"[..], br"a{255}$", br"\A|\z", br"\Z\n?", br"^", br"$"] {
+        for flags in [0, 2] {
+            let line = [&subject[..3_000], b"\n", &subject[..3_000], b"\n"].concat();
+            judge(group, lender, &Case::new(Call::Scan, rule, flags, &line, 10_000, 9));
+        }
+    }
+}
+
+/// Lines of each length around the limit, first, last and between others, with and without an 0A behind them.
+fn line_lengths(group: &mut Group, lender: &mut Lender) {
+    for length in [65_534, 65_535, 65_536, 65_537, 131_072] {
+        let long = vec![b'a'; length];
+        for (before, behind) in [(&b""[..], &b"\nb"[..]), (b"b\n", b""), (b"b\n", b"\n\nb\n")] {
+            let buffer = [before, &long, behind].concat();
+            for rule in ["b", r"a\z", "(", "(?<n>b)"] {
+                judge(group, lender, &Case::new(Call::Batch, rule.as_bytes(), 0, &buffer, 10, 4));
+            }
+        }
+        let all_long = [&long[..], &long, &long].join(&b'\n');
+        judge(group, lender, &Case::new(Call::Batch, br"a\z", 0, &all_long, 10, 3));
+    }
+}
+
+/// Result areas of each length around what no, one, two and three lines need: 7 exactly if lines outnumber parts.
+fn parts(group: &mut Group, lender: &mut Lender) {
+    for buffer in ["", "\n", "a", "a\n", "\r\n", "\n\n", "a\nb", "\na\n", "a\n\nb", "\n\n\n"] {
+        for numbers in [0, 1, 66, 69, 70, 71, 132, 139, 140, 141, 198, 209, 210, 211, 280] {
+            for rule in ["", "a", "(?<n>a)|(b)", "a**", "a{9}"] {
+                judge(group, lender, &Case { result_area: numbers, ..Case::new(Call::Batch, rule.as_bytes(), 0, buffer.as_bytes(), 9, 1) });
+            }
+        }
+    }
+}
+
+/// More bytes in all than a line may have, 0A alone among them, with a part too few, enough and one more.
+fn many_lines(group: &mut Group, lender: &mut Lender) {
+    for (buffer, lines) in [(b"\n".repeat(65_536), 65_536), (b"a\nb\r\n\n".repeat(12_000), 36_000), (b"ab\n".repeat(25_000), 25_000)] {
+        for parts in [lines - 1, lines, lines + 1] {
+            for rule in ["", "b", "(?<n>a)|b"] {
+                judge(group, lender, &Case::new(Call::Batch, rule.as_bytes(), 0, &buffer, 5, parts));
+            }
+        }
     }
 }
 

@@ -77,8 +77,10 @@ struct Tester {
 
 impl Tester {
     fn batch(&mut self, cases: Vec<Judged>) {
-        let questions: Vec<Question> =
-            cases.iter().map(|case| Question { rule: &case.rule, flags: case.flags, charset: Charset::Ascii, subject: b"", groups: 0 }).collect();
+        let questions: Vec<Question> = cases
+            .iter()
+            .map(|case| Question { rule: &case.rule, flags: case.flags, charset: Charset::Ascii, subject: b"", groups: 0, all: false })
+            .collect();
         match perl::answers(&questions) {
             Err(error) => self.group.fail(&error),
             Ok(answers) => {

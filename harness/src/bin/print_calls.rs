@@ -1,24 +1,24 @@
 //! Prints random calls, each on a line with what the independent matcher answers, for `compare_reference.py`: call, flags, budget, the lengths
-//! of the areas, of the name index and of the marks, rule and subject in hex, and the answer, with tabs between them. `--fast` and `--explanations`
-//! print the calls of that kind.
+//! of the areas, of the name index and of the marks, rule and subject in hex, and the answer, with tabs between them. `--fast`, `--explanations`,
+//! `--scans` and `--batches` print the calls of that kind.
 
 use harness::arguments::arguments_and_switches;
 use harness::case::{shown, Case};
-use harness::random::{calls, explanations, fast};
+use harness::random::{batches, calls, explanations, fast, scans};
 use harness::raw::Call;
 use harness::text::hex;
 
+/// The calls by their numbers.
+const KINDS: [Call; 5] = [Call::Match, Call::List, Call::Explain, Call::Scan, Call::Batch];
+
 fn main() {
-    let (arguments, switches) = arguments_and_switches(["--fast", "--explanations"], 10_000, 1..2);
-    let make: fn(u64, u64) -> Case = match switches {
-        [_, true] => explanations::case,
-        [true, _] => fast::case,
-        _ => calls::case,
-    };
+    let (arguments, switches) = arguments_and_switches(["--fast", "--explanations", "--scans", "--batches"], 10_000, 1..2);
+    let makers: [fn(u64, u64) -> Case; 4] = [fast::case, explanations::case, scans::case, batches::case];
+    let make = switches.iter().zip(makers).find(|(is_given, _)| **is_given).map_or(calls::case as fn(u64, u64) -> Case, |(_, make)| make);
     for seed in arguments.seeds.clone() {
         for number in 0..arguments.cases {
             let case = make(seed, number);
-            let kind = [Call::Match, Call::List, Call::Explain].iter().position(|&call| call == case.call).expect("it is one of them");
+            let kind = KINDS.iter().position(|&call| call == case.call).expect("it is one of them");
             let areas = [case.rule_area, case.work_area, case.result_area, case.name_index, case.marks];
             let answer = shown(&case.expected());
             let numbers = [kind, case.flags as usize, case.budget as usize].into_iter().chain(areas).map(|number| number.to_string());

@@ -1,4 +1,5 @@
-//! Runs the examples of `data/`: Perl's documents, documents 01 and 02 with their open points, the guide, and explanations. Both the library and the
+//! Runs the examples of `data/`: Perl's documents, documents 01 and 02 with their open points, the guide, explanations, successive matches and a
+//! day's lines. Both the library and the
 //! independent matcher have to give what was written down by hand.
 
 use std::path::Path;
@@ -19,6 +20,8 @@ fn main() -> std::process::ExitCode {
         ("checked readings, traps and open points", "checked-readings.txt"),
         ("examples of the guide", "guide-examples.txt"),
         ("explanations", "explanations.txt"),
+        ("successive matches", "scans.txt"),
+        ("a day's lines", "batches.txt"),
     ];
     let lookups = run_lookups("lookups of fields", "lookups.txt");
     if files.map(|(name, file)| run(name, file)).iter().all(|passed| *passed) && lookups {
@@ -37,7 +40,8 @@ fn run(name: &'static str, file: &str) -> bool {
             let mut lender = Lender::default();
             for example in &examples {
                 let faults = judge(&mut lender, example);
-                group.judge(&format!("line {}: {}\n{}", example.line, example.from, example.case.shown()), &faults);
+                let case = if example.case.subject.len() > 500 { String::new() } else { example.case.shown() };
+                group.judge(&format!("line {}: {}\n{case}", example.line, example.from), &faults);
             }
         }
     }

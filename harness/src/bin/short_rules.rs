@@ -1,7 +1,7 @@
 //! All short rules against the independent matcher: every escape with every byte, every named set with every byte, with and without `i`, and every
 //! rule of up to four bytes over those that mean something, also over those that mean something under `x`; every beginning of a name with up to four
 //! bytes behind it, and up to four pieces with names in every order. Each is matched or listed, and explained, with marks of each length up to one
-//! more than the rule has bytes. Where faults hide in the order of refusals, a short rule shows them.
+//! more than the rule has bytes, and scanned for successive matches. Where faults hide in the order of refusals, a short rule shows them.
 
 use harness::case::Case;
 use harness::independent::{FLAG_I, FLAG_X};
@@ -42,12 +42,13 @@ struct Tester {
 }
 
 impl Tester {
-    /// The call, and the explanation of the same.
+    /// The call, and the explanation and the successive matches of the same.
     fn judge(&mut self, case: &Case) {
         let marks = self.number % (case.rule.len() + 2);
         self.number += 1;
         self.judge_call(case);
         self.judge_call(&Case { call: Call::Explain, marks, ..case.clone() });
+        self.judge_call(&Case { call: Call::Scan, ..case.clone() });
     }
 
     fn judge_call(&mut self, case: &Case) {

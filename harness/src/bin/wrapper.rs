@@ -6,7 +6,9 @@ use harness::independent::Answer;
 use harness::random::calls;
 use harness::raw::Call;
 use harness::report::Group;
-use harness::terravisco::{Attempt, Explanation, Failure, Listing, Matcher, Outcome, Reading, Reason, Refusal, FLAG_I, FLAG_M, FLAG_S, FLAG_X};
+use harness::terravisco::{
+    Attempt, Explanation, Failure, Lines, Listing, Matcher, Outcome, Readings, Reason, Refusal, FLAG_I, FLAG_M, FLAG_S, FLAG_X,
+};
 
 const BUDGET: u32 = 1_000;
 const ROWS: usize = 5;
@@ -18,6 +20,8 @@ fn main() -> std::process::ExitCode {
     flags(&mut group, &mut matcher);
     fields(&mut group, &mut matcher);
     explanations(&mut group, &mut matcher);
+    successive_matches(&mut group, &mut matcher);
+    lines(&mut group, &mut matcher);
     let greedy =
         matches!(Matcher::new(u32::MAX, 1).match_line(b"a", 0, b"a"), Outcome::Refused(Refusal { reason: Reason::BudgetTooGreat, place: 0 }));
     group.judge("a budget over its limit", &if greedy { Vec::new() } else { vec!["it is not refused".to_string()] });
@@ -38,8 +42,10 @@ fn random_calls(seed: u64) -> Vec<(String, Vec<String>)> {
     for number in 0..2_000 {
         let random = calls::case(seed, number);
         let flags = random.flags & (FLAG_S | FLAG_M | FLAG_I | FLAG_X);
-        for call in [random.call, Call::Explain] {
-            let case = Case::new(call, &random.rule, flags, &random.subject, BUDGET, ROWS);
+        for call in [random.call, Call::Explain, Call::Scan, Call::Batch] {
+            // The matcher has room for every line.
+            let room = if call == Call::Batch { random.subject.len() + 1 } else { ROWS };
+            let case = Case::new(call, &random.rule, flags, &random.subject, BUDGET, room);
             // The words have no names: fields are looked up on the examples.
             let (ours, expected) = (told(&mut matcher, &case), shown(&Answer { names: None, ..case.expected() }));
             judged.push((case.shown(), if ours == expected { Vec::new() } else { vec![format!("matcher: {ours}\nexpected: {expected}")] }));
@@ -131,33 +137,123 @@ fn explanations(group: &mut Group, matcher: &mut Matcher) {
     group.judge("other explanations", &if others == [true; 5] { Vec::new() } else { vec![format!("{others:?}")] });
 }
 
+/// The quantities of one message, and a match behind an empty one.
+fn successive_matches(group: &mut Group, matcher: &mut Matcher) {
+    for (rule, line, expected) in [
+        (&br"(\d+) L"[..], &b"tank 7: 820 L, tank 8: 640 L"[..], &["8-13 1:8-11", "23-28 1:23-26"][..]),
+        (b"a*?", b"aa", &["0-0", "0-1", "1-1", "1-2", "2-2"]),
+        (b"x", b"aa", &[]),
+    ] {
+        let readings: Vec<String> = match matcher.match_all(rule, 0, line) {
+            Listing::Complete { readings, .. } => readings.map(|reading| format!("{reading:?}")).collect(),
+            other => vec![format!("{other:?}")],
+        };
+        let what = format!("successive matches in {}", String::from_utf8_lossy(line));
+        group.judge(&what, &if readings == expected { Vec::new() } else { vec![format!("{readings:?}")] });
+    }
+}
+
+/// A day's lines: each with its answer and its field, an empty one and one that is too long among them, and rules that are refused.
+fn lines(group: &mut Group, matcher: &mut Matcher) {
+    let rule = br"^tank (?<tank>\w+):(?: (?<litres>\d+) L)?$";
+    let buffer = [b"tank 7: 820 L\nhall 3\n\ntank 8:\n", &vec![b'a'; 65_536][..], b"\ntank 9: 5 L"].concat();
+    let told: Vec<String> = match matcher.match_lines(rule, 0, &buffer) {
+        Ok(lines) => lines.map(|(line, outcome)| told_line(line, &outcome)).collect(),
+        Err(refusal) => vec![refusal.to_string()],
+    };
+    let expected = [
+        "13 bytes, litres `820`, matched",
+        "6 bytes, litres ``, not matched",
+        "0 bytes, litres ``, not matched",
+        "7 bytes, litres `600`, matched",
+        "65536 bytes, litres ``, refusal 2 at 0: the subject is over 65,535 bytes",
+        "11 bytes, litres `5`, matched",
+    ];
+    group.judge("the lines of a day", &if told == expected { Vec::new() } else { vec![format!("{told:?}")] });
+    let others = [
+        matcher.match_lines(b"a", 0, b"").is_ok_and(|lines| lines.len() == 0),
+        matcher.match_lines(b"", 0, b"\n\n").is_ok_and(|lines| lines.len() == 2),
+        matches!(matcher.match_lines(b"(", 0, b""), Err(Refusal { reason: Reason::GroupNotClosed, place: 0 })),
+        matches!(matcher.match_lines(b"a**", 0, b"a\nb"), Err(Refusal { reason: Reason::RepeatOnRepeat, place: 2 })),
+    ];
+    group.judge("other buffers", &if others == [true; 4] { Vec::new() } else { vec![format!("{others:?}")] });
+}
+
+fn told_line(line: &[u8], outcome: &Outcome) -> String {
+    let word = match outcome {
+        Outcome::Matched { .. } => "matched".to_string(),
+        Outcome::NotMatched { .. } => "not matched".to_string(),
+        Outcome::Exhausted { .. } => "exhausted".to_string(),
+        Outcome::Refused(refusal) => refusal.to_string(),
+    };
+    format!("{} bytes, litres `{}`, {word}", line.len(), String::from_utf8_lossy(outcome.field(b"litres", line, b"600")))
+}
+
 /// What the matcher says, in the words of `shown`.
 fn told(matcher: &mut Matcher, case: &Case) -> String {
-    let rows = |readings: &mut dyn Iterator<Item = Reading>| readings.map(|reading| format!("{reading:?}")).collect::<Vec<_>>().join("; ");
-    let refused = |refusal: Refusal| format!("refused {} at {}", refusal.reason.number(), refusal.place);
     match case.call {
         Call::Match => match matcher.match_line(&case.rule, case.flags, &case.subject) {
-            Outcome::Matched { reading, steps } => format!("matched, {steps} steps [{reading:?}]"),
-            Outcome::NotMatched { steps } => format!("not matched, {steps} steps []"),
-            Outcome::Exhausted { start, steps } => format!("exhausted at {start}, {steps} steps []"),
             Outcome::Refused(refusal) => refused(refusal),
-        },
-        Call::List => match matcher.list_readings(&case.rule, case.flags, &case.subject) {
-            Listing::Complete { mut readings, steps } => format!("complete, {steps} steps [{}]", rows(&mut readings)),
-            Listing::Full { mut readings, steps } => format!("full, {steps} steps [{}]", rows(&mut readings)),
-            Listing::Exhausted { start, mut readings, steps } => format!("exhausted at {start}, {steps} steps [{}]", rows(&mut readings)),
-            Listing::Refused(refusal) => refused(refusal),
-        },
-        Call::Explain => match matcher.explain(&case.rule, case.flags, &case.subject) {
-            Explanation::Matched { steps } => format!("matched, {steps} steps []"),
-            Explanation::NotMatched { steps, furthest, closest, marks } => {
-                let marked: Vec<usize> = marks.collect();
-                let marks: String = (0..case.rule.len()).map(|item| if marked.contains(&item) { '1' } else { '0' }).collect();
-                let (Failure { at, item }, Attempt { start, at: close_at, item: close_item }) = (furthest, closest);
-                format!("not matched, {steps} steps [] furthest {at} {item} closest {start} {close_at} {close_item} marks {marks}")
+            outcome => {
+                let (words, row) = told_outcome(&outcome);
+                format!("{words} [{row}]")
             }
-            Explanation::Exhausted { start, steps } => format!("exhausted at {start}, {steps} steps []"),
-            Explanation::Refused(refusal) => refused(refusal),
         },
+        Call::List => told_listing(matcher.list_readings(&case.rule, case.flags, &case.subject)),
+        Call::Scan => told_listing(matcher.match_all(&case.rule, case.flags, &case.subject)),
+        Call::Batch => match matcher.match_lines(&case.rule, case.flags, &case.subject) {
+            Ok(lines) => told_lines(lines),
+            Err(refusal) => refused(refusal),
+        },
+        Call::Explain => told_explanation(matcher.explain(&case.rule, case.flags, &case.subject), case.rule.len()),
+    }
+}
+
+fn refused(refusal: Refusal) -> String {
+    format!("refused {} at {}", refusal.reason.number(), refusal.place)
+}
+
+/// A match's outcome with its steps, and its row if it has one.
+fn told_outcome(outcome: &Outcome) -> (String, String) {
+    match outcome {
+        Outcome::Matched { reading, steps } => (format!("matched, {steps} steps"), format!("{reading:?}")),
+        Outcome::NotMatched { steps } => (format!("not matched, {steps} steps"), String::new()),
+        Outcome::Exhausted { start, steps } => (format!("exhausted at {start}, {steps} steps"), String::new()),
+        Outcome::Refused(refusal) => (format!("refused {}, 0 steps", refusal.reason.number()), String::new()),
+    }
+}
+
+fn told_lines(lines: Lines) -> String {
+    let parts: Vec<String> = lines
+        .map(|(_, outcome)| {
+            let (words, row) = told_outcome(&outcome);
+            format!("{words} {row}").trim_end().to_string()
+        })
+        .collect();
+    format!("done, {} lines [{}]", parts.len(), parts.join("; "))
+}
+
+fn told_listing(listing: Listing) -> String {
+    let rows = |readings: Readings| readings.map(|reading| format!("{reading:?}")).collect::<Vec<_>>().join("; ");
+    match listing {
+        Listing::Complete { readings, steps } => format!("complete, {steps} steps [{}]", rows(readings)),
+        Listing::Full { readings, steps } => format!("full, {steps} steps [{}]", rows(readings)),
+        Listing::Exhausted { start, readings, steps } => format!("exhausted at {start}, {steps} steps [{}]", rows(readings)),
+        Listing::Refused(refusal) => refused(refusal),
+    }
+}
+
+/// An explanation with a mark for each byte of the rule.
+fn told_explanation(explanation: Explanation, rule: usize) -> String {
+    match explanation {
+        Explanation::Matched { steps } => format!("matched, {steps} steps []"),
+        Explanation::NotMatched { steps, furthest, closest, marks } => {
+            let marked: Vec<usize> = marks.collect();
+            let marks: String = (0..rule).map(|item| if marked.contains(&item) { '1' } else { '0' }).collect();
+            let (Failure { at, item }, Attempt { start, at: close_at, item: close_item }) = (furthest, closest);
+            format!("not matched, {steps} steps [] furthest {at} {item} closest {start} {close_at} {close_item} marks {marks}")
+        }
+        Explanation::Exhausted { start, steps } => format!("exhausted at {start}, {steps} steps []"),
+        Explanation::Refused(refusal) => refused(refusal),
     }
 }

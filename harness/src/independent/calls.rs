@@ -1,16 +1,20 @@
-//! The calls: refusals 1 to 8, the starts one after another, rows, what failed, the name index, and how a call ends.
+//! The calls: refusals 1 to 8, the starts one after another, rows, what failed, the name index, and how a call ends. Successive matches and a day's
+//! lines have files of their own.
 
 use std::collections::HashSet;
 
 use crate::raw::Call;
 
+use super::batch::{self, Part, PART_LENGTH};
 use super::explain::{Explanation, Log};
 use super::names::{self, Index, INDEX_LENGTH};
 use super::reader::{self, Refusal, ALL_FLAGS};
+use super::scan;
 use super::tree::Rule;
 use super::walk::{End, Event, Walk};
 
 pub const ROW_LENGTH: usize = 66;
+pub const LONGEST_SUBJECT: usize = 65_535;
 pub const UNSET: u32 = 4_294_967_295;
 pub const RULE_AREA: usize = 16_384;
 pub const WORK_PER_STEP: usize = 16;
@@ -22,6 +26,7 @@ pub type Row = [u32; ROW_LENGTH];
 pub struct Inputs<'a> {
     pub rule: &'a [u8],
     pub flags: u32,
+    /// For a day's lines the buffer.
     pub subject: &'a [u8],
     pub budget: u32,
     pub rule_area: usize,
@@ -40,12 +45,14 @@ pub enum Ending {
     NotMatched,
     Complete,
     Full,
+    /// A day's lines, each with its own outcome.
+    Done,
     /// Exhausted at this start.
     Exhausted(usize),
     Refused(Refusal),
 }
 
-/// What a call answers, and the rows or marks that it writes. A refusal has no steps.
+/// What a call answers, and the rows, marks or parts that it writes. A refusal has no steps, and a call for a day's lines none of its own.
 #[derive(PartialEq, Eq)]
 pub struct Answer {
     pub ending: Ending,
@@ -55,9 +62,16 @@ pub struct Answer {
     pub names: Option<Box<Index>>,
     /// What an explanation tells where it says "not matched".
     pub explanation: Option<Explanation>,
+    /// What a day's lines get, one after another.
+    pub parts: Vec<Part>,
 }
 
 impl Answer {
+    /// An answer with nothing beside its ending.
+    fn bare(ending: Ending) -> Answer {
+        Answer { ending, steps: 0, rows: Vec::new(), names: None, explanation: None, parts: Vec::new() }
+    }
+
     /// "After refusals 1 to 7 both areas are unchanged; after any other return their needed first part is zero"; 02: "New refusal 8, after 7 and like it
     /// in place and areas".
     pub fn clears_areas(&self) -> bool {
@@ -67,18 +81,24 @@ impl Answer {
 
 /// The answer of one call.
 pub fn answer(call: Call, inputs: &Inputs) -> Answer {
-    let refused = |refusal| Answer { ending: Ending::Refused(refusal), steps: 0, rows: Vec::new(), names: None, explanation: None };
     if let Some(number) = unacceptable(call, inputs) {
-        return refused(Refusal { number, place: 0 });
+        return Answer::bare(Ending::Refused(Refusal { number, place: 0 }));
     }
-    let rule = match reader::read(inputs.rule, inputs.flags) {
-        Err(refusal) => return refused(refusal),
-        Ok(rule) => rule,
-    };
+    match reader::read(inputs.rule, inputs.flags) {
+        Err(refusal) => Answer::bare(Ending::Refused(refusal)),
+        Ok(rule) => Answer { names: Some(Box::new(names::index(&rule))), ..walked_answer(call, &rule, inputs) },
+    }
+}
+
+/// The same for a sound rule, its names left out.
+fn walked_answer(call: Call, rule: &Rule, inputs: &Inputs) -> Answer {
     let mut log = Log::default();
+    let walks = Walks { rule, subject: inputs.subject, budget: u64::from(inputs.budget) };
     let (ending, steps, mut rows) = match call {
-        Call::Match | Call::Explain => first_reading(&rule, inputs, &mut log),
-        Call::List => all_readings(&rule, inputs),
+        Call::Match | Call::Explain => first_reading(walks, &mut log),
+        Call::List => all_readings(walks, inputs.result_area / ROW_LENGTH),
+        Call::Scan => scan::all_matches(walks, inputs.result_area / ROW_LENGTH),
+        Call::Batch => return Answer { parts: batch::parts(walks), ..Answer::bare(Ending::Done) },
     };
     let mut explanation = None;
     if call == Call::Explain {
@@ -86,7 +106,21 @@ pub fn answer(call: Call, inputs: &Inputs) -> Answer {
         rows.clear();
         explanation = (ending == Ending::NotMatched).then(|| log.explanation(inputs.marks.min(inputs.rule.len())));
     }
-    Answer { ending, steps, rows, names: Some(Box::new(names::index(&rule))), explanation }
+    Answer { steps, rows, explanation, ..Answer::bare(ending) }
+}
+
+/// A sound rule, a line, and the budget that holds afresh at each start.
+#[derive(Clone, Copy)]
+pub struct Walks<'r> {
+    pub rule: &'r Rule,
+    pub subject: &'r [u8],
+    pub budget: u64,
+}
+
+impl<'r> Walks<'r> {
+    pub fn from(&self, start: usize) -> Walk<'r> {
+        Walk::new(self.rule, self.subject, start, self.budget)
+    }
 }
 
 /// The steps that a call takes at one start, where its budget allows for so many: those up to the first end in a match or an explanation, and in
@@ -106,26 +140,32 @@ fn walked<'r>(call: Call, rule: &'r Rule, subject: &'r [u8], start: usize, budge
     walk
 }
 
-/// The first of refusals 1 to 8 that is due, "tested in this order". 02 f): "No result area is lent, so 7 isn't given."
+/// The first of refusals 1 to 8 that is due, "tested in this order". 02 f): "No result area is lent, so 7 isn't given." 02 h): "A line over 65,535 bytes
+/// gets refusal 2 in its own outcome", "7 is given here only if lines outnumber parts".
 fn unacceptable(call: Call, inputs: &Inputs) -> Option<u32> {
+    let is_short = match call {
+        Call::Match | Call::List | Call::Scan => inputs.result_area < ROW_LENGTH,
+        Call::Explain => false,
+        Call::Batch => batch::lines(inputs.subject).len() > inputs.result_area / PART_LENGTH,
+    };
     let tests = [
         inputs.rule.len() > 1_000,
-        inputs.subject.len() > 65_535,
+        call != Call::Batch && inputs.subject.len() > LONGEST_SUBJECT,
         inputs.flags > ALL_FLAGS,
         inputs.budget > 100_000,
         inputs.rule_area < RULE_AREA,
         inputs.work_area < WORK_PER_STEP * inputs.budget as usize,
-        call != Call::Explain && inputs.result_area < ROW_LENGTH,
+        is_short,
         inputs.name_index < INDEX_LENGTH,
     ];
     (1..).zip(tests).find(|&(_, due)| due).map(|(number, _)| number)
 }
 
 /// "A match stops at the first end reached". The budget holds afresh at each start. What failed at a start without an end goes into the log.
-fn first_reading(rule: &Rule, inputs: &Inputs, log: &mut Log) -> (Ending, u64, Vec<Row>) {
+pub fn first_reading(walks: Walks, log: &mut Log) -> (Ending, u64, Vec<Row>) {
     let mut steps = 0;
-    for start in 0..=inputs.subject.len() {
-        let mut walk = Walk::new(rule, inputs.subject, start, u64::from(inputs.budget));
+    for start in 0..=walks.subject.len() {
+        let mut walk = walks.from(start);
         let event = walk.next_event();
         steps += walk.steps;
         match event {
@@ -138,11 +178,10 @@ fn first_reading(rule: &Rule, inputs: &Inputs, log: &mut Log) -> (Ending, u64, V
 }
 
 /// "a listing goes on, and ends complete, full, or exhausted at a named start, which ends the whole call".
-fn all_readings(rule: &Rule, inputs: &Inputs) -> (Ending, u64, Vec<Row>) {
-    let room = inputs.result_area / ROW_LENGTH;
+fn all_readings(walks: Walks, room: usize) -> (Ending, u64, Vec<Row>) {
     let (mut steps, mut rows) = (0, Vec::new());
-    for start in 0..=inputs.subject.len() {
-        let mut walk = Walk::new(rule, inputs.subject, start, u64::from(inputs.budget));
+    for start in 0..=walks.subject.len() {
+        let mut walk = walks.from(start);
         let cut = list_from(start, &mut walk, room, &mut rows);
         steps += walk.steps;
         if let Some(ending) = cut {
@@ -173,7 +212,7 @@ fn list_from(start: usize, walk: &mut Walk, room: usize, rows: &mut Vec<Row>) ->
 }
 
 /// "A row is 66 numbers of 32 bits: start, end, then 32 pairs; an unset or missing group is 4294967295 twice."
-fn row(start: usize, end: &End) -> Row {
+pub fn row(start: usize, end: &End) -> Row {
     let number = |place: usize| u32::try_from(place).expect("a place in a subject fits");
     let mut row = [UNSET; ROW_LENGTH];
     (row[0], row[1]) = (number(start), number(end.end));

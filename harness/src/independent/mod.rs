@@ -1,6 +1,7 @@
 //! An independent matcher, written from documents 01 and 02 and the readings of their open points alone. It shares no line with the library and is
 //! simple rather than fast: what it answers is what the library's answers are held against.
 
+mod batch;
 mod calls;
 mod classes;
 mod escapes;
@@ -8,13 +9,16 @@ mod explain;
 pub mod lookup;
 mod names;
 mod reader;
+mod scan;
 mod sets;
 pub mod tree;
 mod walk;
 
-pub use calls::{answer, references_at, steps_at, Answer, Ending, Inputs, Row, ROW_LENGTH, RULE_AREA, UNSET, WORK_PER_STEP};
+pub use batch::{lines, Part, PART_LENGTH};
+pub use calls::{answer, references_at, steps_at, Answer, Ending, Inputs, Row, Walks, LONGEST_SUBJECT, ROW_LENGTH, RULE_AREA, UNSET, WORK_PER_STEP};
 pub use explain::{Attempt, Explanation};
 pub use names::{named, Index, ENTRIES, ENTRY_LENGTH, INDEX_LENGTH};
 pub use reader::{read, Refusal, ALL_FLAGS, FLAG_I, FLAG_M, FLAG_S, FLAG_X};
+pub use scan::{Outcome, Tries};
 pub use sets::ByteSet;
 pub use walk::Miss;

@@ -11,6 +11,8 @@ pub const NEVER_UTF: u32 = 0x0000_1000;
 pub const NO_AUTO_POSSESS: u32 = 0x0000_4000;
 pub const NO_DOTSTAR_ANCHOR: u32 = 0x0000_8000;
 pub const NO_START_OPTIMIZE: u32 = 0x0001_0000;
+/// An option of a match: "an empty string at the start of the subject", at the offset from which it is searched, "is not valid".
+pub const NOTEMPTY_ATSTART: u32 = 0x0000_0008;
 pub const NEWLINE_LF: u32 = 2;
 pub const NO_MATCH: c_int = -1;
 pub const CONFIG_VERSION: u32 = 11;

@@ -1,7 +1,8 @@
 //! Random explanations: the calls that others are tested by, and lines that nearly fit a rule, with budgets at the edge of what their starts need; marks
 //! of every length.
 
-use super::{calls, fast, rules, subjects, Rng};
+use super::rules::{self, Style};
+use super::{calls, fast, sound, subjects, Rng};
 use crate::case::Case;
 use crate::independent::{self, tree::Rule, Ending};
 use crate::raw::Call;
@@ -9,7 +10,7 @@ use crate::raw::Call;
 /// Walks that are longer are not counted to their end.
 const MOST_STEPS: u64 = 2_000;
 
-/// What is written around a rule.
+/// What is written around a rule. Most are tied to the line's beginning, its end or both: others match nearly every line.
 const AROUND: [(&str, &str); 10] =
     [("", ""), ("", ""), ("", "$"), ("(?:", ")\\z"), ("\\b(?:", ")\\B"), ("(?:", "){2}$"), ("^", "$"), ("^(?:", ")$"), ("^(", ")$"), ("\\A", "\\z")];
 
@@ -43,7 +44,7 @@ fn nearly_fitting(rng: &mut Rng) -> Case {
     let alphabet = rng.pick(&rules::ALPHABETS);
     let mut tries = 4;
     loop {
-        let (rule, tree) = sound_rule(rng, flags, alphabet);
+        let (rule, tree) = sound::rule(rng, flags, |rng| Style { alphabet, ..rules::any_style(rng, flags) }, &AROUND);
         let subject = damaged_line(rng, &tree, alphabet);
         let budget = budget(rng, &tree, &subject);
         let case = Case::new(Call::Explain, &rule, flags, &subject, budget, 1);
@@ -73,28 +74,8 @@ fn damaged_line(rng: &mut Rng, rule: &Rule, alphabet: &[u8]) -> Vec<u8> {
     line
 }
 
-/// A sound rule. Most are tied to the line's beginning, its end or both: others match nearly every line.
-fn sound_rule(rng: &mut Rng, flags: u32, alphabet: &'static [u8]) -> (Vec<u8>, Rule) {
-    loop {
-        let style = rules::Style { alphabet, ..rules::any_style(rng, flags) };
-        let inside = rules::rule(rng, style);
-        let (before, behind) = *rng.pick(&AROUND);
-        let rule = [before.as_bytes(), &inside, behind.as_bytes()].concat();
-        if let Ok(tree) = independent::read(&rule, flags) {
-            return (rule, tree);
-        }
-    }
-}
-
 /// Enough for all starts, or just enough, one step less or one more; seldom any number below.
 fn budget(rng: &mut Rng, rule: &Rule, subject: &[u8]) -> u32 {
     let needed = (0..=subject.len()).map(|start| independent::steps_at(Call::Explain, rule, subject, start, MOST_STEPS)).max().unwrap_or(0);
-    let steps = match rng.weighted(&[40, 30, 10, 15, 5]) {
-        0 => MOST_STEPS,
-        1 => needed,
-        2 => needed.saturating_sub(1),
-        3 => needed + 1,
-        _ => rng.number() % (needed + 1),
-    };
-    steps as u32
+    sound::budget(rng, MOST_STEPS, needed, [40, 30, 10, 15, 5])
 }

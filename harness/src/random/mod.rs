@@ -1,12 +1,15 @@
 //! Random tests that can be made again: a small generator of numbers from a seed, and makers of rules, subjects and calls on top of it.
 
+pub mod batches;
 pub mod calls;
 pub mod damage;
 pub mod explanations;
 pub mod fast;
 pub mod lookups;
 pub mod rules;
+pub mod scans;
 pub mod shared;
+pub mod sound;
 pub mod subjects;
 
 /// SplitMix64: the same seed gives the same numbers on every machine.

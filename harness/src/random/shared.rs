@@ -1,6 +1,7 @@
 //! Sound rules that other matchers read as documents 01 and 02 do, each with a subject: random ones, classes, and the sets.
 
-use super::{damage, rules, subjects, Rng};
+use super::rules::{self, Style};
+use super::{damage, scans, sound, subjects, Rng};
 use crate::independent::{self, tree::Rule, FLAG_I};
 
 pub struct Shared {
@@ -31,6 +32,19 @@ pub fn case(seed: u64, number: u64) -> Option<Shared> {
     let rule = if style.blanks && rng.percent(10) { damage::with_odd_blanks(rng, style) } else { rules::rule(rng, style) };
     let tree = independent::read(&rule, flags).ok()?;
     let subject = subjects::subject(rng, Some(&tree), style.alphabet);
+    Some(Shared { rule, flags, tree, subject })
+}
+
+/// The same for successive matches: mostly a rule that can match nothing first, on several lines that it nearly fits, one behind the other.
+pub fn scan_case(seed: u64, number: u64) -> Option<Shared> {
+    let rng = &mut Rng::new(seed ^ 0x5CA5, number);
+    if rng.percent(30) {
+        return case(seed, number);
+    }
+    let flags = rng.below(16) as u32;
+    let alphabet = *rng.pick(&rules::ALPHABETS);
+    let (rule, tree) = sound::rule(rng, flags, |rng| Style { alphabet, ..rules::plain_style(rng, flags) }, &scans::AROUND);
+    let subject = scans::line(rng, &tree, alphabet);
     Some(Shared { rule, flags, tree, subject })
 }
 

@@ -1,0 +1,49 @@
+#!/usr/bin/env python3
+"""Builds the programs of docs/GUIDE.md as it says, runs them, and compares what they print with what stands below them.
+
+Usage: harness/guide_programs.py (after `rt staticlib terravisco`). The last line is 'N passed, M failed'.
+"""
+import re
+import shutil
+import subprocess
+from pathlib import Path
+
+from cases import Cases
+
+ROOT = Path(__file__).resolve().parent.parent
+LIBRARY = ROOT / "target" / "staticlib"
+WRAPPER = ("terravisco.rs", "raw.rs", "refusal.rs")
+SUFFIXES = {"c": "c", "rust": "rs"}
+BUILDS = {
+    "c": ["gcc", "-std=c99", "-pedantic", "-Wall", "-Wextra", "-Werror", "-I", ROOT / "include", "program.c", LIBRARY / "libterravisco.a", "-o", "program"],
+    "rust": ["rustc", "--edition", "2021", "-D", "warnings", "-L", LIBRARY, "-l", "static=terravisco", "program.rs", "-o", "program"],
+}
+
+
+def programs(guide):
+    """Language, text and output of each program: a block `text` is what the programs before it print."""
+    before = []
+    for language, text in re.findall(r"^```(\w+)\n(.*?)^```$", guide, re.S | re.M):
+        if language != "text":
+            before.append((language, text))
+            continue
+        yield from ((*program, text) for program in before)
+        before = []
+
+
+def main():
+    t = Cases("./program")
+    for file in WRAPPER:
+        shutil.copy(ROOT / "harness" / "src" / file, file)
+    for number, (language, text, out) in enumerate(programs((ROOT / "docs" / "GUIDE.md").read_text()), 1):
+        Path("program." + SUFFIXES[language]).write_text(text)
+        built = subprocess.run(BUILDS[language], capture_output=True, text=True)
+        name = "program %d, %s" % (number, language)
+        t.same(name + ", build", built.stderr if built.returncode else "", "")
+        if built.returncode == 0:
+            t.run(name, [], out)
+    t.end()
+
+
+if __name__ == "__main__":
+    main()
