@@ -1,5 +1,5 @@
-// The match: the starts in order, each walked up to its first end. A start that cannot begin is passed over, its steps counted; the first end that
-// is reached is the answer, and its row the only one that is written.
+// The match: the starts in order, each walked up to its first end (`seek`). The first end that is reached is the answer, and its row the only one that
+// is written.
 //
 // `match_line` is the call, which compiles its rule and clears what it was lent. `match_held` is its inside, for a rule that stands compiled: it may be
 // used for one line after another, and costs the walk, the search for the rule's opening and the writing of 162 registers. `match_opened` is handed the
@@ -13,13 +13,11 @@ use frame::prepare;
 use index::ROW_LENGTH;
 use index::UNSET;
 use index::write_row;
-use machine::Stop;
-use machine::start;
 use openings::Opening;
 use openings::find_opening;
-use openings::next_start;
+use seeking::Sought;
+use seeking::seek;
 use syntax::Refusal;
-use walker::run_to_end;
 ghost use mathlib.Core.Path.{_≡_};
 ghost use Prim.Native.Nat.{_≤_};
 ghost use lib.ListN.{length, drop};
@@ -56,26 +54,26 @@ fn search(
     let cost = opening.cost;
     let any = opening.any;
     let set = opening.set;
-    let mut begin: u32 = 0;
-    let mut steps: u64 = 0;
-    while begin as usize <= subject.len() {
-        let m = start(entry, begin);
-        match run_to_end(code, subject, regs, work, m, budget) {
-            Stop::End(used, e) => {
-                write_row(results, 0, begin, e.at, regs);
-                return Outcome::Matched(steps + used as u64);
-            }
-            Stop::Nothing(used) => {
-                let on = next_start(&set, any, cost, subject, begin + 1, steps + used as u64);
-                begin = on.start;
-                steps = on.steps;
-            }
-            Stop::Spent => {
-                return Outcome::Exhausted(begin, steps + budget as u64);
-            }
+    match seek(
+        code,
+        subject,
+        regs,
+        work,
+        &set,
+        any,
+        cost,
+        entry,
+        budget,
+        0,
+        0,
+    ) {
+        Sought::Found(begin, end, steps) => {
+            write_row(results, 0, begin, end, regs);
+            Outcome::Matched(steps)
         }
+        Sought::Nothing(steps) => Outcome::NotMatched(steps),
+        Sought::Spent(begin, steps) => Outcome::Exhausted(begin, steps),
     }
-    Outcome::NotMatched(steps)
 }
 
 // The first match of a rule that stands compiled and has this opening, with its row written.

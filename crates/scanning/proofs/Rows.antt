@@ -24,12 +24,13 @@ use Rattle.listing.specs.declared.Listing.{Listing}
 use Rattle.listing.specs.Listing.{listingOf}
 use Rattle.listing.specs.Laws.Holding.{same-room, holds-more}
 use Rattle.index.specs.Rows.{rowOf}
-use Rattle.index.specs.Laws.Rows.{rowOf-length, rowOf-row}
+use Rattle.index.specs.Laws.Rows.{rowOf-length}
 use Rattle.frame.specs.Laws.Areas.{over-none}
-use Rattle.scanning.specs.declared.searching.Sought.{Sought}
-use Rattle.scanning.specs.declared.searching.Sought.the-variants.{Found, Nothing, Spent}
-use Rattle.scanning.proofs.searching.Sought.{the-type}
-use Rattle.scanning.specs.Searching.{Answers}
+use Rattle.seeking.specs.declared.Sought.{Sought}
+use Rattle.seeking.specs.declared.Sought.the-variants.{Found, Nothing, Spent}
+use Rattle.seeking.proofs.Sought.{the-type}
+use Rattle.seeking.specs.Starts.{Answers}
+use Rattle.seeking.specs.Laws.Starts.{match-row}
 use Rattle.scanning.specs.Scanning.{Scans, lastOf, stepsOf, Scanning}
 
 pub scanning-start : (sub : List ℕ) (x : Rule) (budget : ℕ) (area : List ℕ) → Scanning sub x budget area area 0 0 0 false
@@ -101,11 +102,10 @@ module _ {sub : List ℕ} {x : Rule} {budget : ℕ} {old area : List ℕ} {rows 
 
       pub scanning-row : {new : List ℕ} → new ≡ take (rows * rowLength) area ++ (rowOf start stop regs ++ drop (rows * rowLength + rowLength) area) → spansLength ≤ length regs → Scanning sub x budget old new (rows + 1) (steps + used) stop (eqb start stop)
       scanning-row {new} written size =
-          let is : rowOf start stop regs ≡ row start (a .state) = rw (← a .at) (rowOf-row start (a .state) regs (sym (a .spans))) in
           let h = holds-more (g .holds) (g .fits) (rowOf start stop regs) (rowOf-length start stop regs size) written refl in
           record {
             found = g .found ++ row start (a .state) ∷ [];
             at = on;
             fits = rw (length-append (g .found) (row start (a .state) ∷ [])) (omega (arith, same-room (g .holds) (g .fits), g .holds .many));
-            holds = rw is at h;
+            holds = rw (match-row a) at h;
           }

@@ -24,7 +24,7 @@ use Rattle.machine.specs.Words.{stackOf}
 use Rattle.machine.specs.Ready.{until, StackFits, Ready, Agrees}
 use Rattle.machine.specs.Theorem.{Stands, Clear, begins, at-end, at-nothing, at-spent}
 use Rattle.machine.specs.Laws.Loop.{until-ended, until-nothing, until-spent}
-use Rattle.scanning.specs.Searching.{Tried}
+use Rattle.scanning.specs.Tries.{Tried}
 
 -- no step is left of the try's budget
 try-over : (sub : List ℕ) (x : Rule) (budget from : ℕ) (barred : Bool) (s : ℕ) (e : Event) (es : Trace) → TryAt sub x budget from barred s 0 (e ∷ es) → search sub x budget from barred ≡ record { outcome = exhausted from; steps = s }

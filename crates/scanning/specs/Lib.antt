@@ -1,4 +1,4 @@
--- What a search tells, and what successive matches tell and hold on their way.
-pub mod Searching
+-- What is told of a search's first try, and what successive matches tell and hold on their way.
+pub mod Tries
 pub mod Scanning
 pub mod Laws

@@ -12,8 +12,8 @@ use Rattle.semantics.specs.Calls.{over, joined, room, listOutcome}
 use Rattle.semantics.specs.Laws.ScanLoops.{ScanAt}
 use Rattle.listing.specs.declared.Listing.{Listing}
 use Rattle.listing.specs.Listing.{listingOf, Holds}
-use Rattle.scanning.specs.declared.searching.Sought.{Sought}
-use Rattle.scanning.specs.declared.searching.Sought.the-variants.{Found, Nothing, Spent}
+use Rattle.seeking.specs.declared.Sought.{Sought}
+use Rattle.seeking.specs.declared.Sought.the-variants.{Found, Nothing, Spent}
 
 -- the answer is that of successive matches, and their rows stand in the area
 pub record Scans (sub : List ℕ) (x : Rule) (budget : ℕ) (old new : List ℕ) (r : Listing) : Type 0 where

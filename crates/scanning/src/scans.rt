@@ -1,6 +1,5 @@
 // One search after another. The loop keeps the rows that were found, one behind another in the result area, and that the searches from the next one on
 // make what is left of the whole. Each match leaves fewer tries, so that it ends.
-use crate::searching::Sought;
 use crate::searching::search;
 use index::ROW_LENGTH;
 use index::SPANS_LENGTH;
@@ -8,6 +7,7 @@ use index::UNSET;
 use index::write_row;
 use listing::Listing;
 use openings::find_opening;
+use seeking::Sought;
 ghost use mathlib.Core.Path.{_≡_};
 ghost use Prim.Native.Nat.{_+_, _<_, _^_};
 ghost use lib.ListN.{length};

@@ -3,13 +3,10 @@ use Prim.Native.Nat.{_+_}
 use native.Mathlib.Omega.{arith}
 use borrow.Author.Needs.{needs}
 use denote.Ref.{now}
-use lib.ListN.{length}
 use Rattle.syntax.specs.Limits.{subjectLimit}
 use Rattle.semantics.specs.Calls.{workAreaNeed}
 use Rattle.semantics.specs.Scans.{search as searched}
-use Rattle.machine.specs.Theorem.{enough-room}
-use Rattle.openings.specs.declared.Opening.{Opening}
-use Rattle.scanning.proofs.Seeking.{seeks-behind, seeks-from, near-from}
+use Rattle.seeking.specs.Laws.Starts.{seeks-behind, Lent, seeks-from, near-from}
 use Rattle.scanning.proofs.searching.search.Statement.{statement}
 use Rattle.scanning.proofs.searching.search.Tie as tie
 
@@ -40,12 +37,13 @@ seek-requires : tie.Need-seek-requires
 unfolding workAreaNeed
 seek-requires c κs =
     let s = c .before .before .before .before .before .before .before .before .before .before .before .before .before .before .before .before .before in
+    let a = s .args in
     let h = s .pre .0 .0 in
+    let g : Lent (now (a .code)) (now (a .subject)) (now (a .regs)) (now (a .work)) (a .entry) (a .budget) (record { cost = a .cost; any = a .any; set = now (a .set) }) = record { held = s .pre .0 .0; clear = s .pre .0 .1; opens = s .pre .0 .2; bytes = λ i. omega (arith, c .before .before .before .before .before .before .before .before .before .before .before .before .before .before .before .shared-slice-known2 .given i); budget-small = omega arith; cost-small = omega arith } in
     let t = c .before .before .before .before .before .before .before .before .before .before .try-first in
-    let o : Opening = record { cost = s .args .cost; any = s .args .any; set = now (s .args .set) } in
     let w = rw (c .before .before .before .before .used2 .given .1) at (t .ensures (h .tree) (h .stands)) in
-    let n = near-from o (omega arith) (s .args .from + 1) (c .before .before .next-start .result .start) (c .before .before .before .before .used2 .given .0 .0) (c .before .before .next-start .ensures .0) (record { few = omega (arith, s .pre .1); small = omega (arith, w .0) }) in
-    ((record { tree = h .tree; stands = h .stands; code-size = h .code-size; subject-fits = h .subject-fits; work-fits = omega (arith, h .work-fits, t .kept .1 .1 .1 .0) }, rw (w .1) (s .pre .0 .1), s .pre .0 .2), (n .few, rw (c .before .before .next-start .ensures .1) (n .small)))
+    let n = near-from g (a .from + 1) _ (c .before .before .before .before .used2 .given .0 .0) (c .before .before .next-start .ensures .0) (record { few = omega (arith, s .pre .1); small = omega (arith, w .0) }) in
+    ((record { tree = h .tree; stands = h .stands; code-size = h .code-size; subject-fits = h .subject-fits; work-fits = omega (arith, h .work-fits, t .kept .1 .1 .1 .0) }, rw (w .1) (g .clear), g .opens), rw (c .before .before .next-start .ensures .1) n)
 
 enum-told : tie.Need-enum-told
 enum-told c = search needs
@@ -66,15 +64,13 @@ same-length-4 : tie.Need-same-length-4
 same-length-4 c = search needs
 
 returns-2 : tie.Need-returns-2
-unfolding workAreaNeed
 returns-2 c =
     let s = c .before .before .before .before .before .before .before .before .before .before .before .before .before .before .before .before .before .before .before .before .before .before in
     let a = s .args in
-    let h = s .pre .0 .0 in
-    let room = enough-room (a .budget) (length (now (a .work))) (h .work-fits) in
+    let g : Lent (now (a .code)) (now (a .subject)) (now (a .regs)) (now (a .work)) (a .entry) (a .budget) (record { cost = a .cost; any = a .any; set = now (a .set) }) = record { held = s .pre .0 .0; clear = s .pre .0 .1; opens = s .pre .0 .2; bytes = λ i. omega (arith, c .before .before .before .before .before .before .before .before .before .before .before .before .before .before .before .before .before .before .before .before .shared-slice-known2 .given i); budget-small = omega arith; cost-small = omega arith } in
     λ x st. (
     let w = rw (c .before .before .before .before .before .before .before .before .before .used2 .given .1) at (c .before .before .before .before .before .before .before .before .before .before .before .before .before .before .before .try-first .ensures x st) in
-    c .before .before .before .before .seek .ensures x (searched (now (a .subject)) x (a .budget) (a .from) (a .barred)) st (rw (c .before .before .before .before .before .before .before .next-start .ensures .1) (seeks-from (length (now (a .work))) (now (a .regs)) (λ i. omega (arith, c .before .before .before .before .before .before .before .before .before .before .before .before .before .before .before .before .before .before .before .before .shared-slice-known2 .given i)) (s .pre .0 .1) room st (record { cost = a .cost; any = a .any; set = now (a .set) }) (s .pre .0 .2) _ _ _ (omega arith) (c .before .before .before .before .before .before .before .next-start .ensures .0) (seeks-behind (now (a .subject)) x (a .budget) _ _ (a .from) _ (s .pre .1) (w .2)))))
+    c .before .before .before .before .seek .ensures x (searched (now (a .subject)) x (a .budget) (a .from) (a .barred)) st (rw (c .before .before .before .before .before .before .before .next-start .ensures .1) (seeks-from g _ _ _ (c .before .before .before .before .before .before .before .next-start .ensures .0) st (omega arith) (seeks-behind (now (a .subject)) x (a .budget) _ _ (a .from) _ (s .pre .1) (w .2)))))
 
 same-length-5 : tie.Need-same-length-5
 same-length-5 c = search needs

@@ -1,0 +1,2 @@
+-- What a start's walk leaves of the starts.
+pub mod Starts
