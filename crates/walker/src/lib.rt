@@ -195,8 +195,9 @@ fn advance(
 }
 
 // Walks on until it comes to a run, a reference or an end, the steps are used or nothing is left. It is a loop of its own, apart from these, so that
-// the compiler keeps in registers what each step needs. The steps are counted down, since one number is then enough, and the machine is made from
-// its fields, so that the bytes which only fill it up are not carried along.
+// the compiler keeps in registers what each step needs. The steps are counted down, since one number is then enough, and the machine is made
+// anew from its fields wherever it is kept, here and in `run_to_end`, so that the seven bytes which only fill it up are not carried along: they would be
+// copied as two words that overlap, and each such copy waits until the stores of the one before it are done. That took half of a short walk's time.
 fn walk(
     code: &[u32],
     sub: &[u8],
@@ -233,7 +234,13 @@ fn walk(
         }
         let on = advance(code, sub, regs, work, kind, head, rest);
         rest = on.rest;
-        head = on.head;
+        let next = on.head;
+        head = Machine {
+            pc: next.pc,
+            at: next.at,
+            height: next.height,
+            live: next.live,
+        };
     }
     Standing {
         rest: rest,
@@ -297,12 +304,23 @@ pub fn run_to_end(
                 return Stop::Spent;
             };
             rest -= n;
-            head = made;
+            head = Machine {
+                pc: made.pc,
+                at: made.at,
+                height: made.height,
+                live: made.live,
+            };
             continue;
         }
         let w = walk(code, sub, regs, work, head, rest);
         rest = w.rest;
-        head = w.head;
+        let next = w.head;
+        head = Machine {
+            pc: next.pc,
+            at: next.at,
+            height: next.height,
+            live: next.live,
+        };
     }
     Stop::Nothing(budget - rest)
 }

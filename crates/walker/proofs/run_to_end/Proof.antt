@@ -38,11 +38,11 @@ mul-kind c = omega (arith, walking-fits (c .before .before .before .loop .inv) (
 shared-slice-read-kind : tie.Need-shared-slice-read-kind Inv-loop μ-loop
 shared-slice-read-kind c = walking-fits (c .before .before .before .before .loop .inv) (c .before .before .before .loop-test .taken) .here
 
-sub-t19 : tie.Need-sub-t19 Inv-loop μ-loop
-sub-t19 c = c .before .before .before .before .before .before .loop .inv .few
+sub-t20 : tie.Need-sub-t20 Inv-loop μ-loop
+sub-t20 c = c .before .before .before .before .before .before .loop .inv .few
 
-add-t20 : tie.Need-add-t20 Inv-loop μ-loop
-add-t20 c = omega (arith, c .before .before .before .before .before .before .loop .inv .few, c .before .before .before .before .if1 .left)
+add-t21 : tie.Need-add-t21 Inv-loop μ-loop
+add-t21 c = omega (arith, c .before .before .before .before .before .before .loop .inv .few, c .before .before .before .before .if1 .left)
 
 same-length-3 : tie.Need-same-length-3 Inv-loop μ-loop
 same-length-3 c = c .before .before .before .before .before .before .loop .inv .size
@@ -102,8 +102,8 @@ loop-again-2 c =
     let r = c .before .before .before .before .before .walk in
     walking-to (c .before .before .before .before .before .before .before .before .before .before .before .before .before .loop .inv) (r .last .1 .1 .0) (r .last .1 .1 .1 .0) (r .result .head) (r .result .rest) (r .ensures .0) (r .ensures .1) (r .kept .1 .1 .0) (r .kept .1 .1 .1 .0)
 
-sub-t30 : tie.Need-sub-t30 Inv-loop μ-loop
-sub-t30 c = c .before .loop .inv .few
+sub-t31 : tie.Need-sub-t31 Inv-loop μ-loop
+sub-t31 c = c .before .loop .inv .few
 
 same-length-7 : tie.Need-same-length-7 Inv-loop μ-loop
 same-length-7 c = c .before .loop .inv .size
@@ -127,8 +127,8 @@ run-to-end-spec =
     cast-pc
     mul-kind
     shared-slice-read-kind
-    sub-t19
-    add-t20
+    sub-t20
+    add-t21
     same-length-3
     same-length-4
     returns-2
@@ -144,7 +144,7 @@ run-to-end-spec =
     walk-requires
     loop-less-2
     loop-again-2
-    sub-t30
+    sub-t31
     same-length-7
     same-length-8
     returns-4)
