@@ -11,6 +11,7 @@ use Rattle.semantics.specs.Calls.{workAreaNeed}
 use Rattle.semantics.specs.Batches.{linesOf, partsNeed}
 use Rattle.semantics.specs.Laws.Lines.{lines-at-end}
 use Rattle.machine.specs.Theorem.{Stands}
+use Rattle.matching.specs.Outcomes.{between}
 use Rattle.text.specs.Lines.{lineLength}
 use Rattle.text.specs.Laws.Lines.{line-least, line-within}
 use Rattle.batching.specs.Parts.{filled, Tells, Fills}
@@ -35,7 +36,7 @@ module _ {code : List ℕ} {entry : ℕ} {buffer : List ℕ} {budget : ℕ} {wor
   -- the next line, up to its end
   module _ (l : from < length buffer) (to : ℕ) (e : to ≡ from + lineLength (drop from buffer)) where
     abbrev line : List ℕ
-    line = take (to - from) (drop from buffer)
+    line = between buffer from to
 
     pub line-inside : (from ≤ to) × (to ≤ length buffer)
     line-inside = (line-least buffer from to e, line-within buffer from to e (omega arith))

@@ -11,13 +11,14 @@ use syntax::Reason;
 use syntax::Refusal;
 ghost use mathlib.Core.Path.{_≡_};
 ghost use mathlib.Core.List.{_∷_, []};
+ghost use Prim.Native.Nat.{_≤_};
 ghost use lib.ListN.{length, drop};
 ghost use Rattle.syntax.specs.Limits.{rowLength, partLength};
 ghost use Rattle.semantics.specs.Calls.{workAreaNeed};
 ghost use Rattle.semantics.specs.Batches.{low, high, outcomeNumbers};
 ghost use Rattle.openings.specs.Openings.{Opens};
 ghost use Rattle.frame.specs.Inputs.{Held};
-ghost use Rattle.matching.specs.Outcomes.{outcomeOf};
+ghost use Rattle.matching.specs.Outcomes.{between, outcomeOf};
 ghost use Rattle.batching.specs.Parts.{Answers, Tells};
 
 // all numbers of a part
@@ -50,27 +51,29 @@ fn tell(numbers: &mut [u32], outcome: Outcome)
     }
 }
 
-// The match of one line, with its row written; or its refusal, if it is too long.
+// The match of one line, which stands in the buffer from one position up to another, with its row written; or its refusal, if it is too long.
 fn match_one(
     code: &[u32],
     entry: u32,
     opening: Opening,
-    line: &[u8],
+    buffer: &[u8],
+    from: usize,
+    to: usize,
     budget: u32,
     work: &mut [u32],
     row: &mut [u32],
 ) -> Outcome
-    requires { ⌜ Held (now code) [] (now work) entry budget × Opens (now code) entry budget opening × (length (now row) ≡ rowLength) ⌝ }
-    ensures { λ r. ⌜ Answers (now (code .entry)) (now (line .entry)) (now (row .entry)) (now (row .exit)) entry budget r ⌝ }
+    requires { ⌜ Held (now code) [] (now work) entry budget × Opens (now code) entry budget opening × (from ≤ to) × (to ≤ length (now buffer)) × (length (now row) ≡ rowLength) ⌝ }
+    ensures { λ r. ⌜ Answers (now (code .entry)) (between (now (buffer .entry)) from to) (now (row .entry)) (now (row .exit)) entry budget r ⌝ }
     ensures { λ _. ⌜ drop (workAreaNeed budget) (now (work .exit)) ≡ drop (workAreaNeed budget) (now (work .entry)) ⌝ }
 {
-    if SUBJECT_LIMIT < line.len() {
+    if SUBJECT_LIMIT < to - from {
         return Outcome::Refused(Refusal {
             place: 0,
             reason: Reason::SubjectTooLong,
         });
     }
-    match_opened(code, entry, opening, line, budget, work, row)
+    match_opened(code, entry, opening, buffer, from, to, budget, work, row)
 }
 
 // The part of one line.
@@ -78,20 +81,24 @@ pub fn match_part(
     code: &[u32],
     entry: u32,
     opening: Opening,
-    line: &[u8],
+    buffer: &[u8],
+    from: usize,
+    to: usize,
     budget: u32,
     work: &mut [u32],
     part: &mut [u32],
 )
-    requires { ⌜ Held (now code) [] (now work) entry budget × Opens (now code) entry budget opening × (length (now part) ≡ partLength) ⌝ }
-    ensures { λ _. ⌜ Tells (now (code .entry)) (now (line .entry)) (now (part .entry)) (now (part .exit)) entry budget ⌝ }
+    requires { ⌜ Held (now code) [] (now work) entry budget × Opens (now code) entry budget opening × (from ≤ to) × (to ≤ length (now buffer)) × (length (now part) ≡ partLength) ⌝ }
+    ensures { λ _. ⌜ Tells (now (code .entry)) (between (now (buffer .entry)) from to) (now (part .entry)) (now (part .exit)) entry budget ⌝ }
     ensures { λ _. ⌜ drop (workAreaNeed budget) (now (work .exit)) ≡ drop (workAreaNeed budget) (now (work .entry)) ⌝ }
 {
     let outcome = match_one(
         code,
         entry,
         opening,
-        line,
+        buffer,
+        from,
+        to,
         budget,
         work,
         &mut part[..ROW_LENGTH],

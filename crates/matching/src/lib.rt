@@ -26,7 +26,7 @@ ghost use Rattle.semantics.specs.Calls.{workAreaNeed, matchCall};
 ghost use Rattle.machine.specs.Theorem.{Clear};
 ghost use Rattle.openings.specs.Openings.{Opens};
 ghost use Rattle.frame.specs.Inputs.{callOf, Returned, Held};
-ghost use Rattle.matching.specs.Outcomes.{outcomeOf, Finds};
+ghost use Rattle.matching.specs.Outcomes.{between, outcomeOf, Finds};
 
 // What a match tells: matched or not, and the steps; or the start at which its budget was used up, and the steps; or why it is refused.
 pub enum Outcome {
@@ -76,26 +76,30 @@ fn search(
     }
 }
 
-// The first match of a rule that stands compiled and has this opening, with its row written.
+// The first match of a rule that stands compiled and has this opening, in a part of a text, with its row written. The part is named by its ends because
+// a slice that is handed from one function to the next is copied as one number of 128 bits: where its halves have just been made, that copy waits until
+// all that was stored before them has left for the memory, and for results of many lines that takes longer than a short match.
 pub fn match_opened(
     code: &[u32],
     entry: u32,
     opening: Opening,
-    subject: &[u8],
+    text: &[u8],
+    from: usize,
+    to: usize,
     budget: u32,
     work: &mut [u32],
     results: &mut [u32],
 ) -> Outcome
-    requires { ⌜ Held (now code) (now subject) (now work) entry budget × (rowLength ≤ length (now results)) ⌝ }
-    requires { ⌜ Opens (now code) entry budget opening ⌝ }
-    ensures { λ r. ⌜ Finds (now (code .entry)) (now (subject .entry)) (now (results .entry)) (now (results .exit)) entry budget r ⌝ }
+    requires { ⌜ (from ≤ to) × (to ≤ length (now text)) × (rowLength ≤ length (now results)) ⌝ }
+    requires { ⌜ Held (now code) (between (now text) from to) (now work) entry budget × Opens (now code) entry budget opening ⌝ }
+    ensures { λ r. ⌜ Finds (now (code .entry)) (between (now (text .entry)) from to) (now (results .entry)) (now (results .exit)) entry budget r ⌝ }
     ensures { λ _. ⌜ drop (workAreaNeed budget) (now (work .exit)) ≡ drop (workAreaNeed budget) (now (work .entry)) ⌝ }
 {
     let mut regs = [UNSET; REGISTERS];
     let need = WORK_PER_STEP * budget as usize;
     search(
         code,
-        subject,
+        &text[from..to],
         &mut regs,
         &mut work[..need],
         results,
@@ -105,7 +109,7 @@ pub fn match_opened(
     )
 }
 
-// The same of a rule whose opening is not yet known.
+// The first match in a whole subject, of a rule whose opening is not yet known.
 pub fn match_held(
     code: &[u32],
     entry: u32,
@@ -118,8 +122,9 @@ pub fn match_held(
     ensures { λ r. ⌜ Finds (now (code .entry)) (now (subject .entry)) (now (results .entry)) (now (results .exit)) entry budget r ⌝ }
     ensures { λ _. ⌜ drop (workAreaNeed budget) (now (work .exit)) ≡ drop (workAreaNeed budget) (now (work .entry)) ⌝ }
 {
-    let opening = find_opening(code, entry, budget, subject.len());
-    match_opened(code, entry, opening, subject, budget, work, results)
+    let all = subject.len();
+    let opening = find_opening(code, entry, budget, all);
+    match_opened(code, entry, opening, subject, 0, all, budget, work, results)
 }
 
 // Matches a rule against a subject. A row for the first match is written into the results, and the name index is filled.

@@ -1,4 +1,4 @@
--- One more line for each 0A that is counted. The first line of what is left of a buffer ends where `text` finds its end, and the others stand behind that.
+-- The 0A of a buffer as they are counted, by bytes and by blocks. The first line of what is left of a buffer ends where `text` finds its end, and the others stand behind that.
 use mathlib.Core.Path.{_≡_, refl, ap, sym, _∙_}
 use mathlib.Core.List.{List, [], _∷_}
 use mathlib.Core.Bool.{Bool, true, false, cond}
@@ -8,12 +8,13 @@ use native.Mathlib.Numerals.{add-one}
 use borrow.Author.Tests.{eq-eqb, ne-eqb}
 use lib.Dec.{eqb}
 use lib.ListN.{length, getD, take, drop, length-drop}
-use lib.Seq.{drop-drop}
+use lib.Seq.{drop-drop, take-add, getD-drop}
 use Rattle.text.specs.Lines.{newline, lineLength}
+use Rattle.matching.specs.Outcomes.{between}
 use Rattle.semantics.specs.Assertions.{isNewline}
 use Rattle.semantics.specs.Batches.{before, linesOf}
 use Rattle.semantics.specs.BatchDemands.{oneMoreIf, newlines}
-use Rattle.semantics.specs.Laws.Lines.{many-lines-of, newlines-next, lines-at-end}
+use Rattle.semantics.specs.Laws.Lines.{many-lines-of, newlines-append, newlines-next, lines-at-end}
 
 first-line : (s : List ℕ) → 0 < length s → linesOf s ≡ take (lineLength s) s ∷ linesOf (drop (suc (lineLength s)) s)
 unfolding linesOf before isNewline lineLength newline
@@ -32,7 +33,7 @@ first-line (b ∷ a ∷ s) h = go (eqb b 10) (first-line (a ∷ s) (omega arith)
 
 -- the same from a position on, up to the position of the line's end
 pub next-line : (buffer : List ℕ) (from to : ℕ) → from < length buffer → to ≡ from + lineLength (drop from buffer)
-    → linesOf (drop from buffer) ≡ take (to - from) (drop from buffer) ∷ linesOf (drop (to + 1) buffer)
+    → linesOf (drop from buffer) ≡ between buffer from to ∷ linesOf (drop (to + 1) buffer)
 next-line buffer from to h e =
     let s = drop from buffer in
     let n : to - from ≡ lineLength s = omega arith in
@@ -63,14 +64,16 @@ unfolding oneMoreIf
 counts-at-most true n = omega arith
 counts-at-most false n = omega arith
 
-counts-later : (t : Bool) (n : ℕ) → oneMoreIf t (suc n) ≡ suc (oneMoreIf t n)
-unfolding oneMoreIf
-counts-later true n = refl
-counts-later false n = refl
+-- before the next byte of a block
+pub counts-next : (buffer : List ℕ) (from i count next : ℕ) → from + i < length buffer → count ≡ newlines (take i (drop from buffer)) → next ≡ oneMoreIf (isNewline (getD buffer (from + i) 0)) count → next ≡ newlines (take (i + 1) (drop from buffer))
+counts-next buffer from i count next h e f = f ∙ rw (e, add-one i, newlines-next (drop from buffer) i (omega (arith, length-drop from buffer)), getD-drop from buffer i 0)
 
--- before the next byte there is one more than the 0A so far
-pub counts-on : (buffer : List ℕ) (i lines next : ℕ) → i < length buffer → lines ≡ suc (newlines (take i buffer)) → next ≡ oneMoreIf (isNewline (getD buffer i 0)) lines → next ≡ suc (newlines (take (i + 1) buffer))
-counts-on buffer i lines next h e f = f ∙ rw (e, add-one i, newlines-next buffer i h) (counts-later (isNewline (getD buffer i 0)) (newlines (take i buffer)))
+pub counted-size : (buffer : List ℕ) (from size i count : ℕ) → i ≡ size → count ≡ newlines (take i (drop from buffer)) → count ≡ newlines (take size (drop from buffer))
+counted-size buffer from size i count h e = rw h at e
+
+-- behind a block there is one more than the 0A so far
+pub counts-block : (buffer : List ℕ) (i size lines count : ℕ) → lines ≡ suc (newlines (take i buffer)) → count ≡ newlines (take size (drop i buffer)) → lines + count ≡ suc (newlines (take (i + size) buffer))
+counts-block buffer i size lines count e f = rw (take-add i size buffer, newlines-append (take i buffer) (take size (drop i buffer))) (omega arith)
 
 -- at the last byte all lines are counted
 pub counted-all : (buffer : List ℕ) (last lines : ℕ) → last + 1 ≡ length buffer → lines ≡ suc (newlines (take last buffer)) → lines ≡ length (linesOf buffer)

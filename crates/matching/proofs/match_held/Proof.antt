@@ -1,7 +1,9 @@
--- `match_held` meets its contract: the opening is found, and the rest is `match_opened`'s.
+-- `match_held` meets its contract: the opening is found, and the rest is the promise of `match_opened` for the part that is the whole subject.
 use native.Mathlib.Omega.{arith}
 use borrow.Author.Needs.{needs}
+use denote.Ref.{now}
 use Rattle.syntax.specs.Limits.{ruleAreaNeed}
+use Rattle.matching.specs.Laws.Outcomes.{between-all}
 use Rattle.matching.proofs.match_held.Statement.{statement}
 use Rattle.matching.proofs.match_held.Tie as tie
 
@@ -10,7 +12,9 @@ unfolding ruleAreaNeed
 find-opening-requires c κs = omega (arith, c .before .before .before .before .pre .0 .code-size)
 
 match-opened-requires : tie.Need-match-opened-requires
-match-opened-requires c κs = (c .before .before .before .before .before .before .before .pre, c .before .before .find-opening .ensures)
+match-opened-requires c κs =
+    let s = c .before .before .before .before .before .before .before in
+    ((omega arith, omega arith, s .pre .1), (rw (between-all (now (s .args .subject))) (s .pre .0), c .before .before .find-opening .ensures))
 
 same-length : tie.Need-same-length
 same-length c = search needs
@@ -19,7 +23,7 @@ same-length-2 : tie.Need-same-length-2
 same-length-2 c = search needs
 
 returns : tie.Need-returns
-returns c = c .before .before .before .before .match-opened .ensures
+returns c = let m = c .before .before .before .before .match-opened in (rw (between-all (now (c .before .before .before .before .before .before .before .before .before .before .before .before .args .subject))) at (m .ensures .0), m .ensures .1)
 
 pub match-held-spec : {M : Type 1} → statement M
 match-held-spec = tie.close (tie.spec find-opening-requires match-opened-requires same-length same-length-2 returns)

@@ -2,11 +2,11 @@
 use mathlib.Core.Path.{_≡_, refl}
 use Prim.Native.Nat.{suc, _+_, _-_, _≤_}
 use native.Mathlib.Omega.{arith}
+use borrow.Author.Needs.{needs}
 use denote.Ref.{now}
-use lib.ListN.{getD, take}
-use Rattle.semantics.specs.Assertions.{isNewline}
+use lib.ListN.{take}
 use Rattle.semantics.specs.BatchDemands.{newlines}
-use Rattle.batching.specs.Laws.Lines.{counts-at-most, counts-on, counted-all, counted-none}
+use Rattle.batching.specs.Laws.Lines.{counts-block, counted-all, counted-none}
 use Rattle.batching.proofs.counting.count_lines.Statement.{statement}
 use Rattle.batching.proofs.counting.count_lines.Tie as tie
 
@@ -26,24 +26,33 @@ loop-holds : tie.Need-loop-holds Inv-loop μ-loop
 unfolding newlines
 loop-holds c = (omega arith, omega arith, refl)
 
-shared-slice-read-count-newline : tie.Need-shared-slice-read-count-newline Inv-loop μ-loop
-shared-slice-read-count-newline c = omega arith
+sub-block-size : tie.Need-sub-block-size Inv-loop μ-loop
+sub-block-size c = omega arith
 
-count-newline-requires : tie.Need-count-newline-requires Inv-loop μ-loop
-count-newline-requires c κs = omega arith
+block-size-requires : tie.Need-block-size-requires Inv-loop μ-loop
+block-size-requires c κs = omega arith
+
+count-block-requires : tie.Need-count-block-requires Inv-loop μ-loop
+count-block-requires c κs = (omega (arith, c .block-size .ensures .1), c .block-size .ensures .2)
+
+cast-lines : tie.Need-cast-lines Inv-loop μ-loop
+cast-lines c = search needs
+
+add-lines : tie.Need-add-lines Inv-loop μ-loop
+add-lines c = omega (arith, c .before .before .before .loop .inv .1, c .before .block-size .ensures .1, c .count-block .ensures .0)
 
 add-i : tie.Need-add-i Inv-loop μ-loop
-add-i c = omega arith
+add-i c = omega (arith, c .before .before .before .loop .inv .0, c .before .block-size .ensures .1)
 
 loop-less : tie.Need-loop-less Inv-loop μ-loop
-loop-less c = omega arith
+loop-less c = omega (arith, c .before .block-size .ensures .0, c .before .before .loop-test .taken)
 
 loop-again : tie.Need-loop-again Inv-loop μ-loop
 loop-again c =
     let l = c .before .before .before .loop in
-    let n = c .count-newline in
-    let b = now (c .before .before .before .before .before .before .args .buffer) in
-    (omega arith, omega (arith, n .ensures, l .inv .1, counts-at-most (isNewline (getD b (l .i) 0)) (l .lines)), counts-on b (l .i) (l .lines) (n .result) (omega arith) (l .inv .2) (n .ensures))
+    let s = c .before .block-size in
+    let n = c .count-block in
+    (omega (arith, s .ensures .1, c .before .before .loop-test .taken), omega (arith, l .inv .1, n .ensures .0), counts-block (now (c .before .before .before .before .before .before .args .buffer)) (l .i) (s .result) (l .lines) (n .result) (l .inv .2) (n .ensures .1))
 
 returns-2 : tie.Need-returns-2 Inv-loop μ-loop
 returns-2 c =
@@ -60,8 +69,11 @@ count-lines-spec =
     returns
     sub-last
     loop-holds
-    shared-slice-read-count-newline
-    count-newline-requires
+    sub-block-size
+    block-size-requires
+    count-block-requires
+    cast-lines
+    add-lines
     add-i
     loop-less
     loop-again

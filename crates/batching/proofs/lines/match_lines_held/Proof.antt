@@ -1,4 +1,5 @@
 -- `match_lines_held` meets its contract. The loop's invariant is `Filling`; the measure is the bytes that are left.
+use mathlib.Core.Path.{_∙_}
 use Prim.Native.Nat.{_+_, _-_}
 use native.Mathlib.Omega.{arith}
 use borrow.Author.Needs.{needs}
@@ -29,46 +30,38 @@ add-behind : tie.Need-add-behind Inv-loop μ-loop
 unfolding partLength rowLength spansLength groupLimit
 add-behind c = omega (arith, c .before .before .loop .inv .long, part-inside (c .before .before .loop .inv) (c .before .loop-test .taken) _ (c .line-end .ensures))
 
-sub-match-part : tie.Need-sub-match-part Inv-loop μ-loop
-sub-match-part c = line-inside (c .before .before .loop .inv) (c .before .loop-test .taken) _ (c .line-end .ensures) .0
-
-part-match-part-start : tie.Need-part-match-part-start Inv-loop μ-loop
-part-match-part-start c = line-inside (c .before .before .loop .inv) (c .before .loop-test .taken) _ (c .line-end .ensures) .0
-
-part-match-part-end : tie.Need-part-match-part-end Inv-loop μ-loop
-part-match-part-end c = line-inside (c .before .before .loop .inv) (c .before .loop-test .taken) _ (c .line-end .ensures) .1
-
 mul-match-part : tie.Need-mul-match-part Inv-loop μ-loop
 unfolding partLength rowLength spansLength groupLimit
-mul-match-part c = omega (arith, c .before .before .before .before .loop .inv .long, part-inside (c .before .before .before .before .loop .inv) (c .before .before .before .loop-test .taken) _ (c .before .before .line-end .ensures))
+mul-match-part c = omega (arith, c .before .before .before .loop .inv .long, part-inside (c .before .before .before .loop .inv) (c .before .before .loop-test .taken) _ (c .before .line-end .ensures))
 
-sub-match-part-2 : tie.Need-sub-match-part-2 Inv-loop μ-loop
-sub-match-part-2 c = omega arith
+sub-match-part : tie.Need-sub-match-part Inv-loop μ-loop
+sub-match-part c = omega arith
 
-part-match-part-start-2 : tie.Need-part-match-part-start-2 Inv-loop μ-loop
-part-match-part-start-2 c = omega arith
+part-match-part-start : tie.Need-part-match-part-start Inv-loop μ-loop
+part-match-part-start c = omega arith
 
-part-match-part-end-2 : tie.Need-part-match-part-end-2 Inv-loop μ-loop
+part-match-part-end : tie.Need-part-match-part-end Inv-loop μ-loop
 unfolding partLength rowLength spansLength groupLimit
-part-match-part-end-2 c = part-inside (c .before .before .before .before .loop .inv) (c .before .before .before .loop-test .taken) _ (c .before .before .line-end .ensures)
+part-match-part-end c = part-inside (c .before .before .before .loop .inv) (c .before .before .loop-test .taken) _ (c .before .line-end .ensures)
 
 match-part-requires : tie.Need-match-part-requires Inv-loop μ-loop
 unfolding partLength rowLength spansLength groupLimit
 match-part-requires c κs =
-    let h = c .before .before .before .before .before .before .before .before .before .before .before .pre .0 in
-    (record { tree = h .tree; stands = h .stands; code-size = h .code-size; subject-fits = h .subject-fits; work-fits = omega (arith, h .work-fits, c .before .before .before .before .before .loop .inv .wide) }, c .before .before .before .before .before .before .find-opening .ensures, part-lent (c .before .before .before .before .before .loop .inv) (c .before .before .before .before .loop-test .taken) _ (c .before .before .before .line-end .ensures) (c .before .before .before .before .before .loop .at + partLength - c .before .before .before .before .before .loop .at) (omega arith))
+    let h = c .before .before .before .before .before .before .before .before .before .before .pre .0 in
+    let inside = line-inside (c .before .before .before .before .loop .inv) (c .before .before .before .loop-test .taken) _ (c .before .before .line-end .ensures) in
+    (record { tree = h .tree; stands = h .stands; code-size = h .code-size; subject-fits = h .subject-fits; work-fits = omega (arith, h .work-fits, c .before .before .before .before .loop .inv .wide) }, c .before .before .before .before .before .find-opening .ensures, inside .0, inside .1, part-lent (c .before .before .before .before .loop .inv) (c .before .before .before .loop-test .taken) _ (c .before .before .line-end .ensures) (c .before .before .before .before .loop .at + partLength - c .before .before .before .before .loop .at) (omega arith))
 
 add-from : tie.Need-add-from Inv-loop μ-loop
-add-from c = omega (arith, line-inside (c .before .before .before .before .before .before .before .before .before .before .loop .inv) (c .before .before .before .before .before .before .before .before .before .loop-test .taken) _ (c .before .before .before .before .before .before .before .before .line-end .ensures) .1)
+add-from c = omega (arith, line-inside (c .before .before .before .before .before .before .before .before .before .loop .inv) (c .before .before .before .before .before .before .before .before .loop-test .taken) _ (c .before .before .before .before .before .before .before .line-end .ensures) .1)
 
 loop-less : tie.Need-loop-less Inv-loop μ-loop
-loop-less c = omega (arith, c .before .before .before .before .before .before .before .before .before .loop-test .taken, line-inside (c .before .before .before .before .before .before .before .before .before .before .loop .inv) (c .before .before .before .before .before .before .before .before .before .loop-test .taken) _ (c .before .before .before .before .before .before .before .before .line-end .ensures) .0)
+loop-less c = omega (arith, c .before .before .before .before .before .before .before .before .loop-test .taken, line-inside (c .before .before .before .before .before .before .before .before .before .loop .inv) (c .before .before .before .before .before .before .before .before .loop-test .taken) _ (c .before .before .before .before .before .before .before .line-end .ensures) .0)
 
 loop-again : tie.Need-loop-again Inv-loop μ-loop
 unfolding partLength rowLength spansLength groupLimit
 loop-again c =
     let m = c .before .before .before .before .match-part in
-    filling-on (c .before .before .before .before .before .before .before .before .before .before .loop .inv) (c .before .before .before .before .before .before .before .before .before .loop-test .taken) _ (c .before .before .before .before .before .before .before .before .line-end .ensures) (c .before .before .before .before .before .before .before .before .before .before .loop .at + partLength - c .before .before .before .before .before .before .before .before .before .before .loop .at) (omega arith) (m .kept .1 .1 .1 .1 .1 .0) (m .ensures .1) (m .kept .1 .1 .1 .1 .1 .1 .0) (m .ensures .0)
+    filling-on (c .before .before .before .before .before .before .before .before .before .loop .inv) (c .before .before .before .before .before .before .before .before .loop-test .taken) _ (c .before .before .before .before .before .before .before .line-end .ensures) (c .before .before .before .before .before .before .before .before .before .loop .at + partLength - c .before .before .before .before .before .before .before .before .before .loop .at) (omega arith) (m .kept .1 .1 .1 .1 .1 .1 .1 .0) (m .ensures .1) (m .kept .1 .1 .1 .1 .1 .1 .1 .1 .0) (m .ensures .0)
 
 same-length : tie.Need-same-length Inv-loop μ-loop
 same-length c = c .before .loop .inv .wide
@@ -89,13 +82,10 @@ match-lines-held-spec =
     loop-holds
     line-end-requires
     add-behind
+    mul-match-part
     sub-match-part
     part-match-part-start
     part-match-part-end
-    mul-match-part
-    sub-match-part-2
-    part-match-part-start-2
-    part-match-part-end-2
     match-part-requires
     add-from
     loop-less

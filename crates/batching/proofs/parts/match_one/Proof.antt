@@ -4,21 +4,31 @@ use native.Mathlib.Omega.{arith}
 use borrow.Author.Needs.{needs}
 use denote.Ref.{now}
 use Rattle.syntax.specs.Limits.{subjectLimit}
-use Rattle.matching.specs.Outcomes.{outcomeOf}
+use Rattle.matching.specs.Outcomes.{between, outcomeOf}
+use Rattle.matching.specs.Laws.Outcomes.{between-length}
 use Rattle.batching.specs.Laws.Parts.{long-told, short-told}
 use Rattle.batching.proofs.parts.match_one.Statement.{statement}
 use Rattle.batching.proofs.parts.match_one.Tie as tie
 
+sub-if1 : tie.Need-sub-if1
+sub-if1 c = c .before .before .before .before .pre .2
+
 returns : tie.Need-returns
 unfolding subjectLimit outcomeOf
-returns c = let a = c .before .before .before .before .before .args in (λ x st. long-told x (now (a .line)) (a .budget) (now (a .row)) (omega arith), refl)
+returns c =
+    let s = c .before .before .before .before .before in
+    let a = s .args in
+    let size = between-length (now (a .buffer)) (a .from) (a .to) (s .pre .2) (s .pre .3) in
+    (λ x st. long-told x (between (now (a .buffer)) (a .from) (a .to)) (a .budget) (now (a .row)) (omega (arith, c .if1 .taken)), refl)
 
 match-opened-requires : tie.Need-match-opened-requires
 unfolding subjectLimit
 match-opened-requires c κs =
     let s = c .before .before .before .before .before .before .before in
+    let a = s .args in
     let h = s .pre .0 in
-    ((record { tree = h .tree; stands = h .stands; code-size = h .code-size; subject-fits = omega arith; work-fits = h .work-fits }, omega (arith, s .pre .2)), s .pre .1)
+    let size = between-length (now (a .buffer)) (a .from) (a .to) (s .pre .2) (s .pre .3) in
+    ((omega (arith, s .pre .2), s .pre .3, omega (arith, s .pre .4)), (record { tree = h .tree; stands = h .stands; code-size = h .code-size; subject-fits = omega (arith, c .before .before .if1 .left); work-fits = h .work-fits }, s .pre .1))
 
 same-length : tie.Need-same-length
 same-length c = search needs
@@ -29,9 +39,11 @@ same-length-2 c = search needs
 returns-2 : tie.Need-returns-2
 unfolding subjectLimit
 returns-2 c =
-    let a = c .before .before .before .before .before .before .before .before .before .before .before .before .args in
+    let s = c .before .before .before .before .before .before .before .before .before .before .before .before in
+    let a = s .args in
     let m = c .before .before .before .before .match-opened in
-    (λ x st. short-told x (now (a .line)) (a .budget) (now (a .row)) (m .result) _ (omega arith) (m .ensures .0 x st), m .ensures .1)
+    let size = between-length (now (a .buffer)) (a .from) (a .to) (s .pre .2) (s .pre .3) in
+    (λ x st. short-told x (between (now (a .buffer)) (a .from) (a .to)) (a .budget) (now (a .row)) (m .result) _ (omega (arith, c .before .before .before .before .before .before .before .if1 .left)) (m .ensures .0 x st), m .ensures .1)
 
 pub match-one-spec : {M : Type 1} → statement M
-match-one-spec = tie.close (tie.spec returns match-opened-requires same-length same-length-2 returns-2)
+match-one-spec = tie.close (tie.spec sub-if1 returns match-opened-requires same-length same-length-2 returns-2)
