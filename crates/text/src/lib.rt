@@ -1,20 +1,65 @@
 // Text in lent slices: the end of a line, bytes and numbers written one behind another, and a line that comes in pieces.
 ghost use mathlib.Core.Path.{_≡_};
+ghost use mathlib.Core.Bool.{false};
 ghost use mathlib.Core.List.{[], _∷_};
 ghost use Prim.Native.Nat.{_+_, _≤_, _<_};
 ghost use lib.ListN.{length, drop};
 ghost use Rattle.text.specs.Gathering.{Gathered};
-ghost use Rattle.text.specs.Lines.{lineLength};
+ghost use Rattle.text.specs.Lines.{newline, lineLength};
 ghost use Rattle.text.specs.Numbers.{decimal};
 ghost use Rattle.text.specs.Writing.{Wrote};
 
 pub const NEWLINE: u8 = 10;
 
+// the bytes that are looked at together
+const BLOCK: usize = 16;
+
+// Whether a byte is an 0A, or there was one before.
+fn met(byte: u8, before: bool) -> bool
+    ensures { λ r. ⌜ (r ≡ false → (byte ≡ newline → ⊥) × (before ≡ false)) ⌝ }
+{
+    if byte == NEWLINE {
+        return true;
+    }
+    before
+}
+
+// Whether a block has an 0A. The loop goes to its end in any case, so that the compiler looks at all of the block at once.
+fn ends_within(input: &[u8], from: usize) -> bool
+    requires { ⌜ from + 16 ≤ length (now input) ⌝ }
+    ensures { λ r. ⌜ (r ≡ false → lineLength (drop from (now (input .entry))) ≡ 16 + lineLength (drop (from + 16) (now (input .entry)))) ⌝ }
+{
+    let mut found = false;
+    let mut i: usize = 0;
+    while i < BLOCK {
+        found = met(input[from + i], found);
+        i += 1;
+    }
+    found
+}
+
+// From a position on, by blocks: where one with an 0A begins, or where the input has no whole one.
+fn skip_blocks(input: &[u8], from: usize) -> usize
+    ensures { λ r. ⌜ r + lineLength (drop r (now (input .entry))) ≡ from + lineLength (drop from (now (input .entry))) ⌝ }
+{
+    let mut i = from;
+    while i < input.len() {
+        if input.len() - i < BLOCK {
+            return i;
+        }
+        if ends_within(input, i) {
+            return i;
+        }
+        i += BLOCK;
+    }
+    i
+}
+
 // The position of the first 0A at or behind a position; the end of the input where there is none.
 pub fn line_end(input: &[u8], from: usize) -> usize
     ensures { λ r. ⌜ r ≡ from + lineLength (drop from (now (input .entry))) ⌝ }
 {
-    let mut i = from;
+    let mut i = skip_blocks(input, from);
     while i < input.len() {
         if input[i] == NEWLINE {
             return i;

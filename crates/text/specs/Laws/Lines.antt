@@ -26,6 +26,13 @@ module _ (s : List ℕ) (i : ℕ) where
   unfolding lineLength
   out h = rw (drop-of-length-le s h)
 
+-- the bytes of a block, as long as none of them is an 0A
+pub block-begins : (s : List ℕ) (from : ℕ) → lineLength (drop from s) ≡ 0 + lineLength (drop (from + 0) s)
+block-begins s from = let z : from + 0 ≡ from = omega arith in rw z (omega arith)
+
+pub block-on : (s : List ℕ) (from i : ℕ) → from + i < length s → (getD s (from + i) 0 ≡ newline → ⊥) → lineLength (drop from s) ≡ i + lineLength (drop (from + i) s) → lineLength (drop from s) ≡ (i + 1) + lineLength (drop (from + (i + 1)) s)
+block-on s from i h f e = let z : from + (i + 1) ≡ suc (from + i) = omega arith in rw z (omega (arith, goesOn s (from + i) h f))
+
 -- a line ends within the text
 pub lineWithin : (s : List ℕ) → lineLength s ≤ length s
 unfolding lineLength
