@@ -1,20 +1,22 @@
 #!/usr/bin/env python3
 """Writes the calls that crates/call_vectors is run on, and what it must say of them: outcomes, steps, rows and names, and refusals 1 to
-8.
+8. Matches, listings and explanations come first, then successive matches and a day's lines.
 
 What must be said comes from reference.py, an independent reading of documents 01 and 02: no line of it is shared with the library.
 Usage: harness/call_vectors.py (in the repository's root)
 """
+import re
 import sys
 from pathlib import Path
 
 import reference
-from reference import I, X
+from reference import I, M, S, X
 from walk_vectors import NAMED_READINGS, READINGS, within_references
 
 TARGET = Path(__file__).resolve().parent.parent / "crates" / "call_vectors"
 RULE_AREA, ROW, PART, INDEX = 16384, 66, 70, 544
 MOST = 100000  # the largest budget
+ROOM = 131072  # what the program reads of its input
 MATCH, LIST, EXPLAIN, SCAN, BATCH = range(5)
 ENDINGS = {"M": "matched", "N": "not matched", "C": "complete", "F": "full"}
 # Classes of every kind of member, complemented and not.
@@ -123,6 +125,8 @@ def cases():
         yield kind, b"(", 0, b"a", 10, (RULE_AREA, 160, ROW)
         yield from names(kind)
     yield from explanations()
+    yield from scans()
+    yield from batches()
 
 
 # What f)'s open points turn on, and each kind of item and of node: rule, flags, line.
@@ -140,6 +144,78 @@ def explanations():
         yield EXPLAIN, b"abc", 0, b"abd", 10, (RULE_AREA, 160, marks, INDEX)
     for rule, budget, index in ((b"a", 9, 544), (b"a*b", 4, 600), (b"(", 9, 544), (b"(", 9, 543), (b"b", 9, 543), (b"(?<n>b)", 9, 544)):
         yield EXPLAIN, rule, 0, b"aa", budget, (RULE_AREA, 16 * budget, 9, index)
+
+
+# What g)'s open points turn on, and ends that are barred in every way that the walk goes on behind them: rule, flags, line.
+SUCCESSIVE = [(b"(\\d+) L", 0, b"820 L, 64 L"), (b"aa", 0, b"aaaaa"), (b"a??", 0, b"a"), (b"(a??)", 0, b"a"), (b"|a|b", 0, b"b"), (b"a", 0, b"bb"),
+              (b"a", 0, b""), (b"", 0, b""), (b"\\z", 0, b"a"), (b"a*", 0, b"aab"), (b"a*?", 0, b"aa"), (b"(a?)", 0, b"a"), (b"\\b", 0, b"ab"),
+              (b"^a", 0, b"aa"), (b"\\Aa", 0, b"aa"), (b"^a", M, b"aa\na"), (b"$", M, b"a\n\n"), (b"\\ba", 0, b"aa a"), (b"(a)|b", 0, b"ab"),
+              (b"(a)|\\1b", 0, b"ab"), (b"(|a)(b?)", 0, b"ab"), (b"(?:a??){3}", 0, b"aaaa"), (b"(|a)*\\1", 0, b"aa"), (b".*", S, b"a\nb"),
+              (b"(?<n>a)|(?<m>B)", I, b"Ab")]
+
+
+def scans():
+    """Successive matches: the open points, room that is full or just enough, budgets that end at a try with its empty end barred or beside it."""
+    for rule, flags, subject in SUCCESSIVE:
+        yield SCAN, rule, flags, subject, 100, (RULE_AREA, 1600, 660)
+    for rule, subject, results in ((b"a", b"a", ROW), (b"a", b"aa", ROW), (b"a", b"aa", 2 * ROW - 1), (b"a", b"aa", 2 * ROW), (b"", b"a", ROW),
+                                   (b"", b"a", 2 * ROW), (b"a??", b"a", ROW), (b"a??", b"a", 3 * ROW)):
+        yield SCAN, rule, 0, subject, 9, (RULE_AREA, 144, results)
+    for rule, subject, budgets in ((b"", b"abc", (0, 1)), (b"|a", b"", (1, 2, 3)), (b"|a{3}", b"a", (2, 3, 4, 5, 6)), (b"a{3}|b", b"baa", (6, 7)),
+                                   (b"a*", b"aa", (6, 7))):
+        for budget in budgets:
+            yield SCAN, rule, 0, subject, budget, (RULE_AREA, 16 * budget, 660)
+    # room for one row: the second try is exhausted before it is known whether the room is full
+    yield SCAN, b"|a{3}", 0, b"a", 3, (RULE_AREA, 48, ROW)
+    # a line of 65,536 bytes is too long, one of 65,535 is not
+    for size in (65535, 65536):
+        yield SCAN, b"a{255}", 0, b"a" * size, 257, (RULE_AREA, 4112, 2 * ROW)
+    yield from refusals(SCAN, b"", ROW)
+
+
+# What h)'s open points turn on, apart from the room: rule, flags, buffer.
+DAYS = [(b"(\\d+),(\\d+)", 0, b"1,5\nab\n"), (b"a", 0, b"a\nb\na"), (b"^b$", 0, b"a\nb\nb"), (b"^.$", M | S, b"a\n\nb"), (b"a", 0, b""), (b"", 0, b"\n"),
+        (b"a", 0, b"\n\na"), (b"", 0, b"\n\n\n\n"), (b"\\n", 0, b"a\n\n"), (b"a$", 0, b"a\r\na\n"), (b"^\\r$", 0, b"\r\n"), (b"a*", 0, b"aa\n\na"),
+        (b"(a)|b", 0, b"a\nb"), (b"(?<n>a)(?<m>b)?", I, b"AB\na\n"), (b"(?<n>a)", 0, b""), (b"(", 0, b""), (b"a**", 0, b"a\na")]
+
+
+def batches():
+    """A day's lines: the open points, as many parts as lines, one more and one less, exhausted lines among others, and lines that are too long."""
+    for rule, flags, buffer in DAYS:
+        yield BATCH, rule, flags, buffer, 100, (RULE_AREA, 1600, 5 * PART)
+    for rule, buffer, results in ((b"a", b"a\nb", 2 * PART - 1), (b"a", b"a\nb", 2 * PART), (b"a", b"a\nb", 2 * PART + 1), (b"a", b"a\nb\n", 2 * PART),
+                                  (b"a", b"a\nb\n\n", 2 * PART), (b"a", b"\n", PART - 1), (b"a", b"a", 3 * PART + 5), (b"a", b"", 0),
+                                  (b"(?<n>a)", b"", 0), (b"(", b"", 0), (b"", b"\n" * 94, 94 * PART), (b"", b"\n" * 95, 6600)):
+        yield BATCH, rule, 0, buffer, 9, (RULE_AREA, 144, results)
+    for rule, buffer, budgets in ((b"a*", b"aa\na\n\naa", (0, 2, 3, 6, 7)), (b"b|a{2}", b"caa\nb", (5, 6))):
+        for budget in budgets:
+            yield BATCH, rule, 0, buffer, budget, (RULE_AREA, 16 * budget, 4 * PART)
+    # a line that is too long has its own part and no other effect; 65,535 bytes are not too long, an 0D counts
+    long = b"a" * 65536
+    for buffer in (b"b\n" + long + b"\nb\n", long + b"\nb", b"b\n" + long, long[1:] + b"\n" + long[1:] + b"b", long[1:] + b"\r\nb", long[:40000] + b"\n" + long[:40000] + b"\nb"):
+        yield BATCH, b"b", 0, buffer, 9, (RULE_AREA, 144, 3 * PART)
+    yield BATCH, b"(?<n>a)", 0, long + b"\n" + long, 9, (RULE_AREA, 144, 2 * PART)
+    yield BATCH, b"a**", 0, long + b"\na", 9, (RULE_AREA, 144, 2 * PART)
+    yield BATCH, b"a", 0, long, 9, (RULE_AREA, 144, PART - 1)
+    yield from refusals(BATCH, b"\n", PART)
+
+
+def refusals(kind, subject, need):
+    """Each of the refusals 1 to 8 at its last good and its first bad value, then faults together: the lower number."""
+    for size in (1000, 1001):
+        yield kind, b"a" * size, 0, subject, 9, (RULE_AREA, 144, need)
+    for flags in (15, 16):
+        yield kind, b"a", flags, subject, 9, (RULE_AREA, 144, need)
+    for budget in (MOST, MOST + 1):
+        yield kind, b"a", 0, subject, budget, (RULE_AREA, 16 * MOST, need)
+    for area, work, results, index in ((RULE_AREA, 144, need, INDEX), (RULE_AREA - 1, 144, need, INDEX), (RULE_AREA, 143, need, INDEX),
+                                       (RULE_AREA, 144, need - 1, INDEX), (RULE_AREA, 144, need, INDEX - 1)):
+        yield kind, b"a", 0, subject, 9, (area, work, results, index)
+    for rule, size, flags, budget, areas in ((b"a" * 1001, 65536, 16, MOST + 1, (0, 0, 0, 0)), (b"(", 65536, 16, MOST + 1, (0, 0, 0, 0)),
+                                             (b"(", 1, 16, MOST + 1, (0, 0, 0, 0)), (b"(", 1, 0, MOST + 1, (0, 0, 0, 0)), (b"(", 1, 0, 9, (0, 0, 0, 0)),
+                                             (b"(", 1, 0, 9, (RULE_AREA, 0, 0, 0)), (b"(", 1, 0, 9, (RULE_AREA, 144, 0, 0)),
+                                             (b"(", 1, 0, 9, (RULE_AREA, 144, need, 0)), (b"(", 1, 0, 9, (RULE_AREA, 144, need, INDEX))):
+        yield kind, rule, flags, b"a" * size, budget, areas
 
 
 def names(kind):
@@ -188,15 +264,24 @@ def at_the_largest_budget(kind):
     yield most(b"(?:a?){9}", b"a" * 9, 100)
 
 
+def given(text, most):
+    """Bytes in hex; in a word of their own, `x` and a count, the letters `a` of which more than so many stand in a row."""
+    pieces = re.split(b"(a{%d,})" % (most + 1), text)
+    return " ".join("x%d" % len(piece) if k % 2 else piece.hex() for k, piece in enumerate(pieces) if piece)
+
+
 def main():
     asked, answers = [], []
     for kind, rule, flags, subject, budget, areas in cases():
         areas += (INDEX,) * (4 - len(areas))
-        given = "x%d" % len(subject) if subject == b"a" * len(subject) and len(subject) > 1000 else subject.hex()
+        # a rule is one word: in hex, or in the later kinds as so many letters
+        written = given(rule, 999) if kind in (SCAN, BATCH) else rule.hex()
         # call, flags, budget, the lengths of the areas and of the name index, rule, subject
-        asked.append("%d %d %d %d %d %d %d %s %s\n" % (kind, flags, budget, *areas, rule.hex(), given))
+        asked.append("%d %d %d %d %d %d %d %s %s\n" % (kind, flags, budget, *areas, written, given(subject, 1000)))
         # in these calls an explanation has as many marks as another call has numbers in its result area
         answers += told(kind, rule, flags, subject, budget, areas + areas[2:3])
+    if sum(map(len, asked)) > ROOM:
+        sys.exit("more than the %d bytes that the program reads" % ROOM)
     TARGET.joinpath("stdin").write_text("".join(asked))
     TARGET.joinpath("stdout").write_text("".join(line + "\n" for line in answers))
     print("%d calls, %d bytes, %d lines" % (len(asked), sum(map(len, asked)), len(answers)), file=sys.stderr)

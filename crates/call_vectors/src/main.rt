@@ -1,8 +1,11 @@
 // Runs the public calls and writes what they answer, with the rows.
 //
-// A line of input has nine words: the kind, 0 for a match, 1 for a listing and 2 for an explanation; the flags, the budget and the lengths of the rule
-// area, the work area, the result area (or of the marks) and the name index in decimal; the rule in hex; and how the subject is given, in hex, or 'x' and a count for so many bytes `a`.
-// Behind an answer and its rows the entries of the name index follow that are not all 00, and then why a line does not fit.
+// A line of input has nine words or more: the kind, 0 for a match, 1 for a listing, 2 for an explanation, 3 for successive matches and 4 for a day's
+// lines; the flags, the budget and the lengths of the rule area, the work area, the result area (or of the marks) and the name index in decimal; the rule;
+// and the subject in pieces, one behind another. The rule and each piece are in hex, or 'x' and a count for so many bytes `a`.
+// Behind an answer and its rows, or the parts of its lines, the entries of the name index follow that are not all 00, and then why a line does not fit.
+use batching::Batch;
+use batching::PART_LENGTH;
 use explaining::Explanation;
 use failures::Failed;
 use frame::NAME_INDEX_NEED;
@@ -14,16 +17,25 @@ use libc::STDOUT_FILENO;
 use listing::Listing;
 use matching::Outcome;
 use syntax::Refusal;
-ghost use Prim.Native.Nat.{_≤_, _<_};
+ghost use mathlib.Core.Path.{_≡_};
+ghost use Prim.Native.Nat.{_≤_, _<_, _+_};
 ghost use lib.ListN.{length};
+ghost use Rattle.syntax.specs.Limits.{rowLength, partLength};
 
-// The kind of an explanation.
+// The kinds of calls; any other number is a listing.
+const MATCH: u32 = 0;
+
 const EXPLAIN: u32 = 2;
 
-// One byte more than a rule may have, and than a subject may have.
+const SCAN: u32 = 3;
+
+const BATCH: u32 = 4;
+
+// One byte more than a rule may have.
 const RULE_ROOM: usize = frame::RULE_LIMIT + 1;
 
-const LETTERS: usize = frame::SUBJECT_LIMIT + 1;
+// Two lines with one byte more than a line may have, and some bytes around them.
+const SUBJECT_ROOM: usize = 2 * (frame::SUBJECT_LIMIT + 1) + 1000;
 
 // What is lent to all calls.
 const RULE_AREA: usize = frame::RULE_AREA_NEED;
@@ -64,6 +76,17 @@ fn put_span(group: usize, from: u32, to: u32) {
     put_word(to);
 }
 
+// The spans that are set of the row at a position.
+fn put_spans(results: &[u32], base: usize)
+    requires { ⌜ base + rowLength ≤ length (now results) ⌝ }
+{
+    let mut i: usize = 1;
+    while i <= GROUP_LIMIT {
+        put_span(i, results[base + 2 * i], results[base + 2 * i + 1]);
+        i += 1;
+    }
+}
+
 // The row at a position, if it is there: start, end and the spans that are set.
 fn put_row(results: &[u32], base: usize) {
     if results.len() < ROW_LENGTH {
@@ -76,11 +99,7 @@ fn put_row(results: &[u32], base: usize) {
     put_word(results[base]);
     put(b" ");
     put_word(results[base + 1]);
-    let mut i: usize = 1;
-    while i <= GROUP_LIMIT {
-        put_span(i, results[base + 2 * i], results[base + 2 * i + 1]);
-        i += 1;
-    }
+    put_spans(results, base);
     put(b"\n");
 }
 
@@ -218,6 +237,81 @@ fn put_listing(told: Listing, results: &[u32], names: &[u8]) {
     }
 }
 
+// What a line's first two numbers behind its row tell: how it ends, and the start or the refusal. The others have 0 there, which is not written.
+fn put_ending(kind: u32, which: u32) {
+    if kind == 0 {
+        put(b"  matched");
+    }
+    if kind == 1 {
+        put(b"  not matched");
+    }
+    if kind == 2 {
+        put(b"  exhausted at ");
+    }
+    if kind == 3 {
+        put(b"  refused ");
+    }
+    if kind < 2 {
+        if which == 0 {
+            return;
+        }
+    }
+    put_word(which);
+}
+
+// A line's steps, of which the two halves are told.
+fn put_line_steps(low: u32, high: u32) {
+    put(b", ");
+    put_number(high as u64 * 4294967296 + low as u64);
+    put(b" steps");
+}
+
+// What a line of a day's gets: how it ends, its steps and, if it is matched, its row.
+fn put_part(part: &[u32])
+    requires { ⌜ length (now part) ≡ partLength ⌝ }
+{
+    let kind = part[ROW_LENGTH];
+    put_ending(kind, part[ROW_LENGTH + 1]);
+    put_line_steps(part[ROW_LENGTH + 2], part[ROW_LENGTH + 3]);
+    if kind == 0 {
+        put(b" ");
+        put_word(part[0]);
+        put(b"-");
+        put_word(part[1]);
+        put_spans(part, 0);
+    }
+    put(b"\n");
+}
+
+// The first parts.
+fn put_parts(results: &[u32], parts: usize) {
+    let mut i: usize = 0;
+    let mut base: usize = 0;
+    while i < parts {
+        if results.len() - base < PART_LENGTH {
+            return;
+        }
+        let behind = base + PART_LENGTH;
+        put_part(&results[base..behind]);
+        base = behind;
+        i += 1;
+    }
+}
+
+// What a day's lines tell, with their parts and the names.
+fn put_batch(told: Batch, results: &[u32], names: &[u8]) {
+    match told {
+        Batch::Done(lines) => {
+            put(b"done ");
+            put_number(lines as u64);
+            put(b" lines\n");
+            put_parts(results, lines);
+            put_names(names);
+        }
+        Batch::Refused(f) => put_refusal(f),
+    }
+}
+
 // The lesser of two numbers.
 fn lesser(a: usize, b: usize) -> usize
     ensures { λ r. ⌜ (r ≤ a) × (r ≤ b) ⌝ }
@@ -292,7 +386,38 @@ fn tell_why(
     put_explanation(told, &marks[..shown], names);
 }
 
-// A match, a listing or an explanation, whose marks are as many as there are numbers in the result area.
+// One of the calls that are lent a result area.
+fn tell_results(
+    kind: u32,
+    rule: &[u8],
+    flags: u32,
+    sub: &[u8],
+    budget: u32,
+    area: &mut [u32],
+    work: &mut [u32],
+    results: &mut [u32],
+    names: &mut [u8],
+) {
+    if kind == MATCH {
+        let outcome = matching::match_line(rule, flags, sub, budget, area, work, results, names);
+        put_outcome(outcome, results, names);
+        return;
+    }
+    if kind == SCAN {
+        let told = scanning::match_all(rule, flags, sub, budget, area, work, results, names);
+        put_listing(told, results, names);
+        return;
+    }
+    if kind == BATCH {
+        let told = batching::match_lines(rule, flags, sub, budget, area, work, results, names);
+        put_batch(told, results, names);
+        return;
+    }
+    let told = listing::list_readings(rule, flags, sub, budget, area, work, results, names);
+    put_listing(told, results, names);
+}
+
+// Any call. The marks of an explanation are as many as there are numbers in the result area.
 fn tell(
     kind: u32,
     rule: &[u8],
@@ -310,13 +435,7 @@ fn tell(
         tell_why(rule, flags, sub, budget, area, work, names, &mut marks[..k]);
         return;
     }
-    if kind == 0 {
-        let outcome = matching::match_line(rule, flags, sub, budget, area, work, results, names);
-        put_outcome(outcome, results, names);
-        return;
-    }
-    let told = listing::list_readings(rule, flags, sub, budget, area, work, results, names);
-    put_listing(told, results, names);
+    tell_results(kind, rule, flags, sub, budget, area, work, results, names);
 }
 
 // A word of a line.
@@ -358,6 +477,37 @@ fn within(n: u32, length: usize) -> usize
     lesser(n as usize, length)
 }
 
+// The bytes that the word between two positions gives, behind the first ones of an area full of letters `a`; it says where they end. Letters that are asked
+// for stand there already.
+fn piece(input: &[u8], at: usize, end: usize, area: &mut [u8], first: usize) -> usize
+    requires { ⌜ (end ≤ length (now input)) × (first ≤ length (now area)) ⌝ }
+    ensures { λ r. ⌜ r ≤ length (now (area .entry)) ⌝ }
+{
+    let room = area.len();
+    if at < end {
+        if input[at] == b'x' {
+            let letters = vectors::number(input, at + 1, end, 2000000);
+            return first + within(letters, room - first);
+        }
+    }
+    first + vectors::decode(input, at, end, &mut area[first..room])
+}
+
+// The words from a position up to another, one behind another; it says how many bytes they are.
+fn pieces(input: &[u8], from: usize, to: usize, area: &mut [u8]) -> usize
+    requires { ⌜ (from ≤ to) × (to ≤ length (now input)) ⌝ }
+    ensures { λ r. ⌜ r ≤ length (now (area .entry)) ⌝ }
+{
+    let mut at = from;
+    let mut n: usize = 0;
+    while at < to {
+        let end = vectors::word_end(input, at, to);
+        n = piece(input, at, end, area, n);
+        at = end + 1;
+    }
+    n
+}
+
 // The call that the line between two positions asks for, on a subject.
 fn call(
     input: &[u8],
@@ -371,9 +521,9 @@ fn call(
 )
     requires { ⌜ (from ≤ to) × (to ≤ length (now input)) ⌝ }
 {
-    let mut rule = [0u8; RULE_ROOM];
+    let mut rule = [b'a'; RULE_ROOM];
     let w = word(input, from, to, 7);
-    let n = vectors::decode(input, w.at, w.end, &mut rule);
+    let n = piece(input, w.at, w.end, &mut rule, 0);
     let kind = number(input, from, to, 0);
     let flags = number(input, from, to, 1);
     let budget = number(input, from, to, 2);
@@ -394,7 +544,7 @@ fn call(
     );
 }
 
-// The subject in hex, or so many letters.
+// The subject from its pieces, and then the call.
 fn line(
     input: &[u8],
     from: usize,
@@ -406,20 +556,10 @@ fn line(
 )
     requires { ⌜ (from ≤ to) × (to ≤ length (now input)) ⌝ }
 {
+    let mut sub = [b'a'; SUBJECT_ROOM];
     let w = word(input, from, to, 8);
-    let at = w.at;
-    let end = w.end;
-    if at < end {
-        if input[at] == b'x' {
-            let letters = [b'a'; LETTERS];
-            let k = within(vectors::number(input, at + 1, end, 2000000), LETTERS);
-            call(input, from, to, &letters[..k], area, work, results, names);
-            return;
-        }
-    }
-    let mut sub = [0u8; 1000];
-    let k = vectors::decode(input, at, end, &mut sub);
-    call(input, from, to, &sub[..k], area, work, results, names);
+    let n = pieces(input, w.at, to, &mut sub);
+    call(input, from, to, &sub[..n], area, work, results, names);
 }
 
 fn lines(input: &[u8], area: &mut [u32], work: &mut [u32], results: &mut [u32], names: &mut [u8]) {

@@ -8,11 +8,11 @@ use Rattle.call_vectors.proofs.call.Tie as tie
 word-requires : tie.Need-word-requires
 word-requires c κs = search needs
 
-slice-aggregate-decode : tie.Need-slice-aggregate-decode
-slice-aggregate-decode c = search needs
+slice-aggregate-piece : tie.Need-slice-aggregate-piece
+slice-aggregate-piece c = search needs
 
-decode-requires : tie.Need-decode-requires
-decode-requires c κs = search needs
+piece-requires : tie.Need-piece-requires
+piece-requires c κs = search needs
 
 number-requires : tie.Need-number-requires
 number-requires c κs = search needs
@@ -51,7 +51,7 @@ array-share-prefix-rule : tie.Need-array-share-prefix-rule
 array-share-prefix-rule c = search needs
 
 slice-aggregate-tell : tie.Need-slice-aggregate-tell
-slice-aggregate-tell c = search needs
+slice-aggregate-tell c = simp length-take (omega arith)
 
 slice-relend-prefix-tell : tie.Need-slice-relend-prefix-tell
 slice-relend-prefix-tell c = search needs
@@ -100,8 +100,8 @@ call-spec =
     tie.close
     (tie.spec
     word-requires
-    slice-aggregate-decode
-    decode-requires
+    slice-aggregate-piece
+    piece-requires
     number-requires
     number-requires-2
     number-requires-3

@@ -29,11 +29,8 @@ same-length-3 c = search needs
 returns : tie.Need-returns
 returns c = search needs
 
-match-line-requires : tie.Need-match-line-requires
-match-line-requires c κs = search needs
-
-put-outcome-requires : tie.Need-put-outcome-requires
-put-outcome-requires c κs = search needs
+tell-results-requires : tie.Need-tell-results-requires
+tell-results-requires c κs = search needs
 
 same-length-4 : tie.Need-same-length-4
 same-length-4 c = search needs
@@ -50,27 +47,6 @@ same-length-7 c = search needs
 returns-2 : tie.Need-returns-2
 returns-2 c = search needs
 
-list-readings-requires : tie.Need-list-readings-requires
-list-readings-requires c κs = search needs
-
-put-listing-requires : tie.Need-put-listing-requires
-put-listing-requires c κs = search needs
-
-same-length-8 : tie.Need-same-length-8
-same-length-8 c = search needs
-
-same-length-9 : tie.Need-same-length-9
-same-length-9 c = search needs
-
-same-length-10 : tie.Need-same-length-10
-same-length-10 c = search needs
-
-same-length-11 : tie.Need-same-length-11
-same-length-11 c = search needs
-
-returns-3 : tie.Need-returns-3
-returns-3 c = search needs
-
 pub tell-spec : {M : Type 1} → statement M
 tell-spec =
     tie.close
@@ -83,17 +59,9 @@ tell-spec =
     same-length-2
     same-length-3
     returns
-    match-line-requires
-    put-outcome-requires
+    tell-results-requires
     same-length-4
     same-length-5
     same-length-6
     same-length-7
-    returns-2
-    list-readings-requires
-    put-listing-requires
-    same-length-8
-    same-length-9
-    same-length-10
-    same-length-11
-    returns-3)
+    returns-2)
