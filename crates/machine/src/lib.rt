@@ -25,8 +25,10 @@ pub use stack::push;
 pub use stack::push_explore;
 pub use stack::save_and_write;
 
-// The kinds of the nodes that several crates ask for: a byte item, a branch that is not the last, the rule's end, and a run.
+// The kinds of the nodes that several crates ask for: a byte item, the end of a group, a branch that is not the last, the rule's end, and a run.
 pub const BYTE: u32 = 0;
+
+pub const CLOSE: u32 = 4;
 
 pub const BRANCH: u32 = 5;
 

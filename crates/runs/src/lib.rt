@@ -3,6 +3,7 @@
 // A run counts the steps that the plain walk makes, two for each byte and those of each end that is passed over, to the last one of the budget. It
 // costs one look at each byte and at each of those ends, and writes one frame at most.
 use machine::BYTE;
+use machine::CLOSE;
 use machine::Machine;
 use machine::RUN;
 use machine::Ran;
@@ -22,6 +23,9 @@ ghost use Rattle.machine.specs.Code.{mostOf, Fits};
 ghost use Rattle.machine.specs.Moves.{Now, go, extent, strides, stopped, below};
 ghost use Rattle.machine.specs.Words.{stackOf, nowOf, Measured};
 ghost use Rattle.machine.specs.Ready.{Leads, RanBy, Missed, Asks, StackFits, Ready};
+
+// The longest node, a byte item: its class is the last eight numbers.
+const NODE_LENGTH: usize = 11;
 
 fn nearer(a: usize, b: usize) -> usize
     ensures { λ r. ⌜ r ≡ min a b ⌝ }
@@ -80,11 +84,15 @@ struct Gate {
     base: usize,
 }
 
-// A byte item asks for a byte, and so does a run that owes a round: its decision is a step more.
-fn gate_of(code: &[u32], pc: usize) -> Gate
-    requires { ⌜ Fits (now code) pc × (length (now code) < 2 ^ 32) ⌝ }
+// A byte item asks for a byte, and so does a run that owes a round: its decision is a step more. What is read is tested here, since nothing is known of a
+// node that stands behind another.
+fn item_gate(code: &[u32], pc: usize) -> Gate
+    requires { ⌜ (pc < 2 ^ 32) × (length (now code) < 2 ^ 32) ⌝ }
     ensures { λ r. ⌜ (r .cost ≤ 2) × (1 ≤ r .cost → (r .base + 8 ≤ length (now (code .entry))) × ((sub : List ℕ) → Asks (now (code .entry)) sub pc (r .cost) (has (drop (r .base) (now (code .entry)))))) ⌝ }
 {
+    if code.len() < pc + NODE_LENGTH {
+        return Gate { cost: 0, base: 0 };
+    }
     let kind = code[pc];
     if kind == BYTE {
         return Gate {
@@ -93,17 +101,40 @@ fn gate_of(code: &[u32], pc: usize) -> Gate
         };
     }
     if kind == RUN {
+        let body = code[pc + 6] as usize;
         if 0 < code[pc + 2] {
             if 0 < code[pc + 3] {
-                let body = code[pc + 6] as usize;
-                return Gate {
-                    cost: 2,
-                    base: body + 3,
-                };
+                if body + NODE_LENGTH <= code.len() {
+                    return Gate {
+                        cost: 2,
+                        base: body + 3,
+                    };
+                }
             }
         }
     }
     Gate { cost: 0, base: 0 }
+}
+
+// The end of a group asks for what the node behind it does: it is a step more, and what it wrote is undone when that node fails.
+fn gate_of(code: &[u32], pc: usize) -> Gate
+    requires { ⌜ Fits (now code) pc × (length (now code) < 2 ^ 32) ⌝ }
+    ensures { λ r. ⌜ (r .cost ≤ 3) × (1 ≤ r .cost → (r .base + 8 ≤ length (now (code .entry))) × ((sub : List ℕ) → Asks (now (code .entry)) sub pc (r .cost) (has (drop (r .base) (now (code .entry)))))) ⌝ }
+{
+    if code[pc] != CLOSE {
+        return item_gate(code, pc);
+    }
+    let behind = code[pc + 1] as usize;
+    let gate = item_gate(code, behind);
+    let cost = gate.cost;
+    if cost == 0 {
+        return gate;
+    }
+    let base = gate.base;
+    Gate {
+        cost: cost + 1,
+        base: base,
+    }
 }
 
 // At how many positions from `high` down, of at most so many, no byte of a class stands; the class is lent as above.

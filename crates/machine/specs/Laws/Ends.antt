@@ -1,5 +1,5 @@
 -- Ends of a run that fail at once: where the node that follows asks for a byte that does not stand at an end, so many steps lead to the next
--- lower end, and from the lowest one they fall back. Such nodes are a byte item, and a run that owes a round.
+-- lower end, and from the lowest one they fall back. Such nodes are a byte item, a run that owes a round, and the end of a group before either.
 use mathlib.Core.Path.{_≡_, refl}
 use mathlib.Core.List.{List, [], _∷_}
 use mathlib.Core.Bool.{Bool, true, false}
@@ -13,10 +13,12 @@ use Rattle.syntax.specs.Limits.{unset}
 use Rattle.semantics.specs.Repeats.{isFull}
 use Rattle.semantics.specs.Walk.{step, miss}
 use Rattle.machine.specs.Code.{Program, pickMost, mostOf, repeatAt}
-use Rattle.machine.specs.Moves.{Stack, Now, go, takes, strides, stopped, descend, below, endsOf, fall, ran, bytesOf, move}
+use Rattle.machine.specs.Moves.{Stack, Now, emitting, set2, saved, go, goSet, takes, strides, stopped, descend, below, endsOf, fall, ran, bytesOf, carryOut, move}
 use Rattle.machine.specs.Ready.{Leads, stay, Missed, Asks}
+use Rattle.machine.specs.Laws.Code.{decode-at}
 use Rattle.machine.specs.Laws.Extent.{extent-none}
 use Rattle.machine.specs.Laws.Loop.{move-run, leads-run, leads-join}
+use Rattle.machine.specs.Laws.Run.{fall-saved}
 use Rattle.machine.specs.Laws.Branches.{leads-on, move-miss}
 
 -- some rounds are allowed
@@ -48,6 +50,19 @@ module _ (p : Program) (sub : List ℕ) (pc : ℕ) where
 
     pub asks-run : Asks p sub pc 2 (has (drop (body + 3) p))
     asks-run at regs st e = leads-run p sub _ _ is (move-none at regs st e)
+
+  move-close : (at : ℕ) (regs : List ℕ) (st : Stack) → getD p pc 0 ≡ 4
+      → move p sub (record { pc = pc; at = at; regs = regs; stack = st }) ≡ emitting step (goSet (getD p (pc + 3) 0) (getD regs (getD p (pc + 2) 0) 0) at (getD p (pc + 1) 0) at regs st)
+  unfolding move carryOut
+  move-close at regs st is = rw (decode-at p pc 4 is)
+
+  -- the end of a group is a step more, and what it writes is undone when the node behind it fails
+  pub asks-close : (cost : ℕ) (f : ℕ → Bool) → getD p pc 0 ≡ 4 → Asks p sub (getD p (pc + 1) 0) cost f → Asks p sub pc (cost + 1) f
+  asks-close cost f is asks at regs st e =
+      let slot = getD p (pc + 3) 0 in
+      let from = getD regs (getD p (pc + 2) 0) 0 in
+      let z : cost + 1 ≡ 0 + 1 + cost = omega arith in
+      rw (z, ← fall-saved p slot from at regs st) (leads-join p sub (leads-on p sub stay is (omega arith) (move-close at regs st is)) (asks at (set2 regs slot from at) (saved regs slot ∷ st) e))
 
 -- From an end down, where the node asks for a byte of the set f.
 module _ {p : Program} {sub : List ℕ} {pc cost : ℕ} (f : ℕ → Bool) (asks : Asks p sub pc cost f) (low : ℕ) (regs : List ℕ) (st : Stack) where

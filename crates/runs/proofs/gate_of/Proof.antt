@@ -1,95 +1,68 @@
--- `gate_of` meets its contract: by the kind of the node, its numbers are in range, and it fails where no byte of its set stands.
+-- `gate_of` meets its contract: any node but the end of a group has the gate of its own bytes; the end of a group has that of the node behind it, for a step more.
+use Prim.Native.Nat.{_+_}
 use native.Mathlib.Omega.{arith}
 use denote.Ref.{now}
+use lib.ListN.{drop}
+use Rattle.charset.specs.Class.{has}
 use Rattle.machine.specs.Laws.Code.{fits-at}
-use Rattle.machine.specs.Laws.Ends.{asks-byte, asks-run}
+use Rattle.machine.specs.Laws.Ends.{asks-close}
 use borrow.Author.Needs.{needs}
 use Rattle.runs.proofs.gate_of.Statement.{statement}
 use Rattle.runs.proofs.gate_of.Tie as tie
 
-mul-kind : tie.Need-mul-kind
-mul-kind c = search needs
+mul-if1 : tie.Need-mul-if1
+mul-if1 c = search needs
 
-shared-slice-read-kind : tie.Need-shared-slice-read-kind
-shared-slice-read-kind c = c .before .pre .0 .here
+shared-slice-read-if1 : tie.Need-shared-slice-read-if1
+shared-slice-read-if1 c = search needs
 
-add-t9 : tie.Need-add-t9
-add-t9 c = omega (arith, fits-at (now (c .before .before .args .code)) (c .before .before .args .pc) 0 (c .if1 .taken) (c .before .before .pre .0), c .before .before .pre .1)
+item-gate-requires : tie.Need-item-gate-requires
+item-gate-requires c κs = search needs
 
 returns : tie.Need-returns
-returns c =
-    let s = c .before .before in
-    let f = fits-at (now (s .args .code)) (s .args .pc) 0 (c .if1 .taken) (s .pre .0) in
-    (omega arith, λ _. (omega arith, λ sub. asks-byte (now (s .args .code)) sub (s .args .pc) (c .if1 .taken)))
+returns c = search needs
 
-add-if3 : tie.Need-add-if3
-add-if3 c = search needs
+add-behind : tie.Need-add-behind
+add-behind c = search needs
 
-mul-if3 : tie.Need-mul-if3
-mul-if3 c = search needs
+mul-behind : tie.Need-mul-behind
+mul-behind c = search needs
 
-shared-slice-read-if3 : tie.Need-shared-slice-read-if3
-shared-slice-read-if3 c = omega (arith, (fits-at (now (c .before .before .before .before .args .code)) (c .before .before .before .before .args .pc) 10 (c .before .if2 .taken) (c .before .before .before .before .pre .0)) .0, (fits-at (now (c .before .before .before .before .args .code)) (c .before .before .before .before .args .pc) 10 (c .before .if2 .taken) (c .before .before .before .before .pre .0)) .1, c .before .before .before .before .pre .1)
+shared-slice-read-behind : tie.Need-shared-slice-read-behind
+shared-slice-read-behind c = omega (arith, (fits-at (now (c .before .before .before .before .args .code)) (c .before .before .before .before .args .pc) 4 (c .before .if1 .left) (c .before .before .before .before .pre .0)) .0)
 
-add-if4 : tie.Need-add-if4
-add-if4 c = search needs
+cast-behind : tie.Need-cast-behind
+cast-behind c = omega (arith, c .shared-slice-known3 .given (c .before .before .before .before .args .pc + 1))
 
-mul-if4 : tie.Need-mul-if4
-mul-if4 c = search needs
-
-shared-slice-read-if4 : tie.Need-shared-slice-read-if4
-shared-slice-read-if4 c = omega (arith, (fits-at (now (c .before .before .before .before .before .before .args .code)) (c .before .before .before .before .before .before .args .pc) 10 (c .before .before .before .if2 .taken) (c .before .before .before .before .before .before .pre .0)) .0, (fits-at (now (c .before .before .before .before .before .before .args .code)) (c .before .before .before .before .before .before .args .pc) 10 (c .before .before .before .if2 .taken) (c .before .before .before .before .before .before .pre .0)) .1, c .before .before .before .before .before .before .pre .1)
-
-add-body : tie.Need-add-body
-add-body c = search needs
-
-mul-body : tie.Need-mul-body
-mul-body c = search needs
-
-shared-slice-read-body : tie.Need-shared-slice-read-body
-shared-slice-read-body c = omega (arith, (fits-at (now (c .before .before .before .before .before .before .before .before .args .code)) (c .before .before .before .before .before .before .before .before .args .pc) 10 (c .before .before .before .before .before .if2 .taken) (c .before .before .before .before .before .before .before .before .pre .0)) .0, (fits-at (now (c .before .before .before .before .before .before .before .before .args .code)) (c .before .before .before .before .before .before .before .before .args .pc) 10 (c .before .before .before .before .before .if2 .taken) (c .before .before .before .before .before .before .before .before .pre .0)) .1, c .before .before .before .before .before .before .before .before .pre .1)
-
-cast-body : tie.Need-cast-body
-cast-body c = omega (arith, (fits-at (now (c .before .before .before .before .before .before .before .before .args .code)) (c .before .before .before .before .before .before .before .before .args .pc) 10 (c .before .before .before .before .before .if2 .taken) (c .before .before .before .before .before .before .before .before .pre .0)) .1, c .before .before .before .before .before .before .before .before .pre .1)
-
-add-t20 : tie.Need-add-t20
-add-t20 c = omega (arith, (fits-at (now (c .before .before .before .before .before .before .before .before .args .code)) (c .before .before .before .before .before .before .before .before .args .pc) 10 (c .before .before .before .before .before .if2 .taken) (c .before .before .before .before .before .before .before .before .pre .0)) .0, (fits-at (now (c .before .before .before .before .before .before .before .before .args .code)) (c .before .before .before .before .before .before .before .before .args .pc) 10 (c .before .before .before .before .before .if2 .taken) (c .before .before .before .before .before .before .before .before .pre .0)) .1, c .before .before .before .before .before .before .before .before .pre .1)
+item-gate-requires-2 : tie.Need-item-gate-requires-2
+item-gate-requires-2 c κs = (omega (arith, c .shared-slice-known3 .given (c .before .before .before .before .args .pc + 1)), c .before .before .before .before .pre .1)
 
 returns-2 : tie.Need-returns-2
-returns-2 c =
-    let s = c .before .before .before .before .before .before .before .before in
-    let f = fits-at (now (c .before .before .before .before .before .before .before .before .args .code)) (c .before .before .before .before .before .before .before .before .args .pc) 10 (c .before .before .before .before .before .if2 .taken) (c .before .before .before .before .before .before .before .before .pre .0) in
-    (omega arith, λ _. (omega (arith, f .1), λ sub. asks-run (now (s .args .code)) sub (s .args .pc) (c .before .before .before .before .before .if2 .taken) (c .before .before .before .if3 .taken) (c .before .if4 .taken)))
+returns-2 c = (omega (arith, c .before .item-gate2 .ensures .0), λ h. absurd (omega (arith, c .if2 .taken)))
+
+add-t9 : tie.Need-add-t9
+add-t9 c = search needs
 
 returns-3 : tie.Need-returns-3
-returns-3 c = (omega arith, λ h. absurd (omega arith))
-
-returns-4 : tie.Need-returns-4
-returns-4 c = (omega arith, λ h. absurd (omega arith))
-
-returns-5 : tie.Need-returns-5
-returns-5 c = (omega arith, λ h. absurd (omega arith))
+returns-3 c =
+    let p = now (c .before .before .before .before .before .before .args .code) in
+    let g = c .before .item-gate2 in
+    let x = g .ensures .1 (omega (arith, c .if2 .left)) in
+    (omega (arith, g .ensures .0), λ _. (x .0, λ sub. asks-close p sub (c .before .before .before .before .before .before .args .pc) (g .result .cost) (has (drop (g .result .base) p)) (c .before .before .before .if1 .left) (x .1 sub)))
 
 pub gate-of-spec : {M : Type 1} → statement M
 gate-of-spec =
     tie.close
     (tie.spec
-    mul-kind
-    shared-slice-read-kind
-    add-t9
+    mul-if1
+    shared-slice-read-if1
+    item-gate-requires
     returns
-    add-if3
-    mul-if3
-    shared-slice-read-if3
-    add-if4
-    mul-if4
-    shared-slice-read-if4
-    add-body
-    mul-body
-    shared-slice-read-body
-    cast-body
-    add-t20
+    add-behind
+    mul-behind
+    shared-slice-read-behind
+    cast-behind
+    item-gate-requires-2
     returns-2
-    returns-3
-    returns-4
-    returns-5)
+    add-t9
+    returns-3)
