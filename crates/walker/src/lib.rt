@@ -5,11 +5,13 @@
 use branches::take_branch;
 use machine::BRANCH;
 use machine::BYTE;
+use machine::CLOSE;
 use machine::END;
 use machine::Machine;
 use machine::RUN;
 use machine::Ran;
 use machine::Stop;
+use machine::fall_back;
 use nodes::begin_last_branch;
 use nodes::close_group;
 use nodes::open_group;
@@ -27,15 +29,17 @@ ghost use lib.ListN.{length, getD};
 ghost use Rattle.syntax.specs.Limits.{registers};
 ghost use Rattle.semantics.specs.Walk.{Trace};
 ghost use Rattle.machine.specs.Code.{Fits};
+ghost use Rattle.machine.specs.Moves.{Stack, go, fall};
 ghost use Rattle.machine.specs.Words.{stackOf, nowOf, movedOn};
 ghost use Rattle.machine.specs.Ready.{until, Several, Leads, RanBy, StackFits, Ready, Agrees};
 
-// The kinds of a group's opening, of its end and of the end of a round.
+// The kinds of a group's opening and of the end of a round.
 const OPEN: u32 = 3;
 
-const CLOSE: u32 = 4;
-
 const ROUND_END: u32 = 8;
+
+// The longest node, a byte item: its class is the last eight numbers.
+const NODE_LENGTH: usize = 11;
 
 // Where the machine stands, and the steps that are left. They are handed on in place of those used, so that the loops keep one number and not two.
 struct Standing {
@@ -116,6 +120,56 @@ fn leave_group(
     }
 }
 
+// Whether a group closes in vain: behind it stands a byte item whose byte is not there. What is read is tested here, since nothing is known of a node that
+// stands behind another.
+fn closes_in_vain(code: &[u32], sub: &[u8], m: Machine) -> bool
+    requires { ⌜ (m .pc + 4 ≤ length (now code)) × (getD (now code) (m .pc) 0 ≡ 4) × (length (now sub) < 2 ^ 32) × (length (now code) < 2 ^ 32) ⌝ }
+    ensures { λ r. ⌜ (r ≡ true → (regs : List ℕ) (st : Stack) → Leads (now (code .entry)) (now (sub .entry)) (go (m .pc) (m .at) regs st) 2 (fall (now (code .entry)) regs st)) ⌝ }
+{
+    let pc = m.pc as usize;
+    let behind = code[pc + 1] as usize;
+    if code.len() < behind + NODE_LENGTH {
+        return false;
+    }
+    if code[behind] != BYTE {
+        return false;
+    }
+    let at = m.at as usize;
+    if sub.len() <= at {
+        return true;
+    }
+    if charset::contains(code, behind + 3, sub[at]) {
+        return false;
+    }
+    true
+}
+
+// A group's end. Where it closes in vain nothing is written only to be undone: a run before it comes here once for each of its ends.
+fn end_group(
+    code: &[u32],
+    sub: &[u8],
+    regs: &mut [u32],
+    work: &mut [u32],
+    m: Machine,
+    left: u32,
+) -> Standing
+    requires { ⌜ (getD (now code) (m .pc) 0 ≡ 4) × (m .live ≡ true) × (1 ≤ left) × (length (now regs) ≡ registers) × (length (now sub) < 2 ^ 32) × (length (now code) < 2 ^ 32) ⌝ }
+    requires { ⌜ ((first : List ℕ) × (t : Trace) × Ready (now code) (now sub) (length (now work)) left first (nowOf (now regs) (now work) m) t) ⌝ }
+    ensures { λ r. ⌜ (r .rest < left) × Leads (now (code .entry)) (now (sub .entry)) (nowOf (now (regs .entry)) (now (work .entry)) m) (left - r .rest) (nowOf (now (regs .exit)) (now (work .exit)) (r .head)) ⌝ }
+{
+    if 1 < left {
+        if closes_in_vain(code, sub, m) {
+            let fallen = fall_back(code, regs, work, m.height);
+            let two_less = left - 2;
+            return Standing {
+                rest: two_less,
+                head: fallen,
+            };
+        }
+    }
+    leave_group(code, sub, regs, work, m, left)
+}
+
 // Byte items one after the other: those whose bytes are there, and those that are fallen back to. They need no jump of the kind.
 fn take_bytes(
     code: &[u32],
@@ -175,7 +229,7 @@ fn advance(
         return take_bytes(code, sub, regs, work, m, left);
     }
     if kind == CLOSE {
-        return leave_group(code, sub, regs, work, m, left);
+        return end_group(code, sub, regs, work, m, left);
     }
     if kind == BRANCH {
         let on = take_branch(code, sub, work, m, left);

@@ -20,19 +20,19 @@ same-length-2 c = c .before .before .before .before .take-bytes .kept .1 .1 .1 .
 returns : tie.Need-returns
 returns c = c .before .before .before .before .take-bytes .ensures
 
-leave-group-requires : tie.Need-leave-group-requires
-leave-group-requires c κs =
+end-group-requires : tie.Need-end-group-requires
+end-group-requires c κs =
     let s = c .before .before .before .before .before .before .before .before in
-    ((sym (s .pre .0 .0) ∙ c .before .before .if2 .taken, s .pre .0 .2, s .pre .0 .3, s .pre .0 .4, s .pre .0 .6), s .pre .1)
+    ((sym (s .pre .0 .0) ∙ c .before .before .if2 .taken, s .pre .0 .2, s .pre .0 .3, s .pre .0 .4, s .pre .0 .5, s .pre .0 .6), s .pre .1)
 
 same-length-3 : tie.Need-same-length-3
-same-length-3 c = c .before .before .before .before .leave-group .kept .1 .1 .0
+same-length-3 c = c .before .before .before .before .end-group .kept .1 .1 .0
 
 same-length-4 : tie.Need-same-length-4
-same-length-4 c = c .before .before .before .before .leave-group .kept .1 .1 .1 .0
+same-length-4 c = c .before .before .before .before .end-group .kept .1 .1 .1 .0
 
 returns-2 : tie.Need-returns-2
-returns-2 c = c .before .before .before .before .leave-group .ensures
+returns-2 c = c .before .before .before .before .end-group .ensures
 
 take-branch-requires : tie.Need-take-branch-requires
 take-branch-requires c κs =
@@ -81,7 +81,7 @@ advance-spec =
     same-length
     same-length-2
     returns
-    leave-group-requires
+    end-group-requires
     same-length-3
     same-length-4
     returns-2
