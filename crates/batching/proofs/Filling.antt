@@ -11,7 +11,7 @@ use Rattle.semantics.specs.Calls.{workAreaNeed}
 use Rattle.semantics.specs.Batches.{linesOf, partsNeed}
 use Rattle.semantics.specs.Laws.Lines.{lines-at-end}
 use Rattle.machine.specs.Theorem.{Stands}
-use Rattle.matching.specs.Outcomes.{between}
+use Rattle.frame.specs.Inputs.{between}
 use Rattle.text.specs.Lines.{lineLength}
 use Rattle.text.specs.Laws.Lines.{line-least, line-within}
 use Rattle.batching.specs.Parts.{filled, Tells, Fills}

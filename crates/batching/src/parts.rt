@@ -17,8 +17,8 @@ ghost use Rattle.syntax.specs.Limits.{rowLength, partLength};
 ghost use Rattle.semantics.specs.Calls.{workAreaNeed};
 ghost use Rattle.semantics.specs.Batches.{low, high, outcomeNumbers};
 ghost use Rattle.openings.specs.Openings.{Opens};
-ghost use Rattle.frame.specs.Inputs.{Held};
-ghost use Rattle.matching.specs.Outcomes.{between, outcomeOf};
+ghost use Rattle.frame.specs.Inputs.{between, Held};
+ghost use Rattle.matching.specs.Outcomes.{outcomeOf};
 ghost use Rattle.batching.specs.Parts.{Answers, Tells};
 
 // all numbers of a part

@@ -1,8 +1,9 @@
--- What calls share: the inputs as they stand in the code's arguments, that a call's return is the one that is defined, and what an inside is lent.
+-- What calls share: the inputs as they stand in the code's arguments, that a call's return is the one that is defined, and what an inside is lent, which
+-- may be a part of a text.
 use mathlib.Core.Path.{_≡_}
 use mathlib.Core.List.{List}
-use Prim.Native.Nat.{ℕ, _≤_}
-use lib.ListN.{length}
+use Prim.Native.Nat.{ℕ, _-_, _≤_}
+use lib.ListN.{length, take, drop}
 use Rattle.syntax.specs.Limits.{subjectLimit, ruleAreaNeed}
 use Rattle.syntax.specs.Tree.{Rule}
 use Rattle.semantics.specs.Calls.{Call, Return, workAreaNeed}
@@ -32,6 +33,10 @@ pub record Returned {A : Type 0} (is : Return A) (told : A) (ruleArea workArea r
 pub record Told {A : Type 0} (is : Return A) (told : A) (resultArea : List ℕ) : Type 0 where
   pub outcome-is : told ≡ is .outcome
   pub result-area-is : resultArea ≡ is .resultArea
+
+-- the part of a text from one position up to another
+abbrev pub between : (text : List ℕ) (from to : ℕ) → List ℕ
+between text from to = take (to - from) (drop from text)
 
 -- a rule stands compiled, held for an inside, and the line and the work area are as a call that is accepted has them
 pub record Held (code subject work : List ℕ) (entry budget : ℕ) : Type 0 where

@@ -4,3 +4,4 @@ pub mod Areas
 pub mod Calls
 pub mod Compiled
 pub mod Preparing
+pub mod Parts

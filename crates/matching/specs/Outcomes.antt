@@ -1,8 +1,8 @@
 -- What a match tells.
 use mathlib.Core.Path.{_≡_}
 use mathlib.Core.List.{List}
-use Prim.Native.Nat.{ℕ, _-_}
-use lib.ListN.{length, take, drop}
+use Prim.Native.Nat.{ℕ}
+use lib.ListN.{length}
 use Rattle.syntax.specs.Limits.{rowLength}
 use Rattle.syntax.specs.Tree.{Rule}
 use Rattle.semantics.specs.States.{State, row}
@@ -11,10 +11,6 @@ use Rattle.semantics.specs.Calls.{over, MatchOutcome, Matched, NotMatched, Exha
 use Rattle.machine.specs.Theorem.{Stands}
 use Rattle.matching.specs.declared.Outcome.{Outcome}
 use Rattle.matching.specs.declared.Outcome.the-variants.{Matched as Found, NotMatched as Missed, Exhausted as Spent, Refused as Denied}
-
--- the part of a text from one position up to another
-abbrev pub between : (text : List ℕ) (from to : ℕ) → List ℕ
-between text from to = take (to - from) (drop from text)
 
 -- what the code's answer means
 unfoldable pub outcomeOf : Outcome → MatchOutcome

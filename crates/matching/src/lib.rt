@@ -25,8 +25,8 @@ ghost use Rattle.syntax.specs.Limits.{rowLength};
 ghost use Rattle.semantics.specs.Calls.{workAreaNeed, matchCall};
 ghost use Rattle.machine.specs.Theorem.{Clear};
 ghost use Rattle.openings.specs.Openings.{Opens};
-ghost use Rattle.frame.specs.Inputs.{callOf, Returned, Held};
-ghost use Rattle.matching.specs.Outcomes.{between, outcomeOf, Finds};
+ghost use Rattle.frame.specs.Inputs.{callOf, Returned, between, Held};
+ghost use Rattle.matching.specs.Outcomes.{outcomeOf, Finds};
 
 // What a match tells: matched or not, and the steps; or the start at which its budget was used up, and the steps; or why it is refused.
 pub enum Outcome {
@@ -36,10 +36,12 @@ pub enum Outcome {
     Refused(Refusal),
 }
 
-// The first match of a compiled rule, with its row written; the registers are clear.
+// The first match of a compiled rule in a part of a text, with its row written; the registers are clear.
 fn search(
     code: &[u32],
-    subject: &[u8],
+    text: &[u8],
+    from: usize,
+    to: usize,
     regs: &mut [u32],
     work: &mut [u32],
     results: &mut [u32],
@@ -47,16 +49,18 @@ fn search(
     budget: u32,
     opening: Opening,
 ) -> Outcome
-    requires { ⌜ Held (now code) (now subject) (now work) entry budget × (rowLength ≤ length (now results)) ⌝ }
-    requires { ⌜ Clear (now regs) × Opens (now code) entry budget opening ⌝ }
-    ensures { λ r. ⌜ Finds (now (code .entry)) (now (subject .entry)) (now (results .entry)) (now (results .exit)) entry budget r ⌝ }
+    requires { ⌜ (from ≤ to) × (to ≤ length (now text)) × (rowLength ≤ length (now results)) ⌝ }
+    requires { ⌜ Held (now code) (between (now text) from to) (now work) entry budget × Clear (now regs) × Opens (now code) entry budget opening ⌝ }
+    ensures { λ r. ⌜ Finds (now (code .entry)) (between (now (text .entry)) from to) (now (results .entry)) (now (results .exit)) entry budget r ⌝ }
 {
     let cost = opening.cost;
     let any = opening.any;
     let set = opening.set;
     match seek(
         code,
-        subject,
+        text,
+        from,
+        to,
         regs,
         work,
         &set,
@@ -76,9 +80,8 @@ fn search(
     }
 }
 
-// The first match of a rule that stands compiled and has this opening, in a part of a text, with its row written. The part is named by its ends because
-// a slice that is handed from one function to the next is copied as one number of 128 bits: where its halves have just been made, that copy waits until
-// all that was stored before them has left for the memory, and for results of many lines that takes longer than a short match.
+// The first match of a rule that stands compiled and has this opening, in a part of a text, with its row written. The part is named by its ends, as
+// `seek` takes it.
 pub fn match_opened(
     code: &[u32],
     entry: u32,
@@ -99,7 +102,9 @@ pub fn match_opened(
     let need = WORK_PER_STEP * budget as usize;
     search(
         code,
-        &text[from..to],
+        text,
+        from,
+        to,
         &mut regs,
         &mut work[..need],
         results,

@@ -158,6 +158,9 @@ pub fn find_opening(code: &[u32], entry: u32, budget: u32, starts: usize) -> Ope
     if s.cost > budget {
         return nothing_known();
     }
+    if s.cost == 0 {
+        return nothing_known();
+    }
     let set = s.set;
     Opening {
         cost: s.cost,

@@ -39,6 +39,8 @@ pub fn search(
             seek(
                 code,
                 subject,
+                0,
+                subject.len(),
                 regs,
                 work,
                 set,

@@ -11,7 +11,6 @@ use Rattle.machine.specs.declared.Machine.{Machine}
 use Rattle.machine.specs.declared.Stop.{Stop}
 use Rattle.machine.specs.declared.Stop.the-variants.{End, Nothing, Spent}
 use Rattle.machine.specs.Moves.{go}
-use Rattle.machine.specs.Words.{nowOf}
 use Rattle.machine.specs.Ready.{until, Ready, Agrees}
 use Rattle.machine.specs.Theorem.{Stands, at-end, at-nothing, at-spent}
 use Rattle.openings.specs.declared.Opening.{Opening}
@@ -41,11 +40,11 @@ module _ {p sub r₀ w₀ : List ℕ} {entry budget : ℕ} {o : Opening} {first 
   pub seeking-none : length sub < begin → Tells p sub r₀ w₀ entry budget o first before r (Missed steps)
   seeking-none h x a st s = g .seeks x a st s .none h
 
-  module _ (h : begin ≤ length sub) (m : Machine) (started : (regs work : List ℕ) → nowOf regs work m ≡ go entry begin regs []) where
-    pub seeking-ready : (x : Rule) → Stands p x entry → Ready p sub (length w) budget r (nowOf r w m) (trace sub x begin)
-    seeking-ready x st = rw (started r w, g .same) (lent-ready (g .lent) x st begin (length w) (g .wide) h)
+  module _ (h : begin ≤ length sub) where
+    pub seeking-ready : (x : Rule) → Stands p x entry → Ready p sub (length w) budget r (go entry begin r []) (trace sub x begin)
+    seeking-ready x st = rw (g .same) (lent-ready (g .lent) x st begin (length w) (g .wide) h)
 
-    module _ {stop : Stop} {r′ w′ : List ℕ} (done : (first : List ℕ) (t : Trace) → Ready p sub (length w) budget first (nowOf r w m) t → Agrees p sub (length w) budget first r′ w′ (until budget 0 t) stop) where
+    module _ {stop : Stop} {r′ w′ : List ℕ} (done : (first : List ℕ) (t : Trace) → Ready p sub (length w) budget first (go entry begin r []) t → Agrees p sub (length w) budget first r′ w′ (until budget 0 t) stop) where
       agrees : (x : Rule) → Stands p x entry → Agrees p sub (length w) budget r r′ w′ (until budget 0 (trace sub x begin)) stop
       agrees x st = done r (trace sub x begin) (seeking-ready x st)
 

@@ -10,7 +10,7 @@ use lib.Dec.{eqb}
 use lib.ListN.{length, getD, take, drop, length-drop}
 use lib.Seq.{drop-drop, take-add, getD-drop}
 use Rattle.text.specs.Lines.{newline, lineLength}
-use Rattle.matching.specs.Outcomes.{between}
+use Rattle.frame.specs.Inputs.{between}
 use Rattle.semantics.specs.Assertions.{isNewline}
 use Rattle.semantics.specs.Batches.{before, linesOf}
 use Rattle.semantics.specs.BatchDemands.{oneMoreIf, newlines}

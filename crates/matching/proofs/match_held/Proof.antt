@@ -3,7 +3,7 @@ use native.Mathlib.Omega.{arith}
 use borrow.Author.Needs.{needs}
 use denote.Ref.{now}
 use Rattle.syntax.specs.Limits.{ruleAreaNeed}
-use Rattle.matching.specs.Laws.Outcomes.{between-all}
+use Rattle.frame.specs.Laws.Parts.{between-all}
 use Rattle.matching.proofs.match_held.Statement.{statement}
 use Rattle.matching.proofs.match_held.Tie as tie
 

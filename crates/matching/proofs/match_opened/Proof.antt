@@ -13,33 +13,24 @@ use Rattle.matching.proofs.match_opened.Tie as tie
 mul-need : tie.Need-mul-need
 mul-need c = search needs
 
-sub-search : tie.Need-sub-search
-sub-search c = c .before .before .before .before .pre .0 .0
-
-part-search-start : tie.Need-part-search-start
-part-search-start c = c .before .before .before .before .pre .0 .0
-
-part-search-end : tie.Need-part-search-end
-part-search-end c = c .before .before .before .before .pre .0 .1
-
 slice-aggregate-search : tie.Need-slice-aggregate-search
 slice-aggregate-search c = search needs
 
 slice-relend-prefix-search : tie.Need-slice-relend-prefix-search
 unfolding workAreaNeed workPerStep
-slice-relend-prefix-search c = c .before .before .before .before .before .before .pre .1 .0 .work-fits
+slice-relend-prefix-search c = c .before .before .before .before .before .pre .1 .0 .work-fits
 
 slice-aggregate-search-2 : tie.Need-slice-aggregate-search-2
 unfolding workAreaNeed workPerStep
-slice-aggregate-search-2 c = sym (length-take-le (workAreaNeed (c .before .before .before .before .before .before .before .args .budget)) (now (c .before .before .before .before .before .before .before .args .work)) (c .before .before .before .before .before .before .before .pre .1 .0 .work-fits))
+slice-aggregate-search-2 c = sym (length-take-le (workAreaNeed (c .before .before .before .before .before .before .args .budget)) (now (c .before .before .before .before .before .before .args .work)) (c .before .before .before .before .before .before .pre .1 .0 .work-fits))
 
 search-requires : tie.Need-search-requires
 unfolding unset registers workAreaNeed workPerStep
 search-requires c κs =
-    let s = c .before .before .before .before .before .before .before .before in
+    let s = c .before .before .before .before .before .before .before in
     let h = s .pre .1 .0 in
     let long = length-take-le (workAreaNeed (s .args .budget)) (now (s .args .work)) (h .work-fits) in
-    ((record { tree = h .tree; stands = h .stands; code-size = h .code-size; subject-fits = h .subject-fits; work-fits = omega (arith, long) }, s .pre .0 .2), (clear-all, s .pre .1 .1))
+    (s .pre .0, (record { tree = h .tree; stands = h .stands; code-size = h .code-size; subject-fits = h .subject-fits; work-fits = omega (arith, long) }, clear-all, s .pre .1 .1))
 
 same-length : tie.Need-same-length
 same-length c = search needs
@@ -50,18 +41,15 @@ same-length-2 c = search needs
 returns : tie.Need-returns
 unfolding workAreaNeed workPerStep
 returns c =
-    let s = c .before .before .before .before .before .before .before .before .before .before .before .before .before .before in
+    let s = c .before .before .before .before .before .before .before .before .before .before .before .before .before in
     let m = c .before .before .before .before .before .search in
-    (m .ensures, drop-at (m .last .1 .1 .1 .0) _ (workAreaNeed (s .args .budget)) (m .kept .1 .1 .1 .0 ∙ length-take-le (workAreaNeed (s .args .budget)) (now (s .args .work)) (s .pre .1 .0 .work-fits)))
+    (m .ensures, drop-at (m .last .1 .1 .1 .1 .1 .0) _ (workAreaNeed (s .args .budget)) (m .kept .1 .1 .1 .1 .1 .0 ∙ length-take-le (workAreaNeed (s .args .budget)) (now (s .args .work)) (s .pre .1 .0 .work-fits)))
 
 pub match-opened-spec : {M : Type 1} → statement M
 match-opened-spec =
     tie.close
     (tie.spec
     mul-need
-    sub-search
-    part-search-start
-    part-search-end
     slice-aggregate-search
     slice-relend-prefix-search
     slice-aggregate-search-2

@@ -4,20 +4,21 @@ use native.Mathlib.Omega.{arith}
 use borrow.Author.Needs.{needs}
 use denote.Ref.{now}
 use Rattle.syntax.specs.Limits.{spansLength, registers}
+use Rattle.frame.specs.Inputs.{between}
 use Rattle.seeking.specs.Laws.Starts.{seeks-begin}
 use Rattle.matching.specs.Laws.Outcomes.{found-reports}
 use Rattle.matching.proofs.search.Statement.{statement}
 use Rattle.matching.proofs.search.Tie as tie
 
 seek-requires : tie.Need-seek-requires
-seek-requires c κs = let p = c .before .before .before .before .before .before .before .before .before .pre in ((p .0 .0, p .1 .0, p .1 .1), record { few = omega arith; small = omega arith })
+seek-requires c κs = let p = c .before .before .before .before .before .before .before .before .before .pre in ((p .0 .0, p .0 .1, record { few = omega arith; small = omega arith }), p .1)
 
 enum-known-begin : tie.Need-enum-known-begin
 enum-known-begin c = search needs
 
 write-row-requires : tie.Need-write-row-requires
 unfolding spansLength registers
-write-row-requires c κs = (omega (arith, c .before .before .before .before .before .before .before .before .before .before .before .before .before .before .before .before .before .before .before .pre .0 .1), omega (arith, c .before .before .before .before .before .before .before .before .before .seek .kept .1 .1 .0, c .before .before .before .before .before .before .before .before .before .before .before .before .before .before .before .before .before .before .before .pre .1 .0 .size))
+write-row-requires c κs = (omega (arith, c .before .before .before .before .before .before .before .before .before .before .before .before .before .before .before .before .before .before .before .pre .0 .2), omega (arith, c .before .before .before .before .before .before .before .before .before .seek .kept .1 .1 .1 .1 .0, c .before .before .before .before .before .before .before .before .before .before .before .before .before .before .before .before .before .before .before .pre .1 .1 .size))
 
 enum-known-steps : tie.Need-enum-known-steps
 enum-known-steps c = search needs
@@ -38,7 +39,7 @@ returns : tie.Need-returns
 unfolding spansLength registers
 returns c =
     let a = c .before .before .before .before .before .before .before .before .before .before .before .before .before .before .before .before .before .before .before .before .before .before .args in
-    λ x st. found-reports (rw (c .before .before .before .before .before .before .begin .given .1) at (c .before .before .before .before .before .before .before .before .before .before .before .before .seek .ensures x _ st (seeks-begin (now (a .subject)) x (a .budget)))) (now (a .results)) (c .before .before .write-row .ensures) (omega (arith, c .before .before .before .before .before .before .before .before .before .before .before .before .seek .kept .1 .1 .0, c .before .before .before .before .before .before .before .before .before .before .before .before .before .before .before .before .before .before .before .before .before .before .pre .1 .0 .size))
+    λ x st. found-reports (rw (c .before .before .before .before .before .before .begin .given .1) at (c .before .before .before .before .before .before .before .before .before .before .before .before .seek .ensures x _ st (seeks-begin (between (now (a .text)) (a .from) (a .to)) x (a .budget)))) (now (a .results)) (c .before .before .write-row .ensures) (omega (arith, c .before .before .before .before .before .before .before .before .before .before .before .before .seek .kept .1 .1 .1 .1 .0, c .before .before .before .before .before .before .before .before .before .before .before .before .before .before .before .before .before .before .before .before .before .before .pre .1 .1 .size))
 
 same-length-4 : tie.Need-same-length-4
 same-length-4 c = search needs
@@ -47,7 +48,7 @@ same-length-5 : tie.Need-same-length-5
 same-length-5 c = search needs
 
 returns-2 : tie.Need-returns-2
-returns-2 c = let a = c .before .before .before .before .before .before .before .before .before .before .before .before .before .before .before .before .before .args in λ x st. (rw (c .before .steps .given .1) at (c .before .before .before .before .before .before .before .seek .ensures x _ st (seeks-begin (now (a .subject)) x (a .budget))), refl)
+returns-2 c = let a = c .before .before .before .before .before .before .before .before .before .before .before .before .before .before .before .before .before .args in λ x st. (rw (c .before .steps .given .1) at (c .before .before .before .before .before .before .before .seek .ensures x _ st (seeks-begin (between (now (a .text)) (a .from) (a .to)) x (a .budget))), refl)
 
 same-length-6 : tie.Need-same-length-6
 same-length-6 c = search needs
@@ -56,7 +57,7 @@ same-length-7 : tie.Need-same-length-7
 same-length-7 c = search needs
 
 returns-3 : tie.Need-returns-3
-returns-3 c = let a = c .before .before .before .before .before .before .before .before .before .before .before .before .before .before .before .before .before .args in λ x st. (rw (c .before .begin2 .given .1) at (c .before .before .before .before .before .before .before .seek .ensures x _ st (seeks-begin (now (a .subject)) x (a .budget))), refl)
+returns-3 c = let a = c .before .before .before .before .before .before .before .before .before .before .before .before .before .before .before .before .before .args in λ x st. (rw (c .before .begin2 .given .1) at (c .before .before .before .before .before .before .before .seek .ensures x _ st (seeks-begin (between (now (a .text)) (a .from) (a .to)) x (a .budget))), refl)
 
 pub search-spec : {M : Type 1} → statement M
 search-spec =

@@ -1,10 +1,8 @@
--- A match's answer is what its call returns; and the whole of a text as a part of it.
+-- A match's answer is what its call returns.
 use mathlib.Core.Path.{_≡_, refl, sym, _∙_}
 use mathlib.Core.List.{List, _++_}
-use Prim.Native.Nat.{ℕ, _+_, _-_, _≤_}
-use native.Mathlib.Omega.{arith}
-use lib.ListN.{length, take, drop, length-drop}
-use lib.Seq.{take-all, length-take-le}
+use Prim.Native.Nat.{ℕ, _+_, _≤_}
+use lib.ListN.{length, take, drop}
 use Rattle.syntax.specs.Limits.{ruleAreaNeed, spansLength, rowLength}
 use Rattle.syntax.specs.Tree.{Rule}
 use Rattle.syntax.specs.Reading.{namesOf}
@@ -14,20 +12,12 @@ use Rattle.semantics.specs.Calls.{Call, workAreaNeed, over, cleared, leaving, m
 use Rattle.matching.specs.declared.Outcome.{Outcome as Answered}
 use Rattle.matching.specs.declared.Outcome.the-variants.{Matched, NotMatched, Exhausted, Refused}
 use Rattle.frame.specs.Inputs.{Told}
-use Rattle.matching.specs.Outcomes.{between, outcomeOf, Reports}
+use Rattle.matching.specs.Outcomes.{outcomeOf, Reports}
 use Rattle.frame.specs.Laws.Areas.{over-none, over-first}
 use Rattle.index.specs.Rows.{rowOf}
 use Rattle.index.specs.Laws.Rows.{rowOf-length}
 use Rattle.seeking.specs.Starts.{Match}
 use Rattle.seeking.specs.Laws.Starts.{match-row}
-
--- A part of a text ----------------------------------------------------------------
-
-pub between-length : (text : List ℕ) (from to : ℕ) → from ≤ to → to ≤ length text → length (between text from to) ≡ to - from
-between-length text from to h l = length-take-le (to - from) (drop from text) (omega (arith, length-drop from text))
-
-pub between-all : (text : List ℕ) → between text 0 (length text) ≡ text
-between-all text = take-all (length text - 0) text (omega arith)
 
 -- What a call returns -------------------------------------------------------------
 

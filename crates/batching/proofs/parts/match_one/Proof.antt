@@ -4,8 +4,9 @@ use native.Mathlib.Omega.{arith}
 use borrow.Author.Needs.{needs}
 use denote.Ref.{now}
 use Rattle.syntax.specs.Limits.{subjectLimit}
-use Rattle.matching.specs.Outcomes.{between, outcomeOf}
-use Rattle.matching.specs.Laws.Outcomes.{between-length}
+use Rattle.frame.specs.Inputs.{between}
+use Rattle.matching.specs.Outcomes.{outcomeOf}
+use Rattle.frame.specs.Laws.Parts.{between-length}
 use Rattle.batching.specs.Laws.Parts.{long-told, short-told}
 use Rattle.batching.proofs.parts.match_one.Statement.{statement}
 use Rattle.batching.proofs.parts.match_one.Tie as tie

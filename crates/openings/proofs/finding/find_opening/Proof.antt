@@ -51,8 +51,14 @@ nothing-known-requires-3 c κs = tt
 returns-3 : tie.Need-returns-3 Inv-loop μ-loop
 returns-3 c = inl (c .nothing-known3 .ensures)
 
+nothing-known-requires-4 : tie.Need-nothing-known-requires-4 Inv-loop μ-loop
+nothing-known-requires-4 c κs = tt
+
 returns-4 : tie.Need-returns-4 Inv-loop μ-loop
-returns-4 c = knows-all (now (c .before .before .before .before .before .before .before .before .before .args .code)) (c .before .before .before .before .before .before .before .before .before .args .entry) (c .before .before .before .before .before .loop .s) (c .before .before .before .before .before .loop .inv .1) (c .before .before .before .before .before .before .before .before .before .args .budget) (omega arith) (omega arith)
+returns-4 c = inl (c .nothing-known4 .ensures)
+
+returns-5 : tie.Need-returns-5 Inv-loop μ-loop
+returns-5 c = knows-all (now (c .before .before .before .before .before .before .before .before .before .before .before .args .code)) (c .before .before .before .before .before .before .before .before .before .before .before .args .entry) (c .before .before .before .before .before .before .before .loop .s) (c .before .before .before .before .before .before .before .loop .inv .1) (c .before .before .before .before .before .before .before .before .before .before .before .args .budget) (omega arith) (omega arith)
 
 pub find-opening-spec : {M : Type 1} → statement M
 find-opening-spec =
@@ -72,4 +78,6 @@ find-opening-spec =
     loop-again
     nothing-known-requires-3
     returns-3
-    returns-4)
+    nothing-known-requires-4
+    returns-4
+    returns-5)
