@@ -1,11 +1,11 @@
-/* Terravisco: matching a Perl regular expression against a line or a day's lines, within a budget of steps, and telling why a line does not match.
+/* Terravisco: matching a Perl regular expression against a line or a day's lines, within a budget of steps, telling why a line does not match, and rule cards.
  *
  * Link with libterravisco.a, which `rt staticlib terravisco` writes to target/staticlib/.
  *
  * Nothing is required of what is handed in: any bytes, any flags, any budget and areas of any length give an answer or a refusal.
  * What a caller owes is only what C cannot tell: each pointer leads to as many bytes or numbers as the length beside it says, and the three
- * areas, the names, the marks and the answer overlap neither each other nor the rule and the subject or buffer. A pointer is never null, even
- * beside a length of 0.
+ * areas, the names, the marks, a card, a card's rule bytes and the answer overlap neither each other nor the rule and the subject or buffer. A pointer is
+ * never null, even beside a length of 0.
  *
  * flags         bit 0 is `s`, bit 1 is `m`, bit 2 is `i`, bit 3 is `x`
  * budget        steps for each start in the subject, at most 100,000
@@ -40,8 +40,11 @@ enum {
     TERRAVISCO_NAME_ENTRY = 17,
     TERRAVISCO_NAME_INDEX = 544,
     TERRAVISCO_LONGEST_RULE = 1000,
+    TERRAVISCO_CARD = 1064,
+    TERRAVISCO_RULE_BYTES = 1000,
     TERRAVISCO_ANSWER = 6,
-    TERRAVISCO_EXPLAIN_ANSWER = 11
+    TERRAVISCO_EXPLAIN_ANSWER = 11,
+    TERRAVISCO_CARD_ANSWER = 9
 };
 
 #define TERRAVISCO_UNSET UINT32_C(4294967295)
@@ -121,6 +124,27 @@ void terravisco_explain(const uint8_t *rule, size_t rule_len, uint32_t flags,
 void terravisco_field(const uint8_t *name, size_t name_len, const uint8_t *names, size_t names_len,
                       const uint8_t *line, size_t line_len, uint32_t kind, const uint32_t *row, size_t row_len,
                       const uint8_t *standing, size_t standing_len, uint64_t field[3]);
+
+/* Writes the card of a rule: its bytes, its flags and budget and the number of its groups, which can be kept, sent and read back. One rule with its flags
+   and budget has one card.
+   budget    at most 65,535
+   card      at least TERRAVISCO_CARD bytes. The card is written at its front; the bytes behind are as they were.
+   answer    [0] kind: 0 written, 3 refused; [1] refusal number, else 0, [2] refusal's place, else 0, [3] [4] 0, [5] bytes written, 0 if refused
+   Refusals, tested in this order: 9 card area short, 1, 3, 4 (a budget over 65,535), 5, then those of the rule itself, from 10 on. A refusal leaves the card
+   area as it was. The rule area is as it was after 9, 1, 3, 4 and 5; after any other return its needed part is zero. */
+void terravisco_card_write(const uint8_t *rule, size_t rule_len, uint32_t flags, uint32_t budget,
+                           uint32_t *rule_area, size_t rule_area_len, uint8_t *card, size_t card_len, uint32_t answer[TERRAVISCO_ANSWER]);
+
+/* Reads a card. Any bytes may be handed in: what is taken is exactly what terravisco_card_write writes.
+   rule_bytes  at least TERRAVISCO_RULE_BYTES bytes. The rule is written at its front; the bytes behind are as they were.
+   answer      [0] kind: 0 read, 3 refused; [1] refusal number, else 0, [2] refusal's place, else 0, [3] [4] 0, and if it is read: [5] the rule's length,
+               [6] its flags, [7] its budget, [8] the number of its groups, 0 if refused
+   Refusals, tested in this order: 9 rule bytes' area short; 30 a byte that is no kind of record, 31 cut short, 32 records in the wrong order or number, 33
+   padding that is not 00 or bytes behind the last record; 1, 3, 5, those of the rule itself, from 10 on; 34 the number of groups is not the rule's. The place
+   is 0 but for those of the rule itself. A refusal leaves rule_bytes as they were. The rule area is as it was after 9, 30 to 33, 1, 3 and 5; after any other
+   return its needed part is zero. */
+void terravisco_card_read(const uint8_t *card, size_t card_len, uint32_t *rule_area, size_t rule_area_len,
+                          uint8_t *rule_bytes, size_t rule_bytes_len, uint32_t answer[TERRAVISCO_CARD_ANSWER]);
 
 #ifdef __cplusplus
 }

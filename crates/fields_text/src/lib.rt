@@ -27,7 +27,7 @@ fn hex_digit(d: u8) -> u8
 }
 
 // Writes a byte by its number.
-fn write_hex(byte: u8, out: &mut [u8], at: usize) -> usize
+pub fn write_hex(byte: u8, out: &mut [u8], at: usize) -> usize
     requires { ⌜ at + 4 ≤ length (now out) ⌝ }
     ensures { λ r. ⌜ WroteUpTo 4 (now (out .entry)) at (hexed byte) (now (out .exit)) r ⌝ }
 {

@@ -8,7 +8,7 @@ ghost use Rattle.syntax.specs.Limits.{ruleAreaNeed};
 ghost use Rattle.semantics.specs.Calls.{workAreaNeed, cleared};
 
 // Sets the first n numbers to 0.
-fn clear(area: &mut [u32], n: usize)
+pub fn clear(area: &mut [u32], n: usize)
     requires { ⌜ n ≤ length (now area) ⌝ }
     ensures { λ _. ⌜ now (area .exit) ≡ cleared n (now (area .entry)) ⌝ }
 {

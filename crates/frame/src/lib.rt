@@ -9,11 +9,14 @@ mod preparing;
 mod refusals;
 mod registers;
 
+pub use areas::clear;
 pub use areas::finish;
 pub use naming::NAME_INDEX_NEED;
 pub use preparing::Preparation;
 pub use preparing::prepare;
 pub use refusals::BUDGET_LIMIT;
+pub use refusals::FLAGS_LIMIT;
+pub use refusals::Fitness;
 pub use refusals::RULE_AREA_NEED;
 pub use refusals::RULE_LIMIT;
 pub use refusals::SUBJECT_LIMIT;

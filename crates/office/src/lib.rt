@@ -1,5 +1,5 @@
 // What the office programs share: what they are started with, lines of a file that is read in large pieces, a buffer for what they write, and why a rule
-// is refused.
+// or a card is refused.
 mod arguments;
 mod input;
 mod output;

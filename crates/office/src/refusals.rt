@@ -1,4 +1,4 @@
-// Why a rule is refused, as the one who started the program is told.
+// Why a rule or a card is refused, as the one who started the program is told.
 use crate::output::say;
 use crate::output::say_number;
 use syntax::Refusal;
@@ -8,6 +8,14 @@ ghost use lib.ListN.{length};
 
 // The lowest number of a refusal that has a place in the rule.
 const FIRST_IN_RULE: u32 = 10;
+
+// Whether a refusal is about a card, which has no place.
+fn is_of_card(number: u32) -> bool {
+    match number {
+        30..=34 => true,
+        _ => false,
+    }
+}
 
 // Says what stands on a line of a text. The lines are counted from 1.
 fn say_line(text: &[u8], number: u32) {
@@ -27,7 +35,7 @@ fn say_line(text: &[u8], number: u32) {
     }
 }
 
-// Says what a refusal means: each is on the line of its number, and there is no 9.
+// Says what a refusal means: each is on the line of its number.
 fn say_meaning(number: u32) {
     say_line(
         b"the rule has more than 1000 bytes\n\
@@ -38,7 +46,7 @@ the rule area is too short\n\
 the work area is too short\n\
 the result area is too short\n\
 the name index is too short\n\
-\n\
+the area for the card, or for its rule, is too short\n\
 a backslash with nothing behind it\n\
 this escape may not stand here\n\
 the number or letter of this escape is missing, malformed, unclosed or too large\n\
@@ -55,7 +63,15 @@ a ) that closes nothing\n\
 the 33rd group; a rule has at most 32\n\
 the 25th bracket inside another; they nest at most 24 deep\n\
 a name is missing, malformed or not closed\n\
-this name is used twice\n",
+this name is used twice\n\
+\n\
+\n\
+\n\
+a record begins with a byte that is none of the kinds 1, 2 and 3\n\
+it ends before its last record does\n\
+its records are in the wrong order, or not as many as the rule's length needs\n\
+a byte that pads the rule is not 00, or bytes stand behind the last record\n\
+the number of groups that it says is not the rule's\n",
         number,
     );
 }
@@ -91,7 +107,8 @@ fn say_rule(rule: &[u8], place: usize)
     }
 }
 
-// Why the rule is refused: the number, the place and what it means, and the rule with the place marked if it is one in the rule.
+// Why the rule is refused: the number, the place and what it means, and the rule with the place marked if it is one in the rule. Or why a card
+// is.
 pub fn say_refusal(program: &[u8], f: Refusal, rule: &[u8])
     requires { ⌜ length (now rule) ≤ 1001 ⌝ }
 {
@@ -99,6 +116,12 @@ pub fn say_refusal(program: &[u8], f: Refusal, rule: &[u8])
     let place = f.place;
     let number = syntax::number(reason);
     say(program);
+    if is_of_card(number) {
+        say_number(b": the card is refused, ", number as u64, b": ");
+        say_meaning(number);
+        say(b"\n");
+        return;
+    }
     say_number(b": the rule is refused, ", number as u64, b" at ");
     say_number(b"", place as u64, b": ");
     say_meaning(number);

@@ -5,6 +5,7 @@ mod text;
 pub use marks::mark;
 pub use marks::touches;
 pub use text::is_odd;
+pub use text::is_printed;
 pub use text::show;
 
 // The columns of a window.

@@ -8,7 +8,7 @@ ghost use Rattle.report.specs.Text.{isPrinted, shownByte, shownText, isO
 const DOT: u8 = b'.';
 
 // Whether a byte is printed in one column.
-fn is_printed(b: u8) -> bool
+pub fn is_printed(b: u8) -> bool
     ensures { λ r. ⌜ r ≡ isPrinted b ⌝ }
 {
     if b < 32 {

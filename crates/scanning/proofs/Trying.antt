@@ -2,20 +2,18 @@
 -- a run can tell.
 use mathlib.Core.Path.{_≡_, refl, sym, _∙_, subst}
 use mathlib.Core.List.{List, [], _∷_, append-nil}
-use mathlib.Core.Bool.{Bool, true, false, _&&_}
+use mathlib.Core.Bool.{Bool, true, false}
 use Prim.Native.Nat.{ℕ, suc, _+_, _-_, _*_, _≤_, _<_}
 use native.Mathlib.Omega.{arith}
 use lib.ListN.{length, take}
 use Rattle.syntax.specs.Limits.{spansLength}
-use Rattle.syntax.specs.Read.{if_then_else_}
 use Rattle.syntax.specs.Tree.{Rule}
 use Rattle.semantics.specs.States.{State}
-use Rattle.semantics.specs.Walk.{Event, step, miss, end, Trace, trace}
+use Rattle.semantics.specs.Walk.{end, Trace, trace}
 use Rattle.semantics.specs.Answers.{exhausted}
-use Rattle.semantics.specs.Scans.{isEmpty, barring, search}
+use Rattle.semantics.specs.Scans.{barring, search}
 use Rattle.semantics.specs.Laws.Cases.{clash}
-use Rattle.semantics.specs.Laws.Loops.{seek-over}
-use Rattle.semantics.specs.Laws.ScanLoops.{TryAt, try-begin, try-quiet, try-barred, try-end}
+use Rattle.semantics.specs.Laws.ScanLoops.{TryAt, try-begin, try-over, try-quiet, try-barred, try-end}
 use Rattle.machine.specs.declared.Machine.{Machine}
 use Rattle.machine.specs.declared.Stop.{Stop}
 use Rattle.machine.specs.declared.Stop.the-variants.{End, Nothing, Spent}
@@ -25,13 +23,6 @@ use Rattle.machine.specs.Ready.{until, StackFits, Ready, Agrees}
 use Rattle.machine.specs.Theorem.{Stands, Clear, begins, at-end, at-nothing, at-spent}
 use Rattle.machine.specs.Laws.Loop.{until-ended, until-nothing, until-spent}
 use Rattle.scanning.specs.Tries.{Tried}
-
--- no step is left of the try's budget
-try-over : (sub : List ℕ) (x : Rule) (budget from : ℕ) (barred : Bool) (s : ℕ) (e : Event) (es : Trace) → TryAt sub x budget from barred s 0 (e ∷ es) → search sub x budget from barred ≡ record { outcome = exhausted from; steps = s }
-unfolding barring
-try-over sub x budget from barred s step es h = seek-over sub x budget (search sub x budget from barred) s from (length sub - from) 0 step (barring barred from es) h
-try-over sub x budget from barred s (miss place at) es h = seek-over sub x budget (search sub x budget from barred) s from (length sub - from) 0 (miss place at) (barring barred from es) h
-try-over sub x budget from barred s (end t) es h = seek-over sub x budget (search sub x budget from barred) s from (length sub - from) 0 (if barred && isEmpty from t then step else end t) (barring barred from es) h
 
 -- with so many steps left, the machine is ready to go on, and so is the try
 pub record Trying (p sub : List ℕ) (x : Rule) (budget from : ℕ) (barred : Bool) (first : List ℕ) (wide : ℕ) (now : Now) (left : ℕ) : Type 0 where

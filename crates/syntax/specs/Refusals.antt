@@ -1,7 +1,7 @@
 -- 01, "Refusal numbers", and those that 02 adds.
 use Prim.Native.Nat.{ℕ}
 use Rattle.syntax.specs.declared.Reason.{Reason}
-use Rattle.syntax.specs.declared.Reason.the-variants.{RuleTooLong, SubjectTooLong, UnknownFlag, BudgetTooLarge, RuleAreaShort, WorkAreaShort, ResultAreaShort, NameIndexShort, TrailingBackslash, UnknownEscape, MalformedEscape, NoSuchGroup, UnclosedClass, BadRange, UnknownSet, NothingToRepeat, BadBraces, RepeatOnRepeat, UnclosedGroup, UnopenedGroup, UnknownGroup, TooManyGroups, TooDeep, BadName, NameTwice}
+use Rattle.syntax.specs.declared.Reason.the-variants.{RuleTooLong, SubjectTooLong, UnknownFlag, BudgetTooLarge, RuleAreaShort, WorkAreaShort, ResultAreaShort, NameIndexShort, WrittenAreaShort, TrailingBackslash, UnknownEscape, MalformedEscape, NoSuchGroup, UnclosedClass, BadRange, UnknownSet, NothingToRepeat, BadBraces, RepeatOnRepeat, UnclosedGroup, UnopenedGroup, UnknownGroup, TooManyGroups, TooDeep, BadName, NameTwice, UnknownKind, CardCutShort, WrongRecords, StrayBytes, WrongGroupNumber}
 
 abbrev pub numberOf : Reason → ℕ
 -- of a call, before its rule is read
@@ -13,6 +13,7 @@ numberOf RuleAreaShort = 5
 numberOf WorkAreaShort = 6
 numberOf ResultAreaShort = 7
 numberOf NameIndexShort = 8
+numberOf WrittenAreaShort = 9
 -- of a rule
 numberOf TrailingBackslash = 10
 numberOf UnknownEscape = 11
@@ -31,3 +32,9 @@ numberOf TooManyGroups = 23
 numberOf TooDeep = 24
 numberOf BadName = 25
 numberOf NameTwice = 26
+-- of a card
+numberOf UnknownKind = 30
+numberOf CardCutShort = 31
+numberOf WrongRecords = 32
+numberOf StrayBytes = 33
+numberOf WrongGroupNumber = 34

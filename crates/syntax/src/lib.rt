@@ -12,6 +12,8 @@ pub enum Reason {
     WorkAreaShort,
     ResultAreaShort,
     NameIndexShort,
+    // of what a card is written into, or its rule's bytes
+    WrittenAreaShort,
     TrailingBackslash,
     UnknownEscape,
     MalformedEscape,
@@ -29,6 +31,11 @@ pub enum Reason {
     TooDeep,
     BadName,
     NameTwice,
+    UnknownKind,
+    CardCutShort,
+    WrongRecords,
+    StrayBytes,
+    WrongGroupNumber,
 }
 
 // The zero-width assertions. The flag `m` is settled when a rule is read.
@@ -90,6 +97,7 @@ pub fn number(reason: Reason) -> u32
         Reason::WorkAreaShort => 6,
         Reason::ResultAreaShort => 7,
         Reason::NameIndexShort => 8,
+        Reason::WrittenAreaShort => 9,
         Reason::TrailingBackslash => 10,
         Reason::UnknownEscape => 11,
         Reason::MalformedEscape => 12,
@@ -107,5 +115,10 @@ pub fn number(reason: Reason) -> u32
         Reason::TooDeep => 24,
         Reason::BadName => 25,
         Reason::NameTwice => 26,
+        Reason::UnknownKind => 30,
+        Reason::CardCutShort => 31,
+        Reason::WrongRecords => 32,
+        Reason::StrayBytes => 33,
+        Reason::WrongGroupNumber => 34,
     }
 }

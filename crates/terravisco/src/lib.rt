@@ -1,7 +1,10 @@
-// The C interface: the calls, with each outcome as six numbers, or eleven for an explanation, and the field lookup. `include/terravisco.h` is its header.
+// The C interface: the calls, with each outcome as six numbers, or eleven for an explanation, the field lookup, and rule cards. `include/terravisco.h` is
+// its header.
 use batching::Batch;
 use batching::high_half;
 use batching::low_half;
+use cards::ReadAnswer;
+use cards::WriteAnswer;
 use explaining::Explanation;
 use failures::Failed;
 use listing::Listing;
@@ -23,8 +26,12 @@ ghost use Rattle.batching.specs.Batches.{batchOf};
 ghost use Rattle.failures.specs.Best.{failureOf};
 ghost use Rattle.explaining.specs.Explanations.{explanationOf};
 ghost use Rattle.lookup.specs.Lookup.{lookup};
+ghost use Rattle.card_format.specs.Cards.{writeCall, readCall};
+ghost use Rattle.cards.specs.Answers.{writtenOf, readOf};
 ghost use Rattle.terravisco.specs.Answers.{numbers, refusalNumbers, matchNumbers, listNumbers, batchNumbers, failureNumbers, explainNumbers, fieldNumbers, Answered};
 ghost use Rattle.terravisco.specs.Laws.{MatchPlaced, ListPlaced, BatchPlaced, ExplainPlaced};
+ghost use Rattle.terravisco.specs.Cards.{writeNumbers, readNumbers, CardAnswered};
+ghost use Rattle.terravisco.specs.CardLaws.{WritePlaced, ReadPlaced};
 
 // Writes an answer: the kind, the start or refusal number, the place, the steps in two halves and the rows.
 fn tell(answer: &mut [u32; 6], kind: u32, which: u32, place: u32, steps: u64, rows: usize)
@@ -305,4 +312,62 @@ pub extern "C" fn terravisco_field(
         Found::Standing => *field = [1, 0, standing.len() as u64],
         Found::Nothing => *field = [1, 0, 0],
     }
+}
+
+fn tell_written(answer: &mut [u32; 6], outcome: WriteAnswer)
+    requires { ⌜ WritePlaced (writtenOf outcome) ⌝ }
+    ensures { λ _. ⌜ now (answer .exit) ≡ writeNumbers (writtenOf outcome) ⌝ }
+{
+    match outcome {
+        WriteAnswer::Wrote(n) => tell(answer, 0, 0, 0, 0, n),
+        WriteAnswer::Refused(f) => tell_refusal(answer, f),
+    }
+}
+
+fn tell_read(answer: &mut [u32; 9], outcome: ReadAnswer)
+    requires { ⌜ ReadPlaced (readOf outcome) ⌝ }
+    ensures { λ _. ⌜ now (answer .exit) ≡ readNumbers (readOf outcome) ⌝ }
+{
+    match outcome {
+        ReadAnswer::Holds(size, flags, budget, groups) => {
+            let length = low_half(size as u64);
+            *answer = [0, 0, 0, 0, 0, length, flags, budget, groups];
+        }
+        ReadAnswer::Refused(f) => {
+            let reason = f.reason;
+            let number = syntax::number(reason);
+            let place = f.place as u32;
+            *answer = [3, number, place, 0, 0, 0, 0, 0, 0];
+        }
+    }
+}
+
+// Writes the card of a rule.
+#[no_mangle]
+pub extern "C" fn terravisco_card_write(
+    rule: &[u8],
+    flags: u32,
+    budget: u32,
+    rule_area: &mut [u32],
+    card: &mut [u8],
+    answer: &mut [u32; 6],
+)
+    ensures { λ _. ⌜ CardAnswered writeNumbers (writeCall (now (rule .entry)) flags budget (now («rule_area» .entry)) (now (card .entry))) (now (answer .exit)) (now («rule_area» .exit)) (now (card .exit)) ⌝ }
+{
+    let outcome = cards::write_card(rule, flags, budget, rule_area, card);
+    tell_written(answer, outcome);
+}
+
+// Reads a card.
+#[no_mangle]
+pub extern "C" fn terravisco_card_read(
+    card: &[u8],
+    rule_area: &mut [u32],
+    rule_bytes: &mut [u8],
+    answer: &mut [u32; 9],
+)
+    ensures { λ _. ⌜ CardAnswered readNumbers (readCall (now (card .entry)) (now («rule_area» .entry)) (now («rule_bytes» .entry))) (now (answer .exit)) (now («rule_area» .exit)) (now («rule_bytes» .exit)) ⌝ }
+{
+    let outcome = cards::read_card(card, rule_area, rule_bytes);
+    tell_read(answer, outcome);
 }

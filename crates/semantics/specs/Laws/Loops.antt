@@ -106,29 +106,10 @@ module _ (sub : List ℕ) (r : Rule) (budget : ℕ) where
     unfolding ahead spend run first unmatched afterSteps
     seek-last h = let f : s + 0 ≡ s = omega arith in h ∙ rw f
 
-  -- the match
-  abbrev pub MatchAt : ℕ → ℕ → ℕ → ℕ → Trace → Type 0
-  MatchAt = SeekAt (answer sub r budget)
-
-  pub match-begin : MatchAt 0 0 (length sub) budget (trace sub r 0)
+  -- before all starts, the match's answer
+  pub match-begin : SeekAt (answer sub r budget) 0 0 (length sub) budget (trace sub r 0)
   unfolding ahead answer runs run afterSteps
   match-begin = let a = answer sub r budget in let e : 0 + a .steps ≡ a .steps = omega arith in rw e
-
-  module _ (s n c b : ℕ) where
-    pub match-quiet : (p es : Trace) → Quiet p → length p ≤ b → MatchAt s n c b (p ++ es) → MatchAt (s + length p) n c (b - length p) es
-    match-quiet = seek-quiet (answer sub r budget) s n c b
-
-    pub match-end : (t : State) (es : Trace) → MatchAt s n c (suc b) (end t ∷ es) → answer sub r budget ≡ record { outcome = matched n t; steps = s + 1 }
-    match-end = seek-end (answer sub r budget) s n c b
-
-    pub match-over : (e : Event) (es : Trace) → MatchAt s n c 0 (e ∷ es) → answer sub r budget ≡ record { outcome = exhausted n; steps = s }
-    match-over = seek-over (answer sub r budget) s n c b
-
-    pub match-next : MatchAt s n (suc c) b [] → MatchAt s (suc n) c budget (trace sub r (suc n))
-    match-next = seek-next (answer sub r budget) s n c b
-
-    pub match-last : MatchAt s n 0 b [] → answer sub r budget ≡ record { outcome = notMatched; steps = s }
-    match-last = seek-last (answer sub r budget) s n c b
 
 -- The listing's loop ---------------------------------------------------
 

@@ -2,18 +2,19 @@
 -- found so far, and then what the searches from the next one on make. One law for each thing that a turn can meet.
 use mathlib.Core.Path.{_≡_, refl, ap, sym, _∙_, subst}
 use mathlib.Core.List.{List, [], _∷_, _++_, append-assoc, append-nil}
-use mathlib.Core.Bool.{Bool, true, false}
+use mathlib.Core.Bool.{Bool, true, false, _&&_}
 use Prim.Native.Nat.{ℕ, suc, _+_, _-_, _≤_}
 use native.Mathlib.Omega.{arith}
 use lib.ListN.{length}
 use borrow.Author.Tests.{eq-eqb}
+use Rattle.syntax.specs.Read.{if_then_else_}
 use Rattle.syntax.specs.Tree.{Rule}
 use Rattle.semantics.specs.States.{State, Row, row}
-use Rattle.semantics.specs.Walk.{step, miss, end, Trace, trace}
+use Rattle.semantics.specs.Walk.{Event, step, miss, end, Trace, trace}
 use Rattle.semantics.specs.Answers.{matched, notMatched, exhausted, Answer, complete, full, exhaustedAt}
 use Rattle.semantics.specs.Scans.{isEmpty, barring, tries, search, rowThen, onFrom, scan}
 use Rattle.semantics.specs.Laws.Searches.{allowed-end}
-use Rattle.semantics.specs.Laws.Loops.{Quiet, afterSteps, ahead, SeekAt, seek-quiet, seek-end, afterRows}
+use Rattle.semantics.specs.Laws.Loops.{Quiet, afterSteps, ahead, SeekAt, seek-quiet, seek-end, seek-over, afterRows}
 use Rattle.semantics.specs.Laws.Scans.{scanOn, scan-goes-on, scan-is, search-fewer}
 
 -- A search's loop -------------------------------------------------------------------
@@ -33,6 +34,13 @@ module _ (sub : List ℕ) (r : Rule) (budget from : ℕ) (barred : Bool) where
   pub try-begin : TryAt 0 budget (trace sub r from)
   unfolding ahead search tries afterSteps
   try-begin = let a = search sub r budget from barred in let e : 0 + a .steps ≡ a .steps = omega arith in rw e
+
+  -- no step is left of the try's budget
+  pub try-over : (s : ℕ) (e : Event) (es : Trace) → TryAt s 0 (e ∷ es) → search sub r budget from barred ≡ record { outcome = exhausted from; steps = s }
+  unfolding barring
+  try-over s step es h = seek-over sub r budget (search sub r budget from barred) s from (length sub - from) 0 step (barring barred from es) h
+  try-over s (miss place at) es h = seek-over sub r budget (search sub r budget from barred) s from (length sub - from) 0 (miss place at) (barring barred from es) h
+  try-over s (end t) es h = seek-over sub r budget (search sub r budget from barred) s from (length sub - from) 0 (if barred && isEmpty from t then step else end t) (barring barred from es) h
 
   module _ (s b : ℕ) where
     pub try-quiet : (p es : Trace) → Quiet p → length p ≤ b → TryAt s b (p ++ es) → TryAt (s + length p) (b - length p) es

@@ -1,0 +1,3 @@
+-- Facts about the words that proofs cite.
+pub mod Writing
+pub mod Shown

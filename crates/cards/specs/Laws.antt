@@ -1,0 +1,4 @@
+-- Facts that the proofs of the code cite.
+pub mod Walking
+pub mod Checking
+pub mod Returning
