@@ -35,7 +35,7 @@ extern "C" {
 enum {
     TERRAVISCO_RULE_AREA = 16384,
     TERRAVISCO_WORK_PER_STEP = 16,
-    TERRAVISCO_GROUPS = 32, /* the most that a rule can have */
+    TERRAVISCO_GROUPS = 64, /* the most that a rule can have */
     TERRAVISCO_ROW = 2 + 2 * TERRAVISCO_GROUPS,
     TERRAVISCO_PART = TERRAVISCO_ROW + 4,
     TERRAVISCO_NAME_ENTRY = 17,

@@ -4,7 +4,7 @@ ghost use mathlib.Core.Path.{_≡_};
 ghost use Rattle.syntax.specs.Limits.{groupLimit, nameLimit};
 
 // the most capturing groups that a rule can have
-pub const GROUP_LIMIT: u32 = 32;
+pub const GROUP_LIMIT: u32 = 64;
 
 // two numbers for each of them, and with a start and an end before them a row
 pub const SPANS_LENGTH: usize = 2 * GROUP_LIMIT as usize;
