@@ -35,10 +35,11 @@ extern "C" {
 enum {
     TERRAVISCO_RULE_AREA = 16384,
     TERRAVISCO_WORK_PER_STEP = 16,
-    TERRAVISCO_ROW = 66,
-    TERRAVISCO_PART = 70,
+    TERRAVISCO_GROUPS = 64, /* the most that a rule can have */
+    TERRAVISCO_ROW = 2 + 2 * TERRAVISCO_GROUPS,
+    TERRAVISCO_PART = TERRAVISCO_ROW + 4,
     TERRAVISCO_NAME_ENTRY = 17,
-    TERRAVISCO_NAME_INDEX = 544,
+    TERRAVISCO_NAME_INDEX = TERRAVISCO_GROUPS * TERRAVISCO_NAME_ENTRY,
     TERRAVISCO_LONGEST_RULE = 1000,
     TERRAVISCO_CARD = 1064,
     TERRAVISCO_RULE_BYTES = 1000,
@@ -50,7 +51,7 @@ enum {
 #define TERRAVISCO_UNSET UINT32_C(4294967295)
 
 /* answer: [0] kind, [1] exhausted start or refusal number, else 0, [2] refusal's place, else 0,
-   [3] steps' low 32 bits, [4] their high 32 bits, [5] rows written (their low 32 bits: 2^32 rows would take 1.1 TB).
+   [3] steps' low 32 bits, [4] their high 32 bits, [5] rows written (their low 32 bits: 2^32 rows would take more than a terabyte).
    Kind of a match: 0 matched, 1 not matched, 2 exhausted, 3 refused.
    Kind of a listing and of successive matches: 0 complete, 1 full, 2 exhausted, 3 refused. Steps are 0 if refused. */
 void terravisco_match(const uint8_t *rule, size_t rule_len, uint32_t flags,

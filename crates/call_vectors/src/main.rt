@@ -10,12 +10,12 @@ use explaining::Explanation;
 use failures::Failed;
 use frame::NAME_INDEX_NEED;
 use index::ROW_LENGTH;
-use index::SPANS_LENGTH;
 use index::UNSET;
 use libc::STDIN_FILENO;
 use libc::STDOUT_FILENO;
 use listing::Listing;
 use matching::Outcome;
+use syntax::NAME_ENTRY;
 use syntax::Refusal;
 ghost use mathlib.Core.Path.{_≡_};
 ghost use Prim.Native.Nat.{_≤_, _<_, _+_};
@@ -46,10 +46,8 @@ const RESULT_AREA: usize = 100 * ROW_LENGTH;
 
 const NAMES: usize = NAME_INDEX_NEED + 56;
 
-// The groups that a rule can have, and the bytes of the entry that each has in the name index.
-const GROUP_LIMIT: usize = SPANS_LENGTH / 2;
-
-const NAME_ENTRY: usize = NAME_INDEX_NEED / GROUP_LIMIT;
+// The groups that a rule can have.
+const GROUPS: usize = syntax::GROUP_LIMIT as usize;
 
 fn put(text: &[u8]) {
     io::write_all(STDOUT_FILENO, text);
@@ -81,7 +79,7 @@ fn put_spans(results: &[u32], base: usize)
     requires { ⌜ base + rowLength ≤ length (now results) ⌝ }
 {
     let mut i: usize = 1;
-    while i <= GROUP_LIMIT {
+    while i <= GROUPS {
         put_span(i, results[base + 2 * i], results[base + 2 * i + 1]);
         i += 1;
     }
@@ -157,7 +155,7 @@ fn put_names(names: &[u8]) {
     }
     put(b"  names");
     let mut g: usize = 0;
-    while g < GROUP_LIMIT {
+    while g < GROUPS {
         let from = g * NAME_ENTRY;
         let to = from + NAME_ENTRY;
         if !is_clear(&names[from..to]) {

@@ -1,6 +1,5 @@
 // The columns of the table: the names that are asked for, or all of the rule.
 use fields_columns::COLUMN_LIMIT;
-use fields_columns::NAME_LIMIT;
 use fields_columns::add_column;
 use fields_columns::all_columns;
 use frame::NAME_INDEX_NEED;
@@ -9,7 +8,10 @@ use index::UNSET;
 use lookup::Found;
 use lookup::find;
 use office::say;
-ghost use Prim.Native.Nat.{_≤_, _<_};
+use office::say_number;
+use syntax::NAME_LIMIT;
+ghost use Prim.Native.Nat.{_+_, _≤_, _<_};
+ghost use Rattle.syntax.specs.Limits.{groupLimit};
 
 // The room for all names, in the layout of a name index.
 pub const COLUMNS: usize = NAME_INDEX_NEED;
@@ -31,7 +33,7 @@ fn is_named(name: &[u8], names: &[u8; NAME_INDEX_NEED]) -> bool {
 
 // Says that the rule has no such name.
 fn say_unknown(name: &[u8]) -> usize
-    ensures { λ r. ⌜ r ≤ 33 ⌝ }
+    ensures { λ r. ⌜ r ≤ groupLimit + 1 ⌝ }
 {
     say(b"fields: the rule has no name ");
     say(name);
@@ -46,8 +48,8 @@ fn ask_for(
     columns: &mut [u8; COLUMNS],
     count: usize,
 ) -> usize
-    requires { ⌜ count ≤ 32 ⌝ }
-    ensures { λ r. ⌜ r ≤ 33 ⌝ }
+    requires { ⌜ count ≤ groupLimit ⌝ }
+    ensures { λ r. ⌜ r ≤ groupLimit + 1 ⌝ }
 {
     let mut text = io::buffer();
     let n = os::arg(argument, &mut text);
@@ -58,21 +60,21 @@ fn ask_for(
         return say_unknown(&text[..n]);
     }
     if count == COLUMN_LIMIT {
-        say(b"fields: more than 32 names\n");
+        say_number(b"fields: more than ", COLUMN_LIMIT as u64, b" names\n");
         return NONE;
     }
     add_column(&text[..n], columns, count)
 }
 
-// The columns: the names that the arguments from one on ask for, or all of the rule where there are none. It says how many there are, and 33 where
-// they cannot be had.
+// The columns: the names that the arguments from one on ask for, or all of the rule where there are none. It says how many there are, and one
+// more than there can be where they cannot be had.
 pub(crate) fn collect(
     first: usize,
     names: &[u8; NAME_INDEX_NEED],
     columns: &mut [u8; COLUMNS],
 ) -> usize
     requires { ⌜ first < 300 ⌝ }
-    ensures { λ r. ⌜ r ≤ 33 ⌝ }
+    ensures { λ r. ⌜ r ≤ groupLimit + 1 ⌝ }
 {
     let end = os::arg_count();
     if end <= first {

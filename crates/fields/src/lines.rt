@@ -14,6 +14,7 @@ use office::next_line;
 use office::say_number;
 ghost use Prim.Native.Nat.{_≤_};
 ghost use lib.ListN.{length};
+ghost use Rattle.syntax.specs.Limits.{groupLimit};
 ghost use Rattle.fields.specs.Rules.{Holds};
 
 // What is lent to the calls: 16 numbers for each step of the largest budget, and 1,000 rows.
@@ -51,7 +52,7 @@ fn tell_line<'a>(
     out: &mut [u8; ROOM],
     at: usize,
 ) -> usize
-    requires { ⌜ Holds (now area) (setting .entry) (setting .budget) × (setting .count ≤ 32) ⌝ }
+    requires { ⌜ Holds (now area) (setting .entry) (setting .budget) × (setting .count ≤ groupLimit) ⌝ }
 {
     if number % PROGRESS == 0 {
         say_number(b"fields: ", number, b" lines\n");
@@ -124,7 +125,7 @@ pub(crate) fn tell_lines(
     results: &mut [u32; RESULT_AREA],
     out: &mut [u8; ROOM],
 ) -> Told
-    requires { ⌜ Holds (now area) (setting .entry) (setting .budget) × (setting .count ≤ 32) ⌝ }
+    requires { ⌜ Holds (now area) (setting .entry) (setting .budget) × (setting .count ≤ groupLimit) ⌝ }
 {
     let mut line = [0u8; LINE];
     let mut rest = Rest {

@@ -26,6 +26,7 @@ use office::say_refusal;
 use options::Options;
 ghost use Prim.Native.Nat.{_≤_, _<_};
 ghost use lib.ListN.{length};
+ghost use Rattle.syntax.specs.Limits.{groupLimit};
 ghost use Rattle.fields.specs.Rules.{Holds};
 
 // One byte more than the longest rule: a rule that fills this is too long, whatever follows.
@@ -53,7 +54,7 @@ fn write_table(
     work: &mut [u32; WORK_AREA],
     results: &mut [u32; RESULT_AREA],
 )
-    requires { ⌜ Holds (now area) (setting .entry) (setting .budget) × (setting .count ≤ 32) ⌝ }
+    requires { ⌜ Holds (now area) (setting .entry) (setting .budget) × (setting .count ≤ groupLimit) ⌝ }
 {
     let mut out = io::large_buffer();
     let told = lines::tell_lines(

@@ -14,6 +14,7 @@ use office::ROOM;
 use office::flush;
 use office::put;
 ghost use Prim.Native.Nat.{_≤_};
+ghost use Rattle.syntax.specs.Limits.{groupLimit};
 
 // Makes room for so many bytes behind those that wait, and says how many wait then; more than there is room for if nothing can be written any more.
 fn make_room(out: &[u8; ROOM], at: usize, need: usize) -> usize
@@ -40,7 +41,7 @@ fn put_fields<'a>(
     out: &mut [u8; ROOM],
     at: usize,
 ) -> usize
-    requires { ⌜ count ≤ 32 ⌝ }
+    requires { ⌜ count ≤ groupLimit ⌝ }
 {
     let mut p = Place {
         column: 0,
@@ -75,7 +76,7 @@ pub(crate) fn put_row<'a>(
     out: &mut [u8; ROOM],
     at: usize,
 ) -> usize
-    requires { ⌜ count ≤ 32 ⌝ }
+    requires { ⌜ count ≤ groupLimit ⌝ }
 {
     let put_at = make_room(out, at, OPENING_ROOM);
     if ROOM - OPENING_ROOM < put_at {

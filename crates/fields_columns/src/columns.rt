@@ -1,20 +1,17 @@
 // The columns of the table: their names, which stand in the layout of a name index.
+use syntax::NAME_ENTRY;
+use syntax::NAME_LIMIT;
 use text::append;
 use text::append_byte;
 ghost use mathlib.Core.Path.{_≡_};
 ghost use mathlib.Core.List.{[], _∷_, _++_};
 ghost use Prim.Native.Nat.{_+_, _≤_, _<_, min};
 ghost use lib.ListN.{length};
-ghost use Rattle.syntax.specs.Limits.{groupLimit, nameIndexNeed};
+ghost use Rattle.syntax.specs.Limits.{groupLimit, nameLimit, nameIndexNeed};
 ghost use Rattle.fields_columns.specs.Columns.{nameAt, namesFrom, named};
 
 // The most columns: as many as a rule can have names.
-pub const COLUMN_LIMIT: usize = index::SPANS_LENGTH / 2;
-
-// An entry: the length of a name, and room for the longest.
-pub const NAME_LIMIT: usize = 16;
-
-const NAME_ENTRY: usize = NAME_LIMIT + 1;
+pub const COLUMN_LIMIT: usize = syntax::GROUP_LIMIT as usize;
 
 // The smaller of two numbers.
 fn least(a: usize, b: usize) -> usize
@@ -37,7 +34,7 @@ pub fn column(columns: &[u8], i: usize) -> &[u8]
 
 // Puts a name behind those of so many columns, and says how many there are then.
 pub fn add_column(name: &[u8], columns: &mut [u8], count: usize) -> usize
-    requires { ⌜ (length (now name) ≤ 16) × (count < groupLimit) × (nameIndexNeed ≤ length (now columns)) ⌝ }
+    requires { ⌜ (length (now name) ≤ nameLimit) × (count < groupLimit) × (nameIndexNeed ≤ length (now columns)) ⌝ }
     ensures { λ r. ⌜ (r ≡ count + 1) × (namesFrom (now (columns .exit)) 0 r ≡ namesFrom (now (columns .entry)) 0 count ++ (now (name .entry) ∷ [])) ⌝ }
 {
     let from = count * NAME_ENTRY;
@@ -48,7 +45,7 @@ pub fn add_column(name: &[u8], columns: &mut [u8], count: usize) -> usize
 
 // Puts a name, if it is one.
 fn add_named(name: &[u8], columns: &mut [u8], count: usize) -> usize
-    requires { ⌜ (length (now name) ≤ 16) × (count < groupLimit) × (nameIndexNeed ≤ length (now columns)) ⌝ }
+    requires { ⌜ (length (now name) ≤ nameLimit) × (count < groupLimit) × (nameIndexNeed ≤ length (now columns)) ⌝ }
     ensures { λ r. ⌜ (r ≤ count + 1) × (namesFrom (now (columns .exit)) 0 r ≡ namesFrom (now (columns .entry)) 0 count ++ named (now (name .entry) ∷ [])) ⌝ }
 {
     if name.len() == 0 {

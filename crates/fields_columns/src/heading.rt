@@ -10,15 +10,12 @@ ghost use lib.ListN.{length};
 ghost use Rattle.fields_text.specs.Table.{headLine};
 ghost use Rattle.fields_text.specs.Promises.{WroteUpTo};
 ghost use Rattle.fields_columns.specs.Columns.{namesFrom};
-ghost use Rattle.fields_columns.specs.Promises.{Columned, headRoom, Named};
-
-// The bytes of the head at most: the first two columns, a tab and a name for each other, and the 0A.
-pub const HEAD_ROOM: usize = 2092;
+ghost use Rattle.fields_columns.specs.Promises.{Columned, columnRoom, headRoom, Named};
 
 // Writes the names, each behind a tab.
 fn write_names(columns: &[u8], count: usize, out: &mut [u8], at: usize) -> usize
     requires { ⌜ Columned (now columns) count ⌝ }
-    requires { ⌜ at + 65 * count ≤ length (now out) ⌝ }
+    requires { ⌜ at + columnRoom * count ≤ length (now out) ⌝ }
     ensures { λ r. ⌜ Named (now (columns .entry)) count count (now (out .entry)) at (now (out .exit)) r ⌝ }
 {
     let mut i: usize = 0;

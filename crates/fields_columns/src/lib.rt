@@ -3,9 +3,7 @@ mod columns;
 mod heading;
 
 pub use columns::COLUMN_LIMIT;
-pub use columns::NAME_LIMIT;
 pub use columns::add_column;
 pub use columns::all_columns;
 pub use columns::column;
-pub use heading::HEAD_ROOM;
 pub use heading::write_head;

@@ -7,11 +7,9 @@
 mod areas;
 mod preparing;
 mod refusals;
-mod registers;
 
 pub use areas::clear;
 pub use areas::finish;
-pub use naming::NAME_INDEX_NEED;
 pub use preparing::Preparation;
 pub use preparing::prepare;
 pub use refusals::BUDGET_LIMIT;
@@ -21,4 +19,5 @@ pub use refusals::RULE_AREA_NEED;
 pub use refusals::RULE_LIMIT;
 pub use refusals::SUBJECT_LIMIT;
 pub use refusals::WORK_PER_STEP;
-pub use registers::REGISTERS;
+pub use syntax::NAME_INDEX_NEED;
+pub use syntax::REGISTERS;

@@ -1,5 +1,5 @@
 // What is refused before the rule is read.
-use naming::NAME_INDEX_NEED;
+use syntax::NAME_INDEX_NEED;
 use syntax::Reason;
 ghost use mathlib.Core.Path.{_≡_};
 ghost use Prim.Native.Nat.{ℕ};

@@ -18,7 +18,7 @@ ghost use Rattle.gateway_text.specs.Promises.{WroteLine};
 // The bytes of a group's span at most, and of an answer: a letter, two numbers, a span for each group of a row, and the 0A.
 const SPAN_ROOM: usize = 22;
 
-pub const ANSWER_ROOM: usize = 24 + SPAN_ROOM * ((index::ROW_LENGTH - 2) / 2);
+pub const ANSWER_ROOM: usize = 24 + SPAN_ROOM * syntax::GROUP_LIMIT as usize;
 
 // A group's span.
 fn write_span(from: u32, to: u32, out: &mut [u8], at: usize) -> usize

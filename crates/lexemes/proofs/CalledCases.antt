@@ -52,13 +52,13 @@ module _ (s : List ℕ) (at len : ℕ) (k : len ≡ length (wordAt s at)) where
   unfolding isName
   name-none e = rw (← k, e)
 
-  pub name-long : 16 < len → false ≡ isName (wordAt s at)
+  pub name-long : nameLimit < len → false ≡ isName (wordAt s at)
   unfolding isName nameLimit
-  name-long h = rw (← k) (simp (le-leb 1 len (omega arith), lt-leb len 16 h))
+  name-long h = rw (← k) (simp (le-leb 1 len (omega arith), lt-leb len nameLimit h))
 
-  pub name-fits : (len ≡ 0 → ⊥) → len ≤ 16 → (t : Bool) → t ≡ inNamed Digit (getD s at 0) → not t ≡ isName (wordAt s at)
+  pub name-fits : (len ≡ 0 → ⊥) → len ≤ nameLimit → (t : Bool) → t ≡ inNamed Digit (getD s at 0) → not t ≡ isName (wordAt s at)
   unfolding isName nameLimit
-  name-fits n h t e = rw (e, word-first (omega arith), ← k) (simp (le-leb 1 len (omega arith), le-leb len 16 h))
+  name-fits n h t e = rw (e, word-first (omega arith), ← k) (simp (le-leb 1 len (omega arith), le-leb len nameLimit h))
 
   name-some : isName (wordAt s at) ≡ true → 1 ≤ len
   unfolding isName

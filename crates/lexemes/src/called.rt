@@ -7,6 +7,7 @@ use crate::ascii::OPENING_BRACE;
 use crate::numbers::peek;
 use charset::Named;
 use charset::in_named;
+use syntax::NAME_LIMIT;
 use syntax::Reason;
 use syntax::Refusal;
 ghost use mathlib.Core.Path.{_≡_};
@@ -18,9 +19,6 @@ ghost use Rattle.syntax.specs.Read.{refused};
 ghost use Rattle.syntax.specs.Names.{wordAt, isName};
 ghost use Rattle.syntax.specs.Escapes.{called, callsByName};
 ghost use Rattle.lexemes.specs.Says.{SaysName, SaysNameUpTo};
-
-// The most bytes that a name can have.
-const NAME: usize = 16;
 
 fn bad_name(place: usize) -> NameRead
     ensures { λ r. ⌜ ((s : List ℕ) → SaysName s (refused place BadName) r) ⌝ }
@@ -54,7 +52,7 @@ fn is_name(rule: &[u8], at: usize, len: usize) -> bool
     if len == 0 {
         return false;
     }
-    if NAME < len {
+    if NAME_LIMIT < len {
         return false;
     }
     !in_named(Named::Digit, rule[at])

@@ -33,19 +33,19 @@ module _ (f : ℕ → ℕ) (s : List ℕ) (at start : ℕ) (r : Number) (c : Cou
 
 pub forward-capped : (n : ℕ) → forward (capped n) ≡ forward n
 unfolding forward groupLimit
-forward-capped n = capped-if 32 (omega arith) n (λ x. x) 0
+forward-capped n = capped-if groupLimit (omega arith) n (λ x. x) 0
 
 pub backward-capped : (opened n : ℕ) → opened ≤ groupLimit → backward opened (capped n) ≡ backward opened n
 unfolding backward groupLimit
 backward-capped opened n h = rw (capped-zero n, capped-minus (opened + 1) (omega arith) n)
 
-pub forward-over : (n : ℕ) → 32 < n → 0 ≡ forward n
+pub forward-over : (n : ℕ) → groupLimit < n → 0 ≡ forward n
 unfolding forward groupLimit
-forward-over n h = simp (lt-leb n 32 h)
+forward-over n h = simp (lt-leb n groupLimit h)
 
-pub forward-fits : (n : ℕ) → n ≤ 32 → n ≡ forward n
+pub forward-fits : (n : ℕ) → n ≤ groupLimit → n ≡ forward n
 unfolding forward groupLimit
-forward-fits n h = simp (le-leb n 32 h)
+forward-fits n h = simp (le-leb n groupLimit h)
 
 pub backward-none : (opened n : ℕ) → n ≡ 0 → 0 ≡ backward opened n
 unfolding backward

@@ -6,6 +6,7 @@ use lexemes::MINUS;
 use lexemes::OPENING_BRACE;
 use lexemes::number_at;
 use lexemes::peek;
+use syntax::GROUP_LIMIT;
 use syntax::Reason;
 use syntax::Refusal;
 ghost use mathlib.Core.Path.{_≡_};
@@ -16,9 +17,6 @@ ghost use Rattle.syntax.specs.Limits.{groupLimit};
 ghost use Rattle.syntax.specs.Read.{sound, refused, andThen};
 ghost use Rattle.syntax.specs.Escapes.{forward, backward, decimal, signed, groupNumber};
 ghost use Rattle.lexer.specs.Says.{groupOf};
-
-// The most groups that a rule can have.
-const GROUPS: u32 = 32;
 
 // A reference whose number is missing, of another form or unclosed.
 fn malformed(at: usize) -> GroupRead
@@ -41,7 +39,7 @@ pub fn forward_at(rule: &[u8], at: usize, from: usize) -> GroupRead
     if next == from {
         return malformed(at);
     }
-    if GROUPS < n {
+    if GROUP_LIMIT < n {
         return GroupRead::Group(0, next);
     }
     GroupRead::Group(n, next)

@@ -1,5 +1,6 @@
 // Turns the nodes that the first pass left in the rule area into the compiled rule, in place, from the last part to the first. Only here does a
 // reference by name get its group's number: the group may stand behind it, so that the first pass cannot tell.
+use syntax::SPANS_LENGTH;
 ghost use mathlib.Core.Path.{_≡_};
 ghost use mathlib.Core.Bool.{true};
 ghost use Prim.Native.Nat.{_+_, _≤_, _<_};
@@ -452,10 +453,7 @@ fn link_branches(
     }
 }
 
-// How many numbers the captures take, behind which the registers of groups and repeats begin.
-const SPANS_LENGTH: usize = 64;
-
-// A whole rule, whose inside the first pass left: the end stands at position 0. The table has the names of its groups.
+// A whole rule, whose inside the first pass left: the end stands at position 0. The registers of groups and repeats begin behind the captures. The table has the names of its groups.
 pub fn link(rule: &[u8], area: &mut [u32], inside: usize, groups: u32, table: &[u32]) -> Linkage
     requires { ⌜ Linkable (now rule) groups (now table) (now area) inside ⌝ }
     ensures { λ l. ⌜ LinksWhole (now (rule .entry)) groups (now (table .entry)) (now (area .entry)) (now (area .exit)) inside l ⌝ }

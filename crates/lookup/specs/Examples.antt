@@ -57,7 +57,7 @@ examples =
     ∷ looking "nm" (entry "n") "ab" 0 (rowOf 0 2 (0 ∷ 1 ∷ [])) Nothing
     -- 02 E21: of several the first
     ∷ looking "n" (entry "n" ++ entry "n") "ab" 0 (rowOf 0 2 (unset ∷ unset ∷ 1 ∷ 2 ∷ [])) Standing
-    -- the last entry of 32 counts, and none behind it
+    -- the last entry counts, and none behind it
     ∷ looking "n" (nameless (groupLimit - 1) ++ entry "n") "ab" 0 (endingIn 0 1) (Taken 0 1)
     ∷ looking "n" (nameless groupLimit ++ entry "n") "ab" 0 (endingIn 0 1) Nothing
     -- a length byte of 0 is no name, one of 16 is, one of 17 is none
@@ -83,6 +83,8 @@ examples =
     -- 02 E27: a number fewer than a row has, and one more
     ∷ looking "n" (entry "n") "ab" 0 (take (rowLength - 1) (rowOf 0 2 (0 ∷ 1 ∷ []))) Nothing
     ∷ looking "n" (entry "n") "ab" 0 (rowOf 0 2 (0 ∷ 1 ∷ []) ++ (7 ∷ [])) (Taken 0 1)
+    -- 02 J2: an old row, of 32 groups
+    ∷ looking "n" (entry "n") "ab" 0 (take 66 (rowOf 0 2 (0 ∷ 1 ∷ []))) Nothing
     -- 02 E28: a group that took nothing, one that is unset, an unknown field, and lines that did not match
     ∷ looking "n" (entry "n") "ab" 0 (rowOf 0 2 (1 ∷ 1 ∷ [])) (Taken 1 1)
     ∷ looking "n" (entry "n") "ab" 0 (rowOf 0 2 []) Standing

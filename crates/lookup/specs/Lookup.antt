@@ -26,7 +26,7 @@ ofSpan from to = if isUnset from to then Standing else Taken from to
 unfoldable pub ofGroup : (group : ℕ) (row : Row) → Found
 ofGroup group row = if eqb group 0 then Nothing else ofSpan (spanFrom row group) (spanTo row group)
 
--- The answer is its kind, of which 0 is matched, and the numbers lent for its row: the first 66 of them are the row, and fewer are none.
+-- The answer is its kind, of which 0 is matched, and the numbers lent for its row: as many of them as a row has are the row, and fewer are none.
 unfoldable pub lookup : (name names line : List ℕ) (kind : ℕ) (numbers : List ℕ) → Found
 lookup name names line kind numbers =
     let row = take rowLength numbers in

@@ -33,6 +33,6 @@ unfoldable pub firstNamed : (many : ℕ) (name names : List ℕ) (group : ℕ) �
 firstNamed zero name names group = 0
 firstNamed (suc many) name names group = if isOf name (entryOf names group) then group else firstNamed many name names (suc group)
 
--- "of its first 32 entries the first whole one of that name .. counts"
+-- "the first whole one of that name .. counts", of as many entries as there can be groups; 02, j): "64 entries, all of them counting in the lookup"
 unfoldable pub groupNamed : (name names : List ℕ) → ℕ
 groupNamed name names = firstNamed groupLimit name names 1

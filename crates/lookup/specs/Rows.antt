@@ -20,6 +20,6 @@ unfoldable pub spansHold : (many : ℕ) (row : Row) (group : ℕ) → Bool
 spansHold zero row group = true
 spansHold (suc many) row group = spanHolds (getD row 0 0) (getD row 1 0) (spanFrom row group) (spanTo row group) && spansHold many row (suc group)
 
--- "A row is 66 numbers of 32 bits: start, end, then 32 pairs", and "Start <= end <= length", for a line of that length
+-- "A row becomes 130 numbers: start, end and 64 pairs" (02, j), and 01's "Start <= end <= length", for a line of that length
 unfoldable pub isRow : (size : ℕ) (row : Row) → Bool
 isRow size row = eqb (length row) rowLength && leb (getD row 0 0) (getD row 1 0) && leb (getD row 1 0) size && spansHold groupLimit row 1

@@ -1,14 +1,12 @@
 // The name index: the group that has a name.
 use check::same;
+use syntax::NAME_ENTRY;
+use syntax::NAME_LIMIT;
 ghost use mathlib.Core.Path.{_≡_};
 ghost use Rattle.lookup.specs.Names.{isOf, groupNamed};
 
-// the most groups, and the entry of each: the length of its name and room for the longest
-pub const GROUP_LIMIT: usize = index::SPANS_LENGTH / 2;
-
-const NAME_LIMIT: usize = 16;
-
-const NAME_ENTRY: usize = NAME_LIMIT + 1;
+// the most groups, of which each has an entry: the length of its name and room for the longest
+pub const GROUPS: usize = syntax::GROUP_LIMIT as usize;
 
 // Whether an entry is whole and has this name. The bytes behind the name are not looked at, whoever filled them.
 fn is_of(name: &[u8], bytes: &[u8]) -> bool
@@ -33,7 +31,7 @@ pub fn group_named(name: &[u8], names: &[u8]) -> usize
     ensures { λ r. ⌜ r ≡ groupNamed (now (name .entry)) (now (names .entry)) ⌝ }
 {
     let mut passed: usize = 0;
-    while passed < GROUP_LIMIT {
+    while passed < GROUPS {
         let from = passed * NAME_ENTRY;
         let to = from + NAME_ENTRY;
         if names.len() < to {

@@ -1,5 +1,5 @@
 // Whether numbers are a row for a line: whoever lent them may have written anything there.
-use crate::names::GROUP_LIMIT;
+use crate::names::GROUPS;
 use index::ROW_LENGTH;
 use index::UNSET;
 ghost use mathlib.Core.Path.{_≡_};
@@ -39,7 +39,7 @@ fn spans_hold(row: &[u32], start: u32, end: u32) -> bool
     ensures { λ r. ⌜ r ≡ spansHold groupLimit (now (row .entry)) 1 ⌝ }
 {
     let mut passed: usize = 0;
-    while passed < GROUP_LIMIT {
+    while passed < GROUPS {
         let from = row[2 + 2 * passed];
         let to = row[3 + 2 * passed];
         if !span_holds(start, end, from, to) {

@@ -2,7 +2,7 @@
 // is written.
 //
 // `match_line` is the call, which compiles its rule and clears what it was lent. `match_held` is its inside, for a rule that stands compiled: it may be
-// used for one line after another, and costs the walk, the search for the rule's opening and the writing of 162 registers. `match_opened` is handed the
+// used for one line after another, and costs the walk, the search for the rule's opening and the writing of all registers. `match_opened` is handed the
 // opening, for a caller that has many short lines: to find it costs as much as such a line's walk.
 use frame::Preparation;
 use frame::REGISTERS;

@@ -1,6 +1,7 @@
 // Why a rule or a card is refused, as the one who started the program is told.
 use crate::output::say;
 use crate::output::say_number;
+use syntax::GROUP_LIMIT;
 use syntax::Refusal;
 use text::line_end;
 ghost use Prim.Native.Nat.{_≤_, _<_};
@@ -8,6 +9,9 @@ ghost use lib.ListN.{length};
 
 // The lowest number of a refusal that has a place in the rule.
 const FIRST_IN_RULE: u32 = 10;
+
+// The number of the refusal whose meaning ends in how many groups there can be.
+const TOO_MANY_GROUPS: u32 = 23;
 
 // Whether a refusal is about a card, which has no place.
 fn is_of_card(number: u32) -> bool {
@@ -60,7 +64,7 @@ a repeat of a repeat\n\
 this bracket is not closed by )\n\
 a ) that closes nothing\n\
 (? is followed by neither : nor <\n\
-the 33rd group; a rule has at most 32\n\
+one group too many; a rule has at most \n\
 the 25th bracket inside another; they nest at most 24 deep\n\
 a name is missing, malformed or not closed\n\
 this name is used twice\n\
@@ -74,6 +78,9 @@ a byte that pads the rule is not 00, or bytes stand behind the last record\n\
 the number of groups that it says is not the rule's\n",
         number,
     );
+    if number == TOO_MANY_GROUPS {
+        say_number(b"", GROUP_LIMIT as u64, b"");
+    }
 }
 
 // The window of the rule that begins at a position, with the place marked if it lies there.

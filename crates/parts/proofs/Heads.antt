@@ -37,16 +37,13 @@ then-as : {A B : Type 0} (a : Read A) (j k : A → ℕ → Read B) → ((x : A) 
 then-as (sound x n) j k h = h x n
 then-as (refused place why) j k h = refl
 
-few-yes : (n : ℕ) → n < 32 → ltb n groupLimit ≡ true
-unfolding groupLimit
-few-yes n h = lt-ltb n 32 h
+few-yes : (n : ℕ) → n < groupLimit → ltb n groupLimit ≡ true
+few-yes n h = lt-ltb n groupLimit h
 
-few-no : (n : ℕ) → 32 ≤ n → ltb n groupLimit ≡ false
-unfolding groupLimit
-few-no n h = le-ltb n 32 h
+few-no : (n : ℕ) → groupLimit ≤ n → ltb n groupLimit ≡ false
+few-no n h = le-ltb n groupLimit h
 
-next-few : (n : ℕ) → n < 32 → n + 1 ≤ groupLimit
-unfolding groupLimit
+next-few : (n : ℕ) → n < groupLimit → n + 1 ≤ groupLimit
 next-few n h = omega arith
 
 pub head-none : (s : List ℕ) (at : ℕ) (names : Names) (start number : ℕ) (named : Bool) → number ≡ 0 → headOf s at names start number named ≡ sound names start
@@ -63,13 +60,13 @@ module _ (s : List ℕ) (inner : Inner) (at : ℕ) (names : Names) (name : Read 
   number-next : (t : Rule) → group (suc (length names)) t ≡ grouping (opened + 1) t
   number-next t = let z : suc (length names) ≡ opened + 1 = omega arith in ap (λ (k : ℕ). group k t) z ∙ sym (grouping-some (opened + 1) t (λ e. omega arith))
 
-  capture-some : opened < 32 → capturing s inner at names name ≡ andThen (inner at (andThen name (λ m next. sound (m ∷ names) next))) (λ r end. closing s at (grouping (opened + 1) (r .0)) (r .1) end)
+  capture-some : opened < groupLimit → capturing s inner at names name ≡ andThen (inner at (andThen name (λ m next. sound (m ∷ names) next))) (λ r end. closing s at (grouping (opened + 1) (r .0)) (r .1) end)
   unfolding capturing
   capture-some h =
       let few : ltb (length names) groupLimit ≡ true = few-yes (length names) (omega arith) in
       rw few (then-as (inner at (andThen name (λ m next. sound (m ∷ names) next))) _ _ (λ r end. ap (λ (t : Rule). closing s at t (r .1) end) (number-next (r .0))))
 
-  capture-many : 32 ≤ opened → capturing s inner at names name ≡ refused at TooManyGroups
+  capture-many : groupLimit ≤ opened → capturing s inner at names name ≡ refused at TooManyGroups
   unfolding capturing
   capture-many h = let many : ltb (length names) groupLimit ≡ false = few-no (length names) (omega arith) in rw many
 
@@ -87,7 +84,7 @@ module _ {s : List ℕ} {at b : ℕ} (opened : ℕ) (p : Peeked s (at + 1) b) (l
     unfolding grouped
     grouped-named f inner names = rw (← p .is, e, ← q .is, f)
 
-    pub bracket-named : d ≡ 60 → opened < 32 → Bracketed s at opened (at + 3) (opened + 1) true
+    pub bracket-named : d ≡ 60 → opened < groupLimit → Bracketed s at opened (at + 3) (opened + 1) true
     bracket-named f few = record {
       on = omega arith;
       within = omega arith;
@@ -96,14 +93,14 @@ module _ {s : List ℕ} {at b : ℕ} (opened : ℕ) (p : Peeked s (at + 1) b) (l
       goes = λ inner names n. grouped-named f inner names ∙ capture-some s inner at names _ n few ∙ rw (head-some s at names (at + 3) (opened + 1) true (λ z. omega arith));
     }
 
-    pub named-many : d ≡ 60 → 32 ≤ opened → (inner : Inner) (names : Names) → length names ≡ opened → grouped s inner at names ≡ refused at TooManyGroups
+    pub named-many : d ≡ 60 → groupLimit ≤ opened → (inner : Inner) (names : Names) → length names ≡ opened → grouped s inner at names ≡ refused at TooManyGroups
     named-many f many inner names n = grouped-named f inner names ∙ capture-many s inner at names _ n many
 
   grouped-plainly : (b ≡ 63 → ⊥) → (inner : Inner) (names : Names) → grouped s inner at names ≡ capturing s inner at names (sound [] (at + 1))
   unfolding grouped
   grouped-plainly ne inner names = rw (← p .is) (simp (ne-eqb b 63 ne))
 
-  pub bracket-capture : (b ≡ 63 → ⊥) → opened < 32 → Bracketed s at opened (at + 1) (opened + 1) false
+  pub bracket-capture : (b ≡ 63 → ⊥) → opened < groupLimit → Bracketed s at opened (at + 1) (opened + 1) false
   bracket-capture ne few = record {
     on = omega arith;
     within = omega arith;
@@ -112,7 +109,7 @@ module _ {s : List ℕ} {at b : ℕ} (opened : ℕ) (p : Peeked s (at + 1) b) (l
     goes = λ inner names n. grouped-plainly ne inner names ∙ capture-some s inner at names _ n few ∙ rw (head-some s at names (at + 1) (opened + 1) false (λ z. omega arith));
   }
 
-  pub capture-too-many : (b ≡ 63 → ⊥) → 32 ≤ opened → (inner : Inner) (names : Names) → length names ≡ opened → grouped s inner at names ≡ refused at TooManyGroups
+  pub capture-too-many : (b ≡ 63 → ⊥) → groupLimit ≤ opened → (inner : Inner) (names : Names) → length names ≡ opened → grouped s inner at names ≡ refused at TooManyGroups
   capture-too-many ne many inner names n = grouped-plainly ne inner names ∙ capture-many s inner at names _ n many
 
 -- The table -------------------------------------------------------------------------

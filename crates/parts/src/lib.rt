@@ -24,9 +24,6 @@ pub const REPEATABLE: u32 = 1;
 
 const REPEATED: u32 = 2;
 
-// How many groups may capture.
-const GROUP_LIMIT: u32 = 32;
-
 // How far a rule has been read: the position in it, the numbers of the area that are used, and the groups opened.
 pub struct Cursor {
     pub at: usize,

@@ -1,6 +1,5 @@
 // Reads the openings of groups: what a group is, how deep it nests, and its name, in this order, which is that of the refusals on one bracket.
 use crate::Bracket;
-use crate::GROUP_LIMIT;
 use crate::Opening;
 use crate::QUESTION;
 use lexemes::COLON;
@@ -9,6 +8,7 @@ use lexemes::NameRead;
 use lexemes::name_at;
 use lexemes::peek;
 use linker::group_called;
+use syntax::GROUP_LIMIT;
 use syntax::Reason;
 use syntax::Refusal;
 ghost use mathlib.Core.Bool.{true};

@@ -5,6 +5,7 @@ use linker::link;
 use parts::Answer;
 use syntax::Reason;
 use syntax::Refusal;
+use syntax::SPANS_LENGTH;
 ghost use Prim.Native.Nat.{_≤_};
 ghost use lib.ListN.{length};
 ghost use Rattle.syntax.specs.Limits.{ruleLimit, ruleAreaNeed, spansLength};
@@ -15,10 +16,8 @@ ghost use Rattle.reader.specs.Compiles.{SaysWith, Compiles};
 // How many numbers of the area a compiled rule takes at most, with the table of names behind it.
 const RULE_AREA: usize = 16384;
 
-// How many of them the table takes, and where it begins.
-const TABLE: usize = 64;
-
-pub const TABLE_START: usize = RULE_AREA - TABLE;
+// Where the table begins, two numbers for each group.
+pub const TABLE_START: usize = RULE_AREA - SPANS_LENGTH;
 
 // A compiled rule: where it is entered and how many groups it has; or why there is none.
 pub enum Compilation {
@@ -49,12 +48,12 @@ fn compile_into(rule: &[u8], flags: u32, area: &mut [u32], table: &mut [u32]) ->
 }
 
 // Copies the table into its part of the area.
-fn put_table(part: &mut [u32], table: [u32; TABLE])
+fn put_table(part: &mut [u32], table: [u32; SPANS_LENGTH])
     requires { ⌜ spansLength ≤ length (now part) ⌝ }
     ensures { λ _. ⌜ Wrote (now (part .entry)) (now (part .exit)) 0 spansLength table ⌝ }
 {
     let numbers = table;
-    for i in 0..TABLE {
+    for i in 0..SPANS_LENGTH {
         let number = numbers[i];
         part[i] = number;
     }
@@ -66,7 +65,7 @@ pub fn compile(rule: &[u8], flags: u32, area: &mut [u32]) -> Compilation
     requires { ⌜ (length (now rule) ≤ ruleLimit) × (ruleAreaNeed ≤ length (now area)) ⌝ }
     ensures { λ r. ⌜ Compiles (now (rule .entry)) flags (now (area .entry)) (now (area .exit)) r ⌝ }
 {
-    let mut table = [0; TABLE];
+    let mut table = [0; SPANS_LENGTH];
     let r = compile_into(rule, flags, &mut area[..TABLE_START], &mut table);
     put_table(&mut area[TABLE_START..RULE_AREA], table);
     r

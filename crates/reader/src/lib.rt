@@ -14,6 +14,7 @@ use parts::behind;
 use parts::close;
 use parts::opening_at;
 use parts::other;
+use syntax::NESTING_LIMIT;
 use syntax::Reason;
 use syntax::Refusal;
 use writer::BRANCH;
@@ -39,9 +40,6 @@ pub use compiling::compile;
 const OPENING: u32 = b'(' as u32;
 
 const BAR: u32 = b'|' as u32;
-
-// How deep groups may nest.
-const NESTING_LIMIT: u32 = 24;
 
 // A group, whose opening bracket stands at the cursor, behind the part at `before`.
 fn group(

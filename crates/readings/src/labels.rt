@@ -8,13 +8,12 @@ use index::ROW_LENGTH;
 use office::ROOM;
 use office::put;
 use office::put_number;
+use syntax::NAME_ENTRY;
+use syntax::NAME_LIMIT;
 ghost use Prim.Native.Nat.{_≤_, _<_};
+ghost use Rattle.syntax.specs.Limits.{groupLimit, nameLimit};
 
-const NAME_LIMIT: usize = 16;
-
-const NAME_ENTRY: usize = NAME_LIMIT + 1;
-
-const GROUP_LIMIT: usize = NAME_INDEX_NEED / NAME_ENTRY;
+const GROUPS: usize = syntax::GROUP_LIMIT as usize;
 
 // The longest label that is no name is `column 65472`.
 const LEAST_MARGIN: usize = 12;
@@ -25,8 +24,8 @@ fn wide(b: u8) -> usize {
 
 // How long the name of the group is that so many others come before; 0 where it has none.
 fn name_length(names: &[u8; NAME_INDEX_NEED], passed: usize) -> usize
-    requires { ⌜ passed < 32 ⌝ }
-    ensures { λ r. ⌜ r ≤ 16 ⌝ }
+    requires { ⌜ passed < groupLimit ⌝ }
+    ensures { λ r. ⌜ r ≤ nameLimit ⌝ }
 {
     let n = wide(names[passed * NAME_ENTRY]);
     // the entries of a rule hold no longer ones
@@ -37,7 +36,7 @@ fn name_length(names: &[u8; NAME_INDEX_NEED], passed: usize) -> usize
 pub(crate) fn margin_for(names: &[u8; NAME_INDEX_NEED]) -> usize {
     let mut margin = LEAST_MARGIN;
     let mut passed: usize = 0;
-    while passed < GROUP_LIMIT {
+    while passed < GROUPS {
         let n = name_length(names, passed);
         if margin < n {
             margin = n;
@@ -93,7 +92,7 @@ fn put_group(
     names: &[u8; NAME_INDEX_NEED],
     passed: usize,
 ) -> usize
-    requires { ⌜ passed < 32 ⌝ }
+    requires { ⌜ passed < groupLimit ⌝ }
 {
     let n = name_length(names, passed);
     if n == 0 {

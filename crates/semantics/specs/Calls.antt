@@ -32,7 +32,7 @@ pub record Call : Type 0 where
 unfoldable pub workAreaNeed : ℕ → ℕ
 workAreaNeed budget = workPerStep * budget
 
--- refusals 1 to 7, "tested in this order"; 02: "New refusal 8, after 7 .. index under 544 bytes". `need` is how many numbers the call needs in its
+-- refusals 1 to 7, "tested in this order"; 02: "New refusal 8, after 7", for a name index that is too short. `need` is how many numbers the call needs in its
 -- result area: a row, or none for an explanation.
 unfoldable pub unacceptable : (need : ℕ) → Call → Option Reason
 unacceptable need c =
@@ -142,7 +142,7 @@ unfoldable pub joined : List Row → List ℕ
 joined [] = []
 joined (x ∷ rows) = x ++ joined rows
 
--- "A listing has as many rows as 66 fits into its area"
+-- "A listing has as many rows as" a row's numbers fit "into its area"
 unfoldable pub room : List ℕ → ℕ
 room area = length area / rowLength
 

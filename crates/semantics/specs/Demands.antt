@@ -63,8 +63,8 @@ pub data Fault (need : ℕ) (c : Call) : Reason → Type 0 where
   budgetTooLarge : budgetLimit < c .budget → Fault need c BudgetTooLarge  -- "budget over 100,000"
   ruleAreaShort : length (c .ruleArea) < ruleAreaNeed → Fault need c RuleAreaShort  -- "rule area short"
   workAreaShort : length (c .workArea) < workAreaNeed (c .budget) → Fault need c WorkAreaShort  -- "work area short"
-  resultAreaShort : length (c .resultArea) < need → Fault need c ResultAreaShort  -- "result area under 66 numbers", where a row is needed
-  nameIndexShort : length (c .names) < nameIndexNeed → Fault need c NameIndexShort  -- 02: "index under 544 bytes"
+  resultAreaShort : length (c .resultArea) < need → Fault need c ResultAreaShort  -- 02, j): "Refusal 7 is given under 130 numbers", where a row is needed
+  nameIndexShort : length (c .names) < nameIndexNeed → Fault need c NameIndexShort  -- 02, j): "8 is given under 1,088 bytes"
 
 abbrev pub Faultless : ℕ → Call → Type 0
 Faultless need c = (why : Reason) → ¬ Fault need c why
@@ -284,7 +284,7 @@ pub record Agreement (a : Answer) (l : Listing) : Type 0 where
 
 -- 01's rows --------------------------------------------------------------------------------
 
--- the two numbers of a group: "start, end, then 32 pairs"
+-- the two numbers of a group: "start, end and 64 pairs"
 abbrev pub spanFrom : Row → ℕ → ℕ
 spanFrom x group = getD (drop 2 x) (slot group) 0
 
@@ -297,7 +297,7 @@ IsUnset from to = (from ≡ unset) × (to ≡ unset)
 
 -- a row of a rule with so many groups
 pub record RowFacts (sub : List ℕ) (groups : ℕ) (x : Row) : Type 0 where
-  -- "A row is 66 numbers"
+  -- 02, j): "A row becomes 130 numbers"
   pub size : length x ≡ rowLength
   -- "Start <= end <= length, and each set span lies within them."
   pub forward : getD x 0 0 ≤ getD x 1 0

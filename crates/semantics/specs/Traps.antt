@@ -1,9 +1,10 @@
 -- 01's traps and the inputs that tell the readings of open points of 01 and 02 apart (docs/DECISIONS.md), of the calls themselves, as in Starred.
 use mathlib.Core.Path.{_≡_, refl}
 use mathlib.Core.List.{List, [], _∷_, _++_, map}
+use Prim.Native.Nat.{_-_, _*_}
 use lib.ListN.{replicate}
 use Rattle.syntax.specs.declared.Reason.the-variants.{UnknownFlag, BudgetTooLarge, ResultAreaShort, UnclosedGroup}
-use Rattle.syntax.specs.Limits.{unset}
+use Rattle.syntax.specs.Limits.{unset, spansLength, partLength}
 use Rattle.semantics.specs.Calls.{Matched, NotMatched, Exhausted, Refused, Complete, Full, ListExhausted, Fits, Unfit, ExplainExhausted, ExplainRefused}
 use Rattle.semantics.specs.Batches.{Done, BatchRefused}
 use Rattle.semantics.specs.Starred.{rowOf, Checked, matching, listing, scanning, explaining, batching, missed, noRow, calls, expected, computing-checks}
@@ -169,12 +170,15 @@ traps =
     ∷ batching "a" 0 "\n\na" 99 (Done 3) (noRow ++ 1 ∷ 0 ∷ 1 ∷ 0 ∷ noRow ++ 1 ∷ 0 ∷ 1 ∷ 0 ∷ rowOf 0 1 [] ++ 0 ∷ 0 ∷ 2 ∷ 0 ∷ [])
     ∷ batching "a$" 0 "a\r\n" 99 (Done 1) (noRow ++ 1 ∷ 0 ∷ 4 ∷ 0 ∷ [])
     -- 02 H4: 7 where lines outnumber parts, also before the rule is read; the rest of the area, and a part without a line, stay
-    ∷ batching "(" 0 "a\na" 99 (BatchRefused 0 ResultAreaShort) (replicate 139 7)
+    ∷ batching "(" 0 "a\na" 99 (BatchRefused 0 ResultAreaShort) (replicate (2 * partLength - 1) 7)
     ∷ batching "a" 0 "a\na" 99 (Done 2) (rowOf 0 1 [] ++ 0 ∷ 0 ∷ 2 ∷ 0 ∷ rowOf 0 1 [] ++ 0 ∷ 0 ∷ 2 ∷ 0 ∷ 7 ∷ [])
     ∷ batching "a" 0 "a" 99 (Done 1) (rowOf 0 1 [] ++ 0 ∷ 0 ∷ 2 ∷ 0 ∷ noRow ++ 7 ∷ 7 ∷ 7 ∷ 7 ∷ [])
     -- 02 H7: an exhausted line tells its start, and the others go on
     ∷ batching "a{3}" 0 "baaa\naaa\n" 5 (Done 2) (noRow ++ 2 ∷ 1 ∷ 7 ∷ 0 ∷ noRow ++ 2 ∷ 0 ∷ 5 ∷ 0 ∷ [])
     ∷ batching "a*" 0 "aa\nb" 6 (Done 2) (noRow ++ 2 ∷ 0 ∷ 6 ∷ 0 ∷ rowOf 0 0 [] ++ 0 ∷ 0 ∷ 3 ∷ 0 ∷ [])
+    -- 02 j: the last of all groups is told, and a reference to it holds
+    ∷ matching "()()()()()()()()()()()()()()()()()()()()()()()()()()()()()()()()()()()()()()()()()()()()()()()()()()()()()()()()()()()()()()()(a)" 0 "a" 999 (Matched 130) (rowOf 0 1 (replicate (spansLength - 2) 0 ++ (0 ∷ 1 ∷ [])) ∷ [])
+    ∷ matching "()()()()()()()()()()()()()()()()()()()()()()()()()()()()()()()()()()()()()()()()()()()()()()()()()()()()()()()()()()()()()()()(a)\\64" 0 "aa" 999 (Matched 132) (rowOf 0 2 (replicate (spansLength - 2) 0 ++ (0 ∷ 1 ∷ [])) ∷ [])
     ∷ []
 
 pub traps-avoided : map calls traps ≡ map expected traps

@@ -38,9 +38,9 @@ flagBits = 4
 
 -- What a rule may hold --------------------------------------------------------
 
--- the most capturing groups that a rule can have
+-- the most capturing groups that a rule can have; 02, j): "23 at the 65th group"
 unfoldable pub groupLimit : ℕ
-groupLimit = 32
+groupLimit = 64
 
 -- "groups nest at most 24 deep"
 unfoldable pub nestingLimit : ℕ
@@ -60,7 +60,7 @@ byteLimit = 255
 unfoldable pub unset : ℕ
 unset = 4294967295
 
--- two numbers for each group, "start, end, then 32 pairs"
+-- two numbers for each group: a row is "start, end and 64 pairs" (02, j)
 unfoldable pub spansLength : ℕ
 unfolding groupLimit
 spansLength = 2 * groupLimit
@@ -84,12 +84,12 @@ partLength = rowLength + 4
 unfoldable pub nameLimit : ℕ
 nameLimit = 16
 
--- "for each of 32 groups 17 bytes, the length (0 if none) and the name padded with 00"
+-- "for each of" the "groups 17 bytes, the length (0 if none) and the name padded with 00"
 unfoldable pub nameEntry : ℕ
 unfolding nameLimit
 nameEntry = suc nameLimit
 
--- "index under 544 bytes"
+-- 02, j): "8 is given under 1,088 bytes"
 unfoldable pub nameIndexNeed : ℕ
 unfolding groupLimit nameEntry
 nameIndexNeed = groupLimit * nameEntry

@@ -1,6 +1,19 @@
-// What a rule is refused for. Rules themselves are defined in specs/.
+// What a rule is refused for, and the quantities that the code shares with the definitions. Rules themselves are defined in specs/.
 ghost use mathlib.Core.Path.{_≡_};
 ghost use Rattle.syntax.specs.Refusals.{numberOf};
+
+mod limits;
+
+pub use limits::GROUP_LIMIT;
+pub use limits::NAME_ENTRY;
+pub use limits::NAME_INDEX_NEED;
+pub use limits::NAME_LIMIT;
+pub use limits::NESTING_LIMIT;
+pub use limits::REGISTERS;
+pub use limits::ROW_LENGTH;
+pub use limits::SPANS_LENGTH;
+pub use limits::group_limit;
+pub use limits::name_limit;
 
 // Why a call is refused. The place stands beside it, in the refusal.
 pub enum Reason {

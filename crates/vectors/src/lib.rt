@@ -5,11 +5,11 @@ ghost use lib.ListN.{length};
 ghost use lib.Seq.{slice};
 ghost use Rattle.vectors.specs.Text.{digitValue, numberIn, Decoded, wordEnd, nextWord};
 
-// 131,072 zeros, for the whole input of a program.
-pub fn input_buffer() -> [u8; 131072]
-    ensures { λ r. ⌜ 131072 ≡ length r ⌝ }
+// 262,144 zeros, for the whole input of a program.
+pub fn input_buffer() -> [u8; 262144]
+    ensures { λ r. ⌜ 262144 ≡ length r ⌝ }
 {
-    [0; 131072]
+    [0; 262144]
 }
 
 // What a hex digit stands for; 0 for any other byte.

@@ -8,6 +8,7 @@ use libc::STDOUT_FILENO;
 use machine::Machine;
 use machine::Stop;
 use reader::Compilation;
+use syntax::REGISTERS;
 ghost use mathlib.Core.Path.{_≡_};
 ghost use mathlib.Core.List.{List};
 ghost use Prim.Native.Nat.{ℕ, _+_, _*_, _≤_, _<_, _^_};
@@ -118,7 +119,7 @@ fn walk_from(
     requires { ⌜ (start ≤ length (now sub)) × (length (now sub) < 2 ^ 32) × (length (now code) < 2 ^ 32) × (8 * budget ≤ length (now work)) × (groups ≤ groupLimit) × (pc < 2 ^ 32) ⌝ }
     requires { ⌜ ((x : Rule) × Stands (now code) x pc) ⌝ }
 {
-    let mut regs = [4294967295u32; 162];
+    let mut regs = [4294967295u32; REGISTERS];
     let m = machine::start(pc as u32, start as u32);
     walk(code, sub, &mut regs, work, m, budget, groups as usize);
 }

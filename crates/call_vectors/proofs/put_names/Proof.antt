@@ -2,15 +2,16 @@
 use native.Mathlib.Omega.{arith}
 use lib.ListN.{length-take}
 use Prim.Native.Nat.{_≤_, _-_}
+use Rattle.syntax.specs.Limits.{groupLimit}
 use borrow.Author.Needs.{needs}
 use Rattle.call_vectors.proofs.put_names.Statement.{statement}
 use Rattle.call_vectors.proofs.put_names.Tie as tie
 
 abbrev Inv-loop : tie.InvT-loop
-Inv-loop names g₀ t6 t7 t8 g = g ≤ 32
+Inv-loop names g₀ t6 t7 t8 g = g ≤ groupLimit
 
 abbrev μ-loop : tie.MeasureT-loop
-μ-loop names g₀ t6 t7 t8 g = 32 - g
+μ-loop names g₀ t6 t7 t8 g = groupLimit - g
 
 returns : tie.Need-returns Inv-loop μ-loop
 returns c = search needs
@@ -34,18 +35,22 @@ loop-holds : tie.Need-loop-holds Inv-loop μ-loop
 loop-holds c = search needs
 
 mul-from : tie.Need-mul-from Inv-loop μ-loop
+unfolding groupLimit
 mul-from c = search needs
 
 add-to : tie.Need-add-to Inv-loop μ-loop
+unfolding groupLimit
 add-to c = search needs
 
 sub-is-clear : tie.Need-sub-is-clear Inv-loop μ-loop
 sub-is-clear c = search needs
 
 part-is-clear-start : tie.Need-part-is-clear-start Inv-loop μ-loop
+unfolding groupLimit
 part-is-clear-start c = search needs
 
 part-is-clear-end : tie.Need-part-is-clear-end Inv-loop μ-loop
+unfolding groupLimit
 part-is-clear-end c = search needs
 
 is-clear-requires-2 : tie.Need-is-clear-requires-2 Inv-loop μ-loop
@@ -58,6 +63,7 @@ put-requires-2 : tie.Need-put-requires-2 Inv-loop μ-loop
 put-requires-2 c κs = search needs
 
 add-put-number : tie.Need-add-put-number Inv-loop μ-loop
+unfolding groupLimit
 add-put-number c = search needs
 
 put-number-requires : tie.Need-put-number-requires Inv-loop μ-loop
@@ -73,21 +79,26 @@ sub-put-hex : tie.Need-sub-put-hex Inv-loop μ-loop
 sub-put-hex c = search needs
 
 part-put-hex-start : tie.Need-part-put-hex-start Inv-loop μ-loop
+unfolding groupLimit
 part-put-hex-start c = search needs
 
 part-put-hex-end : tie.Need-part-put-hex-end Inv-loop μ-loop
+unfolding groupLimit
 part-put-hex-end c = search needs
 
 put-hex-requires : tie.Need-put-hex-requires Inv-loop μ-loop
 put-hex-requires c κs = search needs
 
 add-g : tie.Need-add-g Inv-loop μ-loop
+unfolding groupLimit
 add-g c = search needs
 
 loop-less : tie.Need-loop-less Inv-loop μ-loop
+unfolding groupLimit
 loop-less c = search needs
 
 loop-again : tie.Need-loop-again Inv-loop μ-loop
+unfolding groupLimit
 loop-again c = search needs
 
 slice-aggregate-put-4 : tie.Need-slice-aggregate-put-4 Inv-loop μ-loop

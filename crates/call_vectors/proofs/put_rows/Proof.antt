@@ -2,11 +2,12 @@
 use borrow.Author.Needs.{needs}
 use Prim.Native.Nat.{_≤_, _-_, _+_}
 use lib.ListN.{length}
+use Rattle.syntax.specs.Limits.{rowLength}
 use Rattle.call_vectors.proofs.put_rows.Statement.{statement}
 use Rattle.call_vectors.proofs.put_rows.Tie as tie
 
 abbrev Inv-loop : tie.InvT-loop
-Inv-loop results rows i₀ base₀ i base = base ≤ length results + 66
+Inv-loop results rows i₀ base₀ i base = base ≤ length results + rowLength
 
 abbrev μ-loop : tie.MeasureT-loop
 μ-loop results rows i₀ base₀ i base = rows - i
@@ -21,6 +22,7 @@ returns : tie.Need-returns Inv-loop μ-loop
 returns c = search needs
 
 add-base : tie.Need-add-base Inv-loop μ-loop
+unfolding rowLength
 add-base c = search needs
 
 add-i : tie.Need-add-i Inv-loop μ-loop
@@ -30,6 +32,7 @@ loop-less : tie.Need-loop-less Inv-loop μ-loop
 loop-less c = search needs
 
 loop-again : tie.Need-loop-again Inv-loop μ-loop
+unfolding rowLength
 loop-again c = search needs
 
 returns-2 : tie.Need-returns-2 Inv-loop μ-loop

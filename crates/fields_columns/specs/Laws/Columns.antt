@@ -29,38 +29,40 @@ behind-first n m [] h = refl
 behind-first n m (x ∷ l) h = take-take n m l h
 
 -- the bytes behind the first of an entry, as many as it says
-module _ (columns : List ℕ) (i from : ℕ) (at : from ≡ i * 17) where
-  entry-at : entryOf columns (suc i) ≡ take 17 (drop from columns)
-  unfolding entryOf nameEntry nameLimit
-  entry-at = let e : 17 * (suc i - 1) ≡ from = omega arith in rw e
+module _ (columns : List ℕ) (i from : ℕ) (at : from ≡ i * nameEntry) where
+  entry-at : entryOf columns (suc i) ≡ take nameEntry (drop from columns)
+  unfolding entryOf nameEntry
+  entry-at = let e : nameEntry * (suc i - 1) ≡ from = omega arith in rw e
 
   length-at : nameLength (entryOf columns (suc i)) ≡ getD columns from 0
-  unfolding nameLength
-  length-at = rw entry-at (getD-take 17 (drop from columns) 0 0 (omega arith) ∙ getD-drop from columns 0 0 ∙ ap (λ (k : ℕ). getD columns k 0) (omega arith))
+  unfolding nameLength nameEntry
+  length-at = rw entry-at (getD-take nameEntry (drop from columns) 0 0 (omega arith) ∙ getD-drop from columns 0 0 ∙ ap (λ (k : ℕ). getD columns k 0) (omega arith))
 
   -- as far as there is room for a name
-  bytes-at : (n : ℕ) → n ≤ 16 → take n (drop 1 (entryOf columns (suc i))) ≡ take n (drop (from + 1) columns)
-  bytes-at n h = rw entry-at (behind-first n 16 (drop from columns) h ∙ ap (take n) (drop-drop 1 from columns))
+  bytes-at : (n : ℕ) → n ≤ nameLimit → take n (drop 1 (entryOf columns (suc i))) ≡ take n (drop (from + 1) columns)
+  unfolding nameEntry
+  bytes-at n h = rw entry-at (behind-first n nameLimit (drop from columns) h ∙ ap (take n) (drop-drop 1 from columns))
 
-  short : (n : ℕ) → 16 ≤ n → length (drop 1 (entryOf columns (suc i))) ≤ n
-  short n h = rw entry-at (omega (arith, length-drop 1 (take 17 (drop from columns)), length-take 17 (drop from columns)))
+  short : (n : ℕ) → nameLimit ≤ n → length (drop 1 (entryOf columns (suc i))) ≤ n
+  unfolding nameEntry
+  short n h = rw entry-at (omega (arith, length-drop 1 (take nameEntry (drop from columns)), length-take nameEntry (drop from columns)))
 
-  pub name-at : (size end : ℕ) → size ≡ min (getD columns from 0) 16 → end ≡ from + 1 + size → take (end - (from + 1)) (drop (from + 1) columns) ≡ nameAt columns i
-  unfolding nameAt nameIn
+  pub name-at : (size end : ℕ) → size ≡ min (getD columns from 0) nameLimit → end ≡ from + 1 + size → take (end - (from + 1)) (drop (from + 1) columns) ≡ nameAt columns i
+  unfolding nameAt nameIn nameLimit
   name-at size end s e =
       let f : end - (from + 1) ≡ size = omega arith in
-      let few : size ≤ 16 = omega arith in
-      rw (f, length-at) (sym (bytes-at size few) ∙ elim (le-or (getD columns from 0) 16) [
+      let few : size ≤ nameLimit = omega arith in
+      rw (f, length-at) (sym (bytes-at size few) ∙ elim (le-or (getD columns from 0) nameLimit) [
         | inl h ↦ let a : size ≡ getD columns from 0 = omega arith in ap (λ (k : ℕ). take k (drop 1 (entryOf columns (suc i)))) a
         | inr h ↦ take-all size (drop 1 (entryOf columns (suc i))) (short size (omega arith)) ∙ sym (take-all (getD columns from 0) (drop 1 (entryOf columns (suc i))) (short (getD columns from 0) (omega arith)))
       ])
 
 -- a name is short
-pub name-short : (columns : List ℕ) (i : ℕ) → length (nameAt columns i) ≤ 16
+pub name-short : (columns : List ℕ) (i : ℕ) → length (nameAt columns i) ≤ nameLimit
 unfolding nameAt nameIn
 name-short columns i =
     let entry = entryOf columns (suc i) in
-    omega (arith, length-take (nameLength entry) (drop 1 entry), short columns i (i * 17) refl 16 (omega arith))
+    omega (arith, length-take (nameLength entry) (drop 1 entry), short columns i (i * nameEntry) refl nameLimit (omega arith))
 
 -- A column put behind others ------------------------------------------------------
 
@@ -75,30 +77,31 @@ shared-part : (a b : List ℕ) (n k m : ℕ) → take n a ≡ take n b → k + m
 shared-part a b n k m e h =
     part-of k m a ∙ ap (drop k) (sym (take-take (k + m) n a h) ∙ ap (take (k + m)) e ∙ take-take (k + m) n b h) ∙ sym (part-of k m b)
 
-module _ (columns : List ℕ) (count : ℕ) (name new : List ℕ) (short : length name ≤ 16) (fits : count * 17 + 17 ≤ length columns) (is : new ≡ written columns (count * 17) (length name ∷ name)) where
-  front : length (take (count * 17) columns) ≡ count * 17
-  front = length-take-le (count * 17) columns (omega arith)
+module _ (columns : List ℕ) (count : ℕ) (name new : List ℕ) (short : length name ≤ nameLimit) (fits : count * nameEntry + nameEntry ≤ length columns) (is : new ≡ written columns (count * nameEntry) (length name ∷ name)) where
+  front : length (take (count * nameEntry) columns) ≡ count * nameEntry
+  unfolding nameEntry
+  front = length-take-le (count * nameEntry) columns (omega arith)
 
   rest : List ℕ
-  rest = drop (count * 17 + length (length name ∷ name)) columns
+  rest = drop (count * nameEntry + length (length name ∷ name)) columns
 
-  kept : take (count * 17) new ≡ take (count * 17) columns
+  kept : take (count * nameEntry) new ≡ take (count * nameEntry) columns
   unfolding written rest
-  kept = rw is (take-at (take (count * 17) columns) ((length name ∷ name) ++ rest) (count * 17) front)
+  kept = rw is (take-at (take (count * nameEntry) columns) ((length name ∷ name) ++ rest) (count * nameEntry) front)
 
-  behind : drop (count * 17) new ≡ length name ∷ (name ++ rest)
+  behind : drop (count * nameEntry) new ≡ length name ∷ (name ++ rest)
   unfolding written rest
-  behind = rw is (drop-at (take (count * 17) columns) ((length name ∷ name) ++ rest) (count * 17) front)
+  behind = rw is (drop-at (take (count * nameEntry) columns) ((length name ∷ name) ++ rest) (count * nameEntry) front)
 
   -- the new name
   name-new : nameAt new count ≡ name
-  unfolding nameAt nameIn nameLength
-  name-new = rw (entry-at new count (count * 17) refl, behind) (take-take (length name) 16 (name ++ rest) short ∙ take-at name rest (length name) refl)
+  unfolding nameAt nameIn nameLength nameEntry
+  name-new = rw (entry-at new count (count * nameEntry) refl, behind) (take-take (length name) nameLimit (name ++ rest) short ∙ take-at name rest (length name) refl)
 
   -- and those before it
   name-old : (i : ℕ) → i < count → nameAt new i ≡ nameAt columns i
-  unfolding nameAt
-  name-old i h = ap nameIn (entry-at new i (i * 17) refl ∙ shared-part new columns (count * 17) (i * 17) 17 kept (omega arith) ∙ sym (entry-at columns i (i * 17) refl))
+  unfolding nameAt nameEntry
+  name-old i h = ap nameIn (entry-at new i (i * nameEntry) refl ∙ shared-part new columns (count * nameEntry) (i * nameEntry) nameEntry kept (omega arith) ∙ sym (entry-at columns i (i * nameEntry) refl))
 
   added-from : (many i : ℕ) → i + many ≡ count → namesFrom new i (suc many) ≡ namesFrom columns i many ++ (name ∷ [])
   unfolding namesFrom

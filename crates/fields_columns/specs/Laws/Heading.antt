@@ -5,6 +5,7 @@ use Prim.Native.Nat.{ℕ, _+_, _-_, _*_, _≤_, _<_}
 use native.Mathlib.Numerals.{add-one}
 use native.Mathlib.Omega.{arith}
 use lib.ListN.{length}
+use Rattle.syntax.specs.Limits.{groupLimit, nameLimit}
 use Rattle.syntax.specs.Read.{bytes}
 use Rattle.text.specs.Lines.{newline}
 use Rattle.text.specs.Writing.{Wrote}
@@ -13,7 +14,7 @@ use Rattle.fields_text.specs.Escaping.{escaped}
 use Rattle.fields_text.specs.Table.{tab, cells, opening, headLine}
 use Rattle.fields_text.specs.Promises.{WroteUpTo}
 use Rattle.fields_columns.specs.Columns.{nameAt, namesFrom}
-use Rattle.fields_columns.specs.Promises.{headRoom, Named}
+use Rattle.fields_columns.specs.Promises.{columnRoom, headRoom, Named}
 use Rattle.fields_columns.specs.Laws.Columns.{names-next, names-none, name-short}
 
 cells-empty : cells [] ≡ newline ∷ []
@@ -22,13 +23,14 @@ cells-empty = refl
 
 module _ (columns : List ℕ) (count : ℕ) (out : List ℕ) (at : ℕ) where
   pub named-first : Named columns count 0 out at out at
+  unfolding columnRoom
   named-first = record { text = []; wrote = wroteNothing out at; near = omega arith; goes-on = let e : count - 0 ≡ count = omega arith in rw e }
 
-  pub named-next : {mid o₁ new : List ℕ} {e e₁ e₂ : ℕ} (i : ℕ) (name : List ℕ) → i < count → name ≡ nameAt columns i → e + 65 ≤ length out → length mid ≡ length out → length o₁ ≡ length out
+  pub named-next : {mid o₁ new : List ℕ} {e e₁ e₂ : ℕ} (i : ℕ) (name : List ℕ) → i < count → name ≡ nameAt columns i → e + columnRoom ≤ length out → length mid ≡ length out → length o₁ ≡ length out
       → Named columns count i out at mid e → Wrote mid e (tab ∷ []) o₁ e₁ → WroteUpTo (4 * length name) o₁ e₁ (escaped name) new e₂ → Named columns count (i + 1) out at new e₂
-  unfolding cells
+  unfolding cells columnRoom
   named-next i name h is fits a b n t w =
-      let short : length name ≤ 16 = rw is (name-short columns i) in
+      let short : length name ≤ nameLimit = rw is (name-short columns i) in
       record {
         text = (n .text ++ (tab ∷ [])) ++ escaped name;
         wrote = wroteBoth (omega (arith, t .ends)) (wroteBoth (omega arith) (n .wrote) t) (w .wrote);
@@ -36,7 +38,7 @@ module _ (columns : List ℕ) (count : ℕ) (out : List ℕ) (at : ℕ) where
         goes-on = n .goes-on ∙ rw (names-next columns i count h, add-one i, is) (simp append-assoc);
       }
 
-  pub headed : {o₁ o₂ new : List ℕ} {e₁ e₂ e : ℕ} → count ≤ 32 → at + headRoom ≤ length out
+  pub headed : {o₁ o₂ new : List ℕ} {e₁ e₂ e : ℕ} → count ≤ groupLimit → at + headRoom ≤ length out
       → Wrote out at (bytes "line\tanswer") o₁ e₁ → Named columns count count o₁ e₁ o₂ e₂ → Wrote o₂ e₂ (newline ∷ []) new e → WroteUpTo headRoom out at (headLine (namesFrom columns 0 count)) new e
   unfolding headLine opening tab headRoom
   headed few fits u n w =

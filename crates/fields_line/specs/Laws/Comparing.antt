@@ -6,7 +6,7 @@ use Prim.Native.Nat.{ℕ, suc, _+_, _-_, _*_, _≤_, _<_}
 use native.Mathlib.Omega.{arith}
 use borrow.Author.Tests.{eq-eqb, ne-eqb}
 use lib.ListN.{getD, take, drop}
-use Rattle.syntax.specs.Limits.{groupLimit, spansLength, rowLength}
+use Rattle.syntax.specs.Limits.{rowLength}
 use Rattle.syntax.specs.Sets.{sameBytes}
 use Rattle.semantics.specs.States.{Row}
 use Rattle.index.specs.Rows.{rowsAt}
@@ -16,9 +16,9 @@ use Rattle.fields_row.specs.Fields.{fieldNamed}
 use Rattle.fields_line.specs.Answers.{agree, isOther, isAmbiguous}
 
 -- a row as the code takes it
-pub row-part : (i : ℕ) (results : List ℕ) → take (i * 66 + 66 - i * 66) (drop (i * 66) results) ≡ take rowLength (drop (i * rowLength) results)
-unfolding rowLength spansLength groupLimit
-row-part i results = let e : i * 66 + 66 - i * 66 ≡ 66 = omega arith in rw e
+pub row-part : (i : ℕ) (results : List ℕ) → take (i * rowLength + rowLength - i * rowLength) (drop (i * rowLength) results) ≡ take rowLength (drop (i * rowLength) results)
+unfolding rowLength
+row-part i results = let e : i * rowLength + rowLength - i * rowLength ≡ rowLength = omega arith in rw e
 
 module _ (index line standing : List ℕ) where
   -- the columns that are left
@@ -55,10 +55,10 @@ module _ (index line standing : List ℕ) where
   -- the rows that are left
   module _ (names : List (List ℕ)) (x : Row) (results : List ℕ) (i count : ℕ) where
     rest-is : i < count → rowsAt results (i * rowLength) (count - i) ≡ take rowLength (drop (i * rowLength) results) ∷ rowsAt results (suc i * rowLength) (count - suc i)
-    unfolding rowsAt rowLength spansLength groupLimit
+    unfolding rowsAt rowLength
     rest-is h =
         let e : count - i ≡ suc (count - suc i) = omega arith in
-        let f : i * 66 + 66 ≡ suc i * 66 = omega arith in
+        let f : i * rowLength + rowLength ≡ suc i * rowLength = omega arith in
         rw (e, f)
 
     pub ambiguous-here : i < count → isOther index line standing names x (take rowLength (drop (i * rowLength) results)) ≡ true → isAmbiguous index line standing names x (rowsAt results (i * rowLength) (count - i)) ≡ true

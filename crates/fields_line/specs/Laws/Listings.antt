@@ -7,7 +7,7 @@ use native.Mathlib.Omega.{arith}
 use lib.Dec.{eqb}
 use lib.ListN.{length, getD, take, drop}
 use lib.Seq.{getD-take, getD-drop}
-use Rattle.syntax.specs.Limits.{groupLimit, spansLength, rowLength}
+use Rattle.syntax.specs.Limits.{rowLength}
 use Rattle.syntax.specs.Tree.{Rule}
 use Rattle.syntax.specs.WellFormed.{WellFormed}
 use Rattle.semantics.specs.States.{Row}
@@ -29,9 +29,9 @@ use Rattle.fields_line.specs.Promises.{cutBy, verdictBy}
 
 -- its start
 pub last-of : (start : ℕ) (results : List ℕ) (from n : ℕ) → lastStart start (rowsAt results from (suc n)) ≡ getD results (from + n * rowLength) 0
-unfolding lastStart rowsAt rowLength spansLength groupLimit
-last-of start results from zero = getD-take 66 (drop from results) 0 0 (omega arith) ∙ getD-drop from results 0 0
-last-of start results from (suc n) = last-of (getD (take 66 (drop from results)) 0 0) results (from + 66) n ∙ ap (λ (k : ℕ). getD results k 0) (omega arith)
+unfolding lastStart rowsAt rowLength
+last-of start results from zero = getD-take rowLength (drop from results) 0 0 (omega arith) ∙ getD-drop from results 0 0
+last-of start results from (suc n) = last-of (getD (take rowLength (drop from results)) 0 0) results (from + rowLength) n ∙ ap (λ (k : ℕ). getD results k 0) (omega arith)
 
 pub last-none : (start : ℕ) (results : List ℕ) (from n : ℕ) → n ≡ 0 → lastStart start (rowsAt results from n) ≡ start
 unfolding lastStart rowsAt

@@ -44,8 +44,8 @@ module _ {s : List ℕ} {flags : ℕ} {old new : List ℕ} {r : Compilation} (h 
         },
       )
 
-  -- the names of its groups, in the table that stands in the needed part of the area
-  pub compile-named : (pc groups : ℕ) → r ≡ Sound pc groups → ruleAreaNeed ≤ length new → NamesFit s (take spansLength (drop tableStart new)) groups × (namesIn s (take spansLength (drop tableStart new)) groups ≡ namesOf s flags)
+  -- the names of its groups, in the table that stands in the needed part of the area, and that there are no more groups than there can be
+  pub compile-named : (pc groups : ℕ) → r ≡ Sound pc groups → ruleAreaNeed ≤ length new → NamesFit s (take spansLength (drop tableStart new)) groups × (namesIn s (take spansLength (drop tableStart new)) groups ≡ namesOf s flags) × (groups ≤ groupLimit)
   unfolding tableStart ruleAreaNeed spansLength groupLimit
   compile-named pc groups e l =
       let z : Compiled s flags new pc groups = subst (λ (x : Compilation). Says s flags new x) e (h .says) in
@@ -55,4 +55,4 @@ module _ {s : List ℕ} {flags : ℕ} {old new : List ℕ} {r : Compilation} (h 
       let same : (i : ℕ) → i < 2 * length (namesOf s flags) → getD table i 0 ≡ getD rest i 0 = λ i u. getD-take spansLength rest i 0 (omega arith) in
       let spelled = spelled-same s (namesOf s flags) rest table same (z .named) in
       let long : 2 * groups ≤ length table = omega (arith, z .many, length-take spansLength rest, length-drop tableStart new) in
-      (names-fit s (namesOf s flags) table groups (z .many) spelled long, names-are s (namesOf s flags) table groups (z .many) spelled)
+      (names-fit s (namesOf s flags) table groups (z .many) spelled long, names-are s (namesOf s flags) table groups (z .many) spelled, omega (arith, z .many, few))

@@ -16,7 +16,7 @@ use Rattle.listing.specs.Laws.Rows.{joined-length, row-behind}
 -- rows for which there is room have their numbers in the area
 pub rows-fit : (area : List ℕ) (n : ℕ) → n ≤ room area → n * rowLength ≤ length area
 unfolding room rowLength
-rows-fit area n h = omega (arith, div-mul-le-self (length area) 66)
+rows-fit area n h = omega (arith, div-mul-le-self (length area) rowLength)
 
 module _ {rows : List Row} {old area : List ℕ} {n : ℕ} (h : Holds rows old area n) (fits : length rows ≤ room old) where
   numbers : length (joined rows) ≡ n * rowLength

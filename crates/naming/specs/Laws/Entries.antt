@@ -2,18 +2,19 @@
 use mathlib.Core.Path.{_≡_, refl, sym, _∙_, ap}
 use mathlib.Core.Bool.{Bool, true, false}
 use mathlib.Core.List.{List, [], _∷_, _++_, append-assoc, append-nil}
-use Prim.Native.Nat.{ℕ, zero, suc, _+_, _*_, _≤_, _<_}
+use Prim.Native.Nat.{ℕ, zero, suc, _+_, _-_, _*_, _≤_, _<_}
 use native.Mathlib.Omega.{arith}
 use native.Mathlib.Decide.{decLt}
-use lib.ListN.{length, set, take, drop, getD, replicate, List·getD-eq-default}
+use native.Mathlib.Nat.{zero-mul, suc-mul}
+use lib.ListN.{length, set, take, drop, getD, replicate, length-replicate, replicate-append-replicate, List·getD-eq-default}
 use lib.Seq.{paste, paste-suc, take-all, slice, slice-empty, length-slice, getD-take, getD-drop}
 use lib.Dec.{eqb}
 use borrow.Author.Tests.{eq-eqb, ne-eqb}
-use Rattle.syntax.specs.Limits.{nameLimit, nameEntry}
+use Rattle.syntax.specs.Limits.{groupLimit, nameLimit, nameEntry, nameIndexNeed}
 use Rattle.syntax.specs.Read.{if_then_else_}
 use Rattle.syntax.specs.Names.{Name, Names}
 use Rattle.syntax.specs.Laws.Names.{Short}
-use Rattle.semantics.specs.NameIndex.{nameOf, entry, entries}
+use Rattle.semantics.specs.NameIndex.{nameOf, entry, entries, nameIndex}
 use Rattle.semantics.specs.Calls.{over}
 use Rattle.semantics.specs.Laws.Areas.{over-more, entry-long, entries-long}
 use Rattle.linker.specs.Table.{namesIn, NamesFit, length-names}
@@ -85,7 +86,7 @@ entry-behind names area g old new h w =
     over-more (entries g names 1) (entry (nameOf names (suc g))) area (g * nameEntry) nameEntry (entries-long g names 1) (entry-long (nameOf names (suc g)))
     ∙ ap (λ (l : List ℕ). over l area) (rw e at (entries-more g names 1)))
 
--- The names of a table -------------------------------------------------------------------
+-- The name of a group --------------------------------------------------------------------
 
 nameOf-this : (n : Name) (ns : Names) (group : ℕ) → group ≡ suc (length ns) → nameOf (n ∷ ns) group ≡ n
 unfolding nameOf
@@ -100,6 +101,56 @@ nameOf-beyond : (ns : Names) (g : ℕ) → length ns ≤ g → nameOf ns (suc g)
 unfolding nameOf
 nameOf-beyond [] g h = refl
 nameOf-beyond (n ∷ ns) g h = nameOf-other n ns (suc g) (λ e. omega arith) ∙ nameOf-beyond ns g (omega arith)
+
+-- Behind the last group -------------------------------------------------------------------
+
+-- the bytes of the index, those of some groups and of the others
+need-parts : (groups : ℕ) → groups ≤ groupLimit → nameIndexNeed ≡ groups * nameEntry + (groupLimit - groups) * nameEntry
+unfolding nameIndexNeed
+need-parts groups h = omega arith
+
+-- the entries of some groups, and then those of the next ones
+entries-both : (some others : ℕ) (names : Names) (group : ℕ) → entries (some + others) names group ≡ entries some names group ++ entries others names (group + some)
+unfolding entries
+entries-both zero others names group =
+    let e : 0 + others ≡ others = omega arith in
+    let f : group + 0 ≡ group = omega arith in
+    rw (e, f)
+entries-both (suc some) others names group =
+    let e : suc some + others ≡ suc (some + others) = omega arith in
+    let f : group + suc some ≡ suc group + some = omega arith in
+    rw (e, f, append-assoc) (ap (λ (l : List ℕ). entry (nameOf names group) ++ l) (entries-both some others names (suc group)))
+
+entry-empty : entry [] ≡ replicate nameEntry 0
+unfolding entry nameEntry
+entry-empty = refl
+
+-- behind the last group of a rule stand zeros alone
+entries-empty : (many : ℕ) (names : Names) (g : ℕ) → length names ≤ g → entries many names (suc g) ≡ replicate (many * nameEntry) 0
+unfolding entries
+entries-empty zero names g h = rw (zero-mul nameEntry)
+entries-empty (suc many) names g h =
+    let e : nameEntry + many * nameEntry ≡ suc many * nameEntry = omega (arith, suc-mul many nameEntry) in
+    rw (nameOf-beyond names g h, entry-empty, entries-empty many names (suc g) (omega arith)) (replicate-append-replicate nameEntry (many * nameEntry) 0 ∙ ap (λ (k : ℕ). replicate k 0) e)
+
+-- the entries of all groups of a rule, and zeros behind them
+pub index-padded : (names : Names) (area : List ℕ) (groups : ℕ) (old new : List ℕ) → length names ≡ groups → groups ≤ groupLimit → old ≡ over (entries groups names 1) area
+    → new ≡ take (groups * nameEntry) old ++ (replicate (nameIndexNeed - groups * nameEntry) 0 ++ drop nameIndexNeed old) → new ≡ over (nameIndex names) area
+unfolding nameIndex
+index-padded names area groups old new n few h w =
+    let rest = groupLimit - groups in
+    let far = need-parts groups few in
+    let zeros : nameIndexNeed - groups * nameEntry ≡ rest * nameEntry = omega (arith, far) in
+    let next : 1 + groups ≡ suc groups = omega arith in
+    let all : groups + rest ≡ groupLimit = omega arith in
+    rw (w, h, zeros, far) (
+    over-more (entries groups names 1) (replicate (rest * nameEntry) 0) area (groups * nameEntry) (rest * nameEntry) (entries-long groups names 1) (length-replicate (rest * nameEntry) 0)
+    ∙ ap (λ (l : List ℕ). over l area) (whole rest next all))
+  where
+    whole : (rest : ℕ) → 1 + groups ≡ suc groups → groups + rest ≡ groupLimit → entries groups names 1 ++ replicate (rest * nameEntry) 0 ≡ nameIndex names
+    whole rest next all = sym (rw (all, next, entries-empty rest names groups (omega arith)) at (entries-both groups rest names 1))
+
+-- The names of a table -------------------------------------------------------------------
 
 short-by : (b : Bool) (n m : Name) → length n ≤ nameLimit → length m ≤ nameLimit → length (if b then n else m) ≤ nameLimit
 short-by true n m h k = h
@@ -122,9 +173,6 @@ module _ (s table : List ℕ) where
         | yes e ↦ nameOf-other last names (suc g) (λ f. omega arith) ∙ name-in k g e
         | no e ↦ let same : g ≡ k = omega arith in rw same (nameOf-this last names (suc k) (ap suc (sym many)))
       ]
-
-  pub name-out : (groups g : ℕ) → groups ≤ g → nameOf (namesIn s table groups) (suc g) ≡ []
-  name-out groups g h = nameOf-beyond (namesIn s table groups) g (omega (arith, length-names s table groups))
 
   -- the number that the table has for the length of a name is no greater than a name is long
   pub name-fits : (groups g : ℕ) → NamesFit s table groups → Short (namesIn s table groups) → g < groups → getD table (2 * g + 1) 0 ≤ nameLimit

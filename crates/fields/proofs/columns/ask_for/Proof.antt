@@ -55,6 +55,7 @@ say-requires : tie.Need-say-requires
 say-requires c κs = search needs
 
 returns-3 : tie.Need-returns-3
+unfolding groupLimit
 returns-3 c = search needs
 
 array-share-prefix-text-4 : tie.Need-array-share-prefix-text-4

@@ -1,4 +1,4 @@
--- The loop's invariant: there are at most 32 columns so far, and the arguments are those behind the files.
+-- The loop's invariant: there are no more columns so far than there can be, and the arguments are those behind the files.
 use Prim.Native.Nat.{_≤_, _-_}
 use native.Mathlib.Omega.{arith}
 use Rattle.syntax.specs.Limits.{groupLimit, nameLimit, nameEntry, nameIndexNeed}
@@ -7,7 +7,7 @@ use Rattle.fields.proofs.columns.collect.Statement.{statement}
 use Rattle.fields.proofs.columns.collect.Tie as tie
 
 abbrev Inv-loop : tie.InvT-loop
-Inv-loop first names columns₀ end count₀ at₀ columns count at = (count ≤ 32) × (at ≤ end)
+Inv-loop first names columns₀ end count₀ at₀ columns count at = (count ≤ groupLimit) × (at ≤ end)
 
 abbrev μ-loop : tie.MeasureT-loop
 μ-loop first names columns₀ end count₀ at₀ columns count at = end - at
@@ -30,6 +30,7 @@ ask-for-requires : tie.Need-ask-for-requires Inv-loop μ-loop
 ask-for-requires c κs = omega arith
 
 returns-2 : tie.Need-returns-2 Inv-loop μ-loop
+unfolding groupLimit
 returns-2 c = omega arith
 
 add-at : tie.Need-add-at Inv-loop μ-loop
@@ -39,9 +40,11 @@ loop-less : tie.Need-loop-less Inv-loop μ-loop
 loop-less c = omega arith
 
 loop-again : tie.Need-loop-again Inv-loop μ-loop
+unfolding groupLimit
 loop-again c = (omega arith, omega arith)
 
 returns-3 : tie.Need-returns-3 Inv-loop μ-loop
+unfolding groupLimit
 returns-3 c = omega arith
 
 pub collect-spec : {M : Type 1} → statement M

@@ -14,6 +14,7 @@ unfolding groupLimit nameIndexNeed nameEntry nameLimit
 mul-from c = omega arith
 
 cast-append-byte : tie.Need-cast-append-byte
+unfolding nameLimit
 cast-append-byte c = search needs
 
 append-byte-requires : tie.Need-append-byte-requires

@@ -19,7 +19,7 @@ shared-slice-read-least c = omega arith
 
 cast-least : tie.Need-cast-least
 unfolding groupLimit nameIndexNeed nameEntry nameLimit
-cast-least c = omega (arith, c .shared-slice-known2 .given (c .before .before .args .i * 17))
+cast-least c = omega (arith, c .shared-slice-known2 .given (c .before .before .args .i * nameEntry))
 
 least-requires : tie.Need-least-requires
 least-requires c κs = search needs
@@ -43,6 +43,7 @@ unfolding groupLimit nameIndexNeed nameEntry nameLimit
 part-result-end c = omega (arith, c .least .ensures)
 
 returns : tie.Need-returns
+unfolding nameEntry
 returns c = let a = c .before .before .before .before .args in name-at (now (a .columns)) (a .i) _ refl _ _ (c .before .least .ensures) refl
 
 pub column-spec : {M : Type 1} → statement M

@@ -5,7 +5,7 @@ use denote.Ref.{now}
 use native.Mathlib.Omega.{arith}
 use lib.ListN.{length}
 use Rattle.fields_text.specs.Table.{tab}
-use Rattle.fields_columns.specs.Promises.{Named}
+use Rattle.fields_columns.specs.Promises.{columnRoom, Named}
 use Rattle.fields_columns.specs.Laws.Columns.{name-short}
 use Rattle.fields_columns.specs.Laws.Heading.{named-first, named-next}
 use Rattle.fields_columns.proofs.heading.write_names.Statement.{statement}
@@ -24,9 +24,11 @@ column-requires : tie.Need-column-requires Inv-loop μ-loop
 column-requires c κs = (omega (arith, c .before .before .before .before .pre .0 .few), c .before .before .before .before .pre .0 .fits)
 
 append-byte-requires : tie.Need-append-byte-requires Inv-loop μ-loop
+unfolding columnRoom
 append-byte-requires c κs = omega (arith, c .before .before .before .loop .inv .2 .near)
 
 write-escaped-requires : tie.Need-write-escaped-requires Inv-loop μ-loop
+unfolding columnRoom
 write-escaped-requires c κs = let short = rw (← c .before .before .before .before .before .column .ensures) at (name-short (now (c .before .before .before .before .before .before .before .before .before .before .args .columns)) (c .before .before .before .before .before .before .before .loop .i)) in omega (arith, c .before .before .before .before .before .before .before .loop .inv .2 .near, c .before .before .before .append-byte .ensures .ends)
 
 add-i : tie.Need-add-i Inv-loop μ-loop
@@ -36,7 +38,7 @@ loop-less : tie.Need-loop-less Inv-loop μ-loop
 loop-less c = omega arith
 
 loop-again : tie.Need-loop-again Inv-loop μ-loop
-unfolding tab
+unfolding tab columnRoom
 loop-again c =
     let a = c .before .before .before .before .before .before .before .before .before .before .before .before .before .args in
     let l = c .before .before .before .before .before .before .before .before .before .before .loop in

@@ -41,7 +41,7 @@ unfolding tableStart ruleAreaNeed spansLength groupLimit
 fill-requires c κs =
     let m = c .before .before .before .before .before .before .before .before .compile .ensures in
     let z = compile-named m _ _ (c .before .before .before .before .compiled .given .1) (omega (arith, m .long, c .before .before .before .before .before .before .before .before .before .before .before .before .before .before .pre .rule-area-fits)) in
-    (z .0, subst Short (sym (z .1)) (namesOf-short _ _), c .before .before .before .before .before .before .before .before .before .before .before .before .before .before .pre .names-fit)
+    (z .0, subst Short (sym (z .1)) (namesOf-short _ _), z .2, c .before .before .before .before .before .before .before .before .before .before .before .before .before .before .pre .names-fit)
 
 enum-known-compiled-2 : tie.Need-enum-known-compiled-2
 enum-known-compiled-2 c = search needs

@@ -1,4 +1,5 @@
 -- `is_name` meets its contract, by the length and the first byte.
+use Rattle.syntax.specs.Limits.{nameLimit}
 use borrow.Author.Needs.{needs}
 use native.Mathlib.Omega.{arith}
 use Rattle.lexemes.proofs.CalledCases.{name-none, name-long, name-fits}
@@ -9,6 +10,7 @@ returns : tie.Need-returns
 returns c = name-none _ _ _ (c .before .before .pre .0) (c .if1 .taken)
 
 returns-2 : tie.Need-returns-2
+unfolding nameLimit
 returns-2 c = name-long _ _ _ (c .before .before .before .pre .0) (omega arith)
 
 shared-slice-read-in-named : tie.Need-shared-slice-read-in-named
@@ -18,6 +20,7 @@ in-named-requires : tie.Need-in-named-requires
 in-named-requires c κs = search needs
 
 returns-3 : tie.Need-returns-3
+unfolding nameLimit
 returns-3 c = name-fits _ _ _ (c .before .before .before .before .before .pre .0) (c .before .before .before .if1 .left) (omega arith) _ (c .in-named .ensures)
 
 pub is-name-spec : {M : Type 1} → statement M

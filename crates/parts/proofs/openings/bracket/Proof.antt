@@ -1,5 +1,6 @@
 -- What group opens: one law for each return.
 use Rattle.parts.proofs.Heads.{bracket-plain, bracket-unknown, bracket-named, named-many, bracket-capture, capture-too-many}
+use Rattle.syntax.specs.Limits.{groupLimit}
 use borrow.Author.Needs.{needs}
 use Rattle.parts.proofs.openings.bracket.Statement.{statement}
 use Rattle.parts.proofs.openings.bracket.Tie as tie
@@ -41,10 +42,12 @@ add-t14 c = search needs
 
 -- src/openings.rt:42:13
 returns-3 : tie.Need-returns-3
+unfolding groupLimit
 returns-3 c = bracket-named (c .before .before .before .before .before .before .before .args .opened) (c .before .before .before .before .before .peek .ensures) (c .before .before .before .before .before .before .before .pre .0) (c .before .before .before .before .if1 .taken) (c .before .before .before .peek2 .ensures) (c .before .if3 .left) (c .if4 .taken)
 
 -- src/openings.rt:44:9
 returns-4 : tie.Need-returns-4
+unfolding groupLimit
 returns-4 c = named-many (c .before .before .before .before .before .before .before .args .opened) (c .before .before .before .before .before .peek .ensures) (c .before .before .before .before .before .before .before .pre .0) (c .before .before .before .before .if1 .taken) (c .before .before .before .peek2 .ensures) (c .before .if3 .left) (c .if4 .left)
 
 -- src/openings.rt:50:32
@@ -57,10 +60,12 @@ add-t18 c = search needs
 
 -- src/openings.rt:50:9
 returns-5 : tie.Need-returns-5
+unfolding groupLimit
 returns-5 c = bracket-capture (c .before .before .before .before .args .opened) (c .before .before .peek .ensures) (c .before .before .before .before .pre .0) (c .before .if1 .left) (c .if5 .taken)
 
 -- src/openings.rt:25:1
 returns-6 : tie.Need-returns-6
+unfolding groupLimit
 returns-6 c = capture-too-many (c .before .before .before .before .args .opened) (c .before .before .peek .ensures) (c .before .before .before .before .pre .0) (c .before .if1 .left) (c .if5 .left)
 
 pub bracket-spec : {M : Type 1} → statement M
