@@ -55,7 +55,10 @@ a ) that closes nothing\n\
 the 33rd group; a rule has at most 32\n\
 the 25th bracket inside another; they nest at most 24 deep\n\
 a name is missing, malformed or not closed\n\
-this name is used twice\n",
+this name is used twice\n\
+a reference, which the depot profile does not allow\n\
+a repeat without upper bound of what may take no bytes, which the depot profile does not allow\n\
+a range whose ends are not two digits, two upper or two lower letters, as the depot profile wants them\n",
         number,
     );
 }

@@ -29,6 +29,9 @@ pub enum Reason {
     TooDeep,
     BadName,
     NameTwice,
+    BarredReference,
+    IdleRepeat,
+    MixedRange,
 }
 
 // The zero-width assertions. The flag `m` is settled when a rule is read.
@@ -107,5 +110,8 @@ pub fn number(reason: Reason) -> u32
         Reason::TooDeep => 24,
         Reason::BadName => 25,
         Reason::NameTwice => 26,
+        Reason::BarredReference => 27,
+        Reason::IdleRepeat => 28,
+        Reason::MixedRange => 29,
     }
 }

@@ -1,5 +1,5 @@
--- `compile_into` meets its contract: each answer is a law of Compilations, at what the two passes ensure.
-use Rattle.reader.proofs.Compilations.{linkable, entered, dangling, parse-refused}
+-- `compile_into` meets its contract: each answer is a law of Compilations, at what the two passes and the profile ensure.
+use Rattle.reader.proofs.Compilations.{linkable, measurable, entered, barred, dangling, parse-refused}
 use borrow.Author.Needs.{needs}
 use Rattle.reader.proofs.compiling.compile_into.Statement.{statement}
 use Rattle.reader.proofs.compiling.compile_into.Tie as tie
@@ -13,17 +13,29 @@ enum-known-r c = search needs
 enum-known-r-2 : tie.Need-enum-known-r-2
 enum-known-r-2 c = search needs
 
+judged-requires : tie.Need-judged-requires
+judged-requires c κs =
+    let a = c .before .before .before .before .before .before .before .before .before .before .before .before .before .before .args in
+    let read = c .before .before .before .before .before .before .before .before .read-rule in
+    measurable (a .rule .now) (a .flags) (read .last .1 .1 .0) (read .last .1 .1 .1 .0) _ _ (rw (c .before .before .r2 .given .1) at (read .ensures))
+
 link-requires : tie.Need-link-requires
 link-requires c κs =
-    let a = c .before .before .before .before .before .before .before .before .before .before .before .before .before .before .before .args in
-    let read = c .before .before .before .before .before .before .before .before .before .read-rule in
-    linkable (a .rule .now) (a .flags) (read .last .1 .1 .0) (read .last .1 .1 .1 .0) _ _ (rw (c .before .before .before .r2 .given .1) at (read .ensures))
+    let a = c .before .before .before .before .before .before .before .before .before .before .before .before .before .before .before .before .before .args in
+    let read = c .before .before .before .before .before .before .before .before .before .before .before .read-rule in
+    linkable (a .rule .now) (a .flags) (read .last .1 .1 .0) (read .last .1 .1 .1 .0) _ _ (rw (c .before .before .before .before .before .r2 .given .1) at (read .ensures))
 
 enum-known-l : tie.Need-enum-known-l
 enum-known-l c = search needs
 
 enum-known-l-2 : tie.Need-enum-known-l-2
 enum-known-l-2 c = search needs
+
+enum-told : tie.Need-enum-told
+enum-told c = search needs
+
+enum-known-profile : tie.Need-enum-known-profile
+enum-known-profile c = search needs
 
 same-length : tie.Need-same-length
 same-length c = search needs
@@ -42,9 +54,9 @@ same-length-4 c = search needs
 
 returns-2 : tie.Need-returns-2
 returns-2 c =
-    let a = c .before .before .before .before .before .before .before .before .before .before .before .before .before .before .before .before .before .before .before .before .before .args in
-    let read = c .before .before .before .before .before .before .before .before .before .before .before .before .before .before .before .read-rule in
-    entered (a .rule .now) (a .flags) (read .last .1 .1 .0) (read .last .1 .1 .1 .0) _ _ (rw (c .before .before .before .before .before .before .before .before .before .r2 .given .1) at (read .ensures)) _ _ (c .before .before .before .before .before .link .ensures) _ (c .before .l .given .1)
+    let a = c .before .before .before .before .before .before .before .before .before .before .before .before .before .before .before .before .before .before .before .before .before .before .before .args in
+    let read = c .before .before .before .before .before .before .before .before .before .before .before .before .before .before .before .before .before .read-rule in
+    dangling (a .rule .now) (a .flags) (read .last .1 .1 .0) (read .last .1 .1 .1 .0) _ _ (rw (c .before .before .before .before .before .before .before .before .before .before .before .r2 .given .1) at (read .ensures)) _ _ (c .before .before .before .before .before .link .ensures) _ (c .before .l .given .1)
 
 same-length-5 : tie.Need-same-length-5
 same-length-5 c = search needs
@@ -54,9 +66,21 @@ same-length-6 c = search needs
 
 returns-3 : tie.Need-returns-3
 returns-3 c =
-    let a = c .before .before .before .before .before .before .before .before .before .before .before .before .before .before .before .before .before .before .before .before .before .args in
-    let read = c .before .before .before .before .before .before .before .before .before .before .before .before .before .before .before .read-rule in
-    dangling (a .rule .now) (a .flags) (read .last .1 .1 .0) (read .last .1 .1 .1 .0) _ _ (rw (c .before .before .before .before .before .before .before .before .before .r2 .given .1) at (read .ensures)) _ _ (c .before .before .before .before .before .link .ensures) _ (c .before .l2 .given .1)
+    let a = c .before .before .before .before .before .before .before .before .before .before .before .before .before .before .before .before .before .before .before .before .before .before .before .before .before .args in
+    let read = c .before .before .before .before .before .before .before .before .before .before .before .before .before .before .before .before .before .before .before .read-rule in
+    entered (a .rule .now) (a .flags) (read .last .1 .1 .0) (read .last .1 .1 .1 .0) _ _ (rw (c .before .before .before .before .before .before .before .before .before .before .before .before .before .r2 .given .1) at (read .ensures)) _ _ (c .before .before .before .before .before .before .before .link .ensures) _ (c .before .before .before .l2 .given .1) (c .before .before .before .before .before .before .before .before .before .before .judged .result) (c .enum-told .given .1) (c .before .before .before .before .before .before .before .before .before .before .judged .ensures)
+
+same-length-7 : tie.Need-same-length-7
+same-length-7 c = search needs
+
+same-length-8 : tie.Need-same-length-8
+same-length-8 c = search needs
+
+returns-4 : tie.Need-returns-4
+returns-4 c =
+    let a = c .before .before .before .before .before .before .before .before .before .before .before .before .before .before .before .before .before .before .before .before .before .before .before .before .before .before .args in
+    let read = c .before .before .before .before .before .before .before .before .before .before .before .before .before .before .before .before .before .before .before .before .read-rule in
+    barred (a .rule .now) (a .flags) (read .last .1 .1 .0) (read .last .1 .1 .1 .0) _ _ (rw (c .before .before .before .before .before .before .before .before .before .before .before .before .before .before .r2 .given .1) at (read .ensures)) _ _ (c .before .before .before .before .before .before .before .before .link .ensures) _ (c .before .before .before .before .l2 .given .1) (c .before .before .before .before .before .before .before .before .before .before .before .judged .result) _ (c .before .profile .given .1) (c .before .before .before .before .before .before .before .before .before .before .before .judged .ensures)
 
 pub compile-into-spec : {M : Type 1} → statement M
 compile-into-spec =
@@ -65,9 +89,12 @@ compile-into-spec =
     read-rule-requires
     enum-known-r
     enum-known-r-2
+    judged-requires
     link-requires
     enum-known-l
     enum-known-l-2
+    enum-told
+    enum-known-profile
     same-length
     same-length-2
     returns
@@ -76,4 +103,7 @@ compile-into-spec =
     returns-2
     same-length-5
     same-length-6
-    returns-3)
+    returns-3
+    same-length-7
+    same-length-8
+    returns-4)
