@@ -7,7 +7,9 @@
  * areas, the names, the marks, a card, a card's rule bytes and the answer overlap neither each other nor the rule and the subject or buffer. A pointer is
  * never null, even beside a length of 0.
  *
- * flags         bit 0 is `s`, bit 1 is `m`, bit 2 is `i`, bit 3 is `x`
+ * flags         bit 0 is `s`, bit 1 is `m`, bit 2 is `i`, bit 3 is `x`; bit 4, TERRAVISCO_DEPOT, asks for the depot profile: a rule is refused for 27 if it
+ *               has a reference, for 28 if it has a repeat without upper bound over a body that may take no bytes, for 29 if it has a range whose ends
+ *               are not two digits, two upper or two lower letters. A rule that passes gives the same answers as without the bit.
  * budget        steps for each start in the subject, at most 100,000
  * rule_area     at least TERRAVISCO_RULE_AREA numbers
  * work_area     at least TERRAVISCO_WORK_PER_STEP numbers for each step of the budget
@@ -41,6 +43,7 @@ enum {
     TERRAVISCO_NAME_ENTRY = 17,
     TERRAVISCO_NAME_INDEX = TERRAVISCO_GROUPS * TERRAVISCO_NAME_ENTRY,
     TERRAVISCO_LONGEST_RULE = 1000,
+    TERRAVISCO_DEPOT = 16,
     TERRAVISCO_CARD = 1064,
     TERRAVISCO_RULE_BYTES = 1000,
     TERRAVISCO_ANSWER = 6,

@@ -1,7 +1,7 @@
 -- The members of a class: what a reading that is no refusal gives, and which case of an element, a range or a member holds. Assumes nothing.
 use mathlib.Core.Path.{_≡_, refl, sym, _∙_}
 use mathlib.Core.List.{List, [], _∷_}
-use mathlib.Core.Bool.{Bool, true, false, not}
+use mathlib.Core.Bool.{Bool, true, false, not, _&&_}
 use mathlib.Core.Option.{none}
 use mathlib.Core.Logic.{inl, inr}
 use Prim.Native.Nat.{ℕ, _+_, _≤_, _<_}
@@ -10,12 +10,12 @@ use lib.Dec.{eqb}
 use types.Run.{OneOf}
 use denote.Enum.Declared.{tagOf}
 use borrow.Author.Tests.{le-leb, lt-leb, ne-eqb}
-use Rattle.syntax.specs.declared.Reason.the-variants.{UnclosedClass, BadRange}
+use Rattle.syntax.specs.declared.Reason.the-variants.{UnclosedClass, BadRange, MixedRange}
 use Rattle.syntax.specs.declared.Refusal.{Refusal}
-use Rattle.syntax.specs.Read.{byte, isEnd, is, Read, sound, refused, andThen}
+use Rattle.syntax.specs.Read.{if_then_else_, byte, isEnd, is, Read, sound, refused, andThen}
 use Rattle.syntax.specs.Sets.{Member, single, range, named, notNamed, isMember}
 use Rattle.syntax.specs.Escapes.{classEscape}
-use Rattle.syntax.specs.Classes.{posix, element, rangeEnd, rangeOf, makesRange, member}
+use Rattle.syntax.specs.Classes.{posix, element, rangeEnd, alike, rangeOf, makesRange, member}
 use Rattle.escapes.specs.declared.MemberRead.{MemberRead}
 use Rattle.escapes.specs.declared.MemberRead.the-variants.{Single, Range, Set, NotSet, Bad}
 use Rattle.escapes.specs.Says.{memberOf}
@@ -95,40 +95,44 @@ module _ (s : List ℕ) (at b : ℕ) (p : b ≡ byte s at) where
   maybe-range e d q = rw (← p, e, ← q)
 
 -- what two ends that were read make
-abbrev joined : ℕ → Read Member → Read Member → Read Member
-joined at low high = andThen low (λ a next. andThen high (λ b after. rangeOf at (rangeEnd a) (rangeEnd b) after))
+abbrev joined : Bool → ℕ → Read Member → Read Member → Read Member
+joined strict at low high = andThen low (λ a next. andThen high (λ b after. rangeOf strict at (rangeEnd a) (rangeEnd b) after))
 
-module _ (at : ℕ) (low high : MemberRead) where
-  pub range-low-bad : (f : Refusal) → low ≡ Bad f → memberOf low ≡ joined at (memberOf low) (memberOf high)
+-- two bytes in order
+abbrev pub fitted : Bool → (at x y next : ℕ) → Read Member
+fitted strict at x y next = if strict && not (alike x y) then refused at MixedRange else sound (range x y) next
+
+module _ (strict : Bool) (at : ℕ) (low high : MemberRead) where
+  pub range-low-bad : (f : Refusal) → low ≡ Bad f → memberOf low ≡ joined strict at (memberOf low) (memberOf high)
   range-low-bad f e = rw e
 
   module _ (l : NotBad low) where
-    pub range-high-bad : (f : Refusal) → high ≡ Bad f → memberOf high ≡ joined at (memberOf low) (memberOf high)
+    pub range-high-bad : (f : Refusal) → high ≡ Bad f → memberOf high ≡ joined strict at (memberOf low) (memberOf high)
     range-high-bad f e = rw (sounds low l .is, e)
 
     module _ (h : NotBad high) where
-      pub range-low-set : NotSingle low → refused at BadRange ≡ joined at (memberOf low) (memberOf high)
+      pub range-low-set : NotSingle low → refused at BadRange ≡ joined strict at (memberOf low) (memberOf high)
       unfolding rangeOf
       range-low-set n = let a = sounds low l in let b = sounds high h in rw (a .is, b .is, endless low _ _ n (a .is))
 
       module _ (x m : ℕ) (e : low ≡ Single x m) where
-        pub range-high-set : NotSingle high → refused at BadRange ≡ joined at (memberOf low) (memberOf high)
+        pub range-high-set : NotSingle high → refused at BadRange ≡ joined strict at (memberOf low) (memberOf high)
         unfolding rangeOf rangeEnd
         range-high-set n = let b = sounds high h in rw (e, b .is, endless high _ _ n (b .is))
 
         module _ (y n : ℕ) (k : high ≡ Single y n) where
-          pub range-over : y < x → refused at BadRange ≡ joined at (memberOf low) (memberOf high)
+          pub range-over : y < x → refused at BadRange ≡ joined strict at (memberOf low) (memberOf high)
           unfolding rangeOf rangeEnd
           range-over o = rw (e, k) (simp (lt-leb x y o))
 
-          pub range-fits : x ≤ y → sound (range x y) n ≡ joined at (memberOf low) (memberOf high)
+          pub range-fits : x ≤ y → fitted strict at x y n ≡ joined strict at (memberOf low) (memberOf high)
           unfolding rangeOf rangeEnd
           range-fits o = rw (e, k) (simp (le-leb x y o))
 
 -- Members ----------------------------------------------------------------------------
 
-module _ (s : List ℕ) (from at : ℕ) (low : MemberRead) (e : memberOf low ≡ element s from at) where
-  pub member-bad : (f : Refusal) → low ≡ Bad f → memberOf low ≡ member s from at
+module _ (strict : Bool) (s : List ℕ) (from at : ℕ) (low : MemberRead) (e : memberOf low ≡ element s from at) where
+  pub member-bad : (f : Refusal) → low ≡ Bad f → memberOf low ≡ member s strict from at
   unfolding member
   member-bad f k = rw (← e, k)
 
@@ -136,10 +140,10 @@ module _ (s : List ℕ) (from at : ℕ) (low : MemberRead) (e : memberOf low ≡
     goes : n ≡ sounds low l .next
     goes = q ∙ sounds low l .behind
 
-    pub member-alone : r ≡ false → memberOf low ≡ member s from at
+    pub member-alone : r ≡ false → memberOf low ≡ member s strict from at
     unfolding member
     member-alone f = let m : makesRange s (sounds low l .next) ≡ false = rw (← goes) (sym t ∙ f) in rw (← e, sounds low l .is, m)
 
-    pub member-range : r ≡ true → (high : MemberRead) → memberOf high ≡ element s from (n + 1) → joined at (memberOf low) (memberOf high) ≡ member s from at
+    pub member-range : r ≡ true → (high : MemberRead) → memberOf high ≡ element s from (n + 1) → joined strict at (memberOf low) (memberOf high) ≡ member s strict from at
     unfolding member
     member-range y high k = let m : makesRange s (sounds low l .next) ≡ true = rw (← goes) (sym t ∙ y) in rw (← e, sounds low l .is, m, k, goes)

@@ -1,4 +1,4 @@
-// Bracketed classes. `from` is the position of the class's `[`.
+// Bracketed classes. `from` is the position of the class's `[`; `strict` asks for the depot profile.
 use crate::ClassEnd;
 use crate::ClassRead;
 use crate::members::member_at;
@@ -59,12 +59,12 @@ pub fn with_member(words: [u32; 8], m: MemberRead, folded: bool) -> [u32; 8]
 }
 
 // The members up to the closing `]`. One that is first is a member.
-fn members_at(rule: &[u8], from: usize, start: usize, folded: bool) -> ClassRead
-    ensures { λ r. ⌜ SaysMembers folded (members (length (now (rule .entry))) (now (rule .entry)) from true [] start) r ⌝ }
+fn members_at(rule: &[u8], from: usize, start: usize, folded: bool, strict: bool) -> ClassRead
+    ensures { λ r. ⌜ SaysMembers folded (members (length (now (rule .entry))) (now (rule .entry)) strict from true [] start) r ⌝ }
 {
     let mut words = empty();
     let mut at = start;
-    let mut m = member_at(rule, from, at);
+    let mut m = member_at(rule, from, at, strict);
     loop {
         if let MemberRead::Bad(refusal) = m {
             let end = ClassEnd::BadClass(refusal);
@@ -77,17 +77,17 @@ fn members_at(rule: &[u8], from: usize, start: usize, folded: bool) -> ClassRead
             let end = ClassEnd::Closed(at + 1);
             return ClassRead { words, end };
         }
-        m = member_at(rule, from, at);
+        m = member_at(rule, from, at, strict);
     }
 }
 
 // The class at a position. Its members are folded one by one, so that a `^` complements what is folded.
-pub fn class_at(rule: &[u8], from: usize, folded: bool) -> ClassRead
+pub fn class_at(rule: &[u8], from: usize, folded: bool, strict: bool) -> ClassRead
     requires { ⌜ from < length (now rule) ⌝ }
-    ensures { λ r. ⌜ SaysClass folded (class (now (rule .entry)) from) r ⌝ }
+    ensures { λ r. ⌜ SaysClass folded (class (now (rule .entry)) strict from) r ⌝ }
 {
     if peek(rule, from + 1) == CARET {
-        let r = members_at(rule, from, from + 2, folded);
+        let r = members_at(rule, from, from + 2, folded, strict);
         let words = r.words;
         let end = r.end;
         return ClassRead {
@@ -95,5 +95,5 @@ pub fn class_at(rule: &[u8], from: usize, folded: bool) -> ClassRead
             end,
         };
     }
-    members_at(rule, from, from + 1, folded)
+    members_at(rule, from, from + 1, folded, strict)
 }

@@ -3,6 +3,7 @@ use syntax::Refusal;
 
 mod classes;
 mod members;
+mod ranges;
 
 pub use classes::class_at;
 pub use classes::with_member;

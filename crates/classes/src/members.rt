@@ -1,4 +1,5 @@
-// The members of a class. `from` is the position of the class's `[`, the place of a class that is not closed.
+// The members of a class. `from` is the position of the class's `[`, the place of a class that is not closed; `strict` asks for the depot profile.
+use crate::ranges::ends_alike;
 use escapes::MemberRead;
 use escapes::class_escape_at;
 use escapes::posix_at;
@@ -9,12 +10,13 @@ use lexemes::peek;
 use syntax::Reason;
 use syntax::Refusal;
 ghost use mathlib.Core.Path.{_≡_};
-ghost use mathlib.Core.Bool.{true};
+ghost use mathlib.Core.Bool.{true, not, _&&_};
 ghost use Prim.Native.Nat.{_<_};
 ghost use lib.ListN.{length};
-ghost use Rattle.syntax.specs.declared.Reason.the-variants.{BadRange};
-ghost use Rattle.syntax.specs.Read.{refused, andThen};
-ghost use Rattle.syntax.specs.Classes.{element, rangeEnd, rangeOf, makesRange, member};
+ghost use Rattle.syntax.specs.declared.Reason.the-variants.{BadRange, MixedRange};
+ghost use Rattle.syntax.specs.Read.{if_then_else_, sound, refused, andThen};
+ghost use Rattle.syntax.specs.Sets.{range};
+ghost use Rattle.syntax.specs.Classes.{element, rangeEnd, alike, rangeOf, makesRange, member};
 ghost use Rattle.escapes.specs.Says.{memberOf};
 ghost use Rattle.classes.specs.Says.{nextOf};
 
@@ -69,9 +71,24 @@ fn bad_range(at: usize) -> MemberRead
     })
 }
 
+// The range between two bytes, the first not above the second, which ends at `next`. The profile takes only ends that are alike.
+fn fit_range(at: usize, a: u8, b: u8, next: usize, strict: bool) -> MemberRead
+    ensures { λ r. ⌜ memberOf r ≡ (if strict && not (alike a b) then refused at MixedRange else sound (range a b) next) ⌝ }
+{
+    if strict {
+        if !ends_alike(a, b) {
+            return MemberRead::Bad(Refusal {
+                place: at,
+                reason: Reason::MixedRange,
+            });
+        }
+    }
+    MemberRead::Range(a, b, next)
+}
+
 // The range between two ends; `at` is where it begins.
-fn range_of(at: usize, low: MemberRead, high: MemberRead) -> MemberRead
-    ensures { λ r. ⌜ memberOf r ≡ andThen (memberOf low) (λ a next. andThen (memberOf high) (λ b after. rangeOf at (rangeEnd a) (rangeEnd b) after)) ⌝ }
+fn range_of(at: usize, low: MemberRead, high: MemberRead, strict: bool) -> MemberRead
+    ensures { λ r. ⌜ memberOf r ≡ andThen (memberOf low) (λ a next. andThen (memberOf high) (λ b after. rangeOf strict at (rangeEnd a) (rangeEnd b) after)) ⌝ }
 {
     if let MemberRead::Bad(_) = low {
         return low;
@@ -88,12 +105,12 @@ fn range_of(at: usize, low: MemberRead, high: MemberRead) -> MemberRead
     if b < a {
         return bad_range(at);
     }
-    MemberRead::Range(a, b, after)
+    fit_range(at, a, b, after, strict)
 }
 
 // One element, or one range.
-pub fn member_at(rule: &[u8], from: usize, at: usize) -> MemberRead
-    ensures { λ r. ⌜ memberOf r ≡ member (now (rule .entry)) from at ⌝ }
+pub fn member_at(rule: &[u8], from: usize, at: usize, strict: bool) -> MemberRead
+    ensures { λ r. ⌜ memberOf r ≡ member (now (rule .entry)) strict from at ⌝ }
 {
     let low = element_at(rule, from, at);
     if let MemberRead::Bad(_) = low {
@@ -102,7 +119,7 @@ pub fn member_at(rule: &[u8], from: usize, at: usize) -> MemberRead
     let next = next_of(low);
     if makes_range(rule, next) {
         let high = element_at(rule, from, next + 1);
-        return range_of(at, low, high);
+        return range_of(at, low, high, strict);
     }
     low
 }

@@ -8,9 +8,11 @@ pub(crate) fn usage() {
 Writes a table in columns between tabs: a head, and for every line its number, a word and what the\n\
 groups of these names took of it; without names, all groups that have one.\n\
 \n\
--f FLAGS    0 to 15, or letters: s (a dot in the rule takes every byte), m (^ and $ at each 0A),\n            \
+-f FLAGS    0 to 31, or letters: s (a dot in the rule takes every byte), m (^ and $ at each 0A),\n            \
 i (A to Z and a to z match each other), x (blanks in the rule, and # up to the line's\n            \
-end, are skipped); - for none, as without it\n\
+end, are skipped), D (the depot profile, which refuses some rules: no references, no\n            \
+repeat without upper bound of what may take no bytes, and no range but of digits, of\n            \
+upper or of lower letters); - for none, as without it\n\
 -b BUDGET   the steps that each start in a line may take, 0 to 100000; without it 100000\n\
 -s TEXT     what stands for a group that took nothing, up to 4096 bytes; without it nothing\n\
 RULE-FILE   the rule is what stands before its first line end\n\

@@ -10,7 +10,7 @@ pub const RULE_LIMIT: usize = 1000;
 
 pub const SUBJECT_LIMIT: usize = 65535;
 // the least number that no flags have
-pub const FLAGS_LIMIT: u32 = 16;
+pub const FLAGS_LIMIT: u32 = 32;
 
 pub const BUDGET_LIMIT: u32 = 100000;
 

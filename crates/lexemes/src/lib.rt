@@ -1,10 +1,12 @@
-// Reads what a rule has below its items: bytes, numbers, quantifiers, names of groups, and the blanks that the flag `x` has skipped.
+// Reads what a rule has below its items: bytes, numbers, quantifiers, names of groups, and the blanks that the flag `x` has skipped; and the flag of the
+// depot profile.
 use syntax::Refusal;
 
 mod ascii;
 mod blanks;
 mod called;
 mod numbers;
+mod profile;
 mod quantifiers;
 
 pub use ascii::CARET;
@@ -22,6 +24,7 @@ pub use called::name_at;
 pub use numbers::digit_value;
 pub use numbers::number_at;
 pub use numbers::peek;
+pub use profile::in_depot;
 pub use quantifiers::quantifier_at;
 
 // A run of digits: what it stands for, at most 1000, and the position behind it.

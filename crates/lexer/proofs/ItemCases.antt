@@ -16,7 +16,7 @@ use Rattle.syntax.specs.Limits.{dotAllBit, multilineBit}
 use Rattle.syntax.specs.Read.{if_then_else_, byte, is, Read, sound, refused, andThen}
 use Rattle.syntax.specs.Sets.{Member, single, Class, isMember, isAny, inClass, only, notNewline, anyByte}
 use Rattle.syntax.specs.Tree.{Item, byteIn, assert, reference}
-use Rattle.syntax.specs.Flags.{dotAll, multiline, ignoreCase}
+use Rattle.syntax.specs.Flags.{dotAll, multiline, ignoreCase, depot}
 use Rattle.syntax.specs.Names.{Name, Names, nameUpTo, groupCalled}
 use Rattle.syntax.specs.Escapes.{octal, common, forward, decimal, groupNumber, called, callsByName, escape}
 use Rattle.syntax.specs.Classes.{class}
@@ -190,7 +190,7 @@ module _ (s : List ℕ) (flags : ℕ) (known : Names) (opened at b : ℕ) (p : b
   unfolding atom
   atom-escape e = rw (← p, e, f)
 
-  pub atom-class : b ≡ 91 → classed folded (class s at) ≡ atom s flags known opened at
+  pub atom-class : b ≡ 91 → classed folded (class s (depot flags) at) ≡ atom s flags known opened at
   unfolding atom
   atom-class e = rw (← p, e, f)
 

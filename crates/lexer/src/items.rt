@@ -20,6 +20,7 @@ use lexemes::END;
 use lexemes::NameRead;
 use lexemes::called_at;
 use lexemes::calls_by_name;
+use lexemes::in_depot;
 use lexemes::name_at;
 use lexemes::peek;
 use syntax::Assertion;
@@ -34,9 +35,10 @@ ghost use Rattle.syntax.specs.Limits.{groupLimit};
 ghost use Rattle.syntax.specs.Read.{if_then_else_, byte, Read, sound, refused, andThen};
 ghost use Rattle.syntax.specs.Sets.{Class, only, notNewline, anyByte};
 ghost use Rattle.syntax.specs.Tree.{byteIn, assert, reference};
-ghost use Rattle.syntax.specs.Flags.{dotAll, multiline, ignoreCase};
+ghost use Rattle.syntax.specs.Flags.{dotAll, multiline, ignoreCase, depot};
 ghost use Rattle.syntax.specs.Names.{Name, Names, groupCalled};
 ghost use Rattle.syntax.specs.Escapes.{escape};
+ghost use Rattle.syntax.specs.Classes.{class};
 ghost use Rattle.syntax.specs.Grammar.{atom};
 ghost use Rattle.lexemes.specs.Says.{SaysName};
 ghost use Rattle.escapes.specs.Says.{memberOf};
@@ -221,6 +223,15 @@ fn escape_at(rule: &[u8], folded: bool, opened: u32, at: usize) -> Lexed
     }
 }
 
+// The class at a position, which the depot profile narrows.
+fn bracketed(rule: &[u8], flags: u32, at: usize, folded: bool) -> ClassRead
+    requires { ⌜ at < length (now rule) ⌝ }
+    ensures { λ r. ⌜ SaysClass folded (class (now (rule .entry)) (depot flags) at) r ⌝ }
+{
+    let strict = in_depot(flags);
+    class_at(rule, at, folded, strict)
+}
+
 // The item at a position, where so many groups have been opened.
 pub fn item_at(rule: &[u8], flags: u32, opened: u32, at: usize) -> Lexed
     requires { ⌜ (opened ≤ groupLimit) × (at < length (now rule)) ⌝ }
@@ -231,7 +242,7 @@ pub fn item_at(rule: &[u8], flags: u32, opened: u32, at: usize) -> Lexed
     let b = rule[at];
     match b {
         b'\\' => escape_at(rule, folded, opened, at),
-        b'[' => class_item(class_at(rule, at, folded)),
+        b'[' => class_item(bracketed(rule, flags, at, folded)),
         b'.' => dot(flags, next),
         b'^' => caret(flags, next),
         b'$' => dollar(flags, next),

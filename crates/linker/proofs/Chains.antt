@@ -35,7 +35,7 @@ module _ (rule : List ℕ) (known : Names) where
   Going groups r old a first next sofar p pc found = (t : Rule) (lo top : ℕ) → Chain rule known old t lo top first → Fits groups r t → Left groups r old a t lo top next sofar p pc found
 
   -- parts are left exactly where the position is not 0
-  for-some : (a : List ℕ) (lo top p : ℕ) (Q : Rule → Type 0) → ((x y : Rule) → Sequence a (Chain rule known a x) (Part rule known a y) lo top p → Q (seq x y)) → 1 ≤ p → (t : Rule) → Chain rule known a t lo top p → Q t
+  pub for-some : (a : List ℕ) (lo top p : ℕ) (Q : Rule → Type 0) → ((x y : Rule) → Sequence a (Chain rule known a x) (Part rule known a y) lo top p → Q (seq x y)) → 1 ≤ p → (t : Rule) → Chain rule known a t lo top p → Q t
   unfolding Chain
   for-some a lo top p Q f l empty h = absurd (omega (arith, h .0))
   for-some a lo top p Q f l (seq x y) h = f x y h
@@ -44,7 +44,7 @@ module _ (rule : List ℕ) (known : Names) where
   for-some a lo top p Q f l (group n t) h = absurd h
   for-some a lo top p Q f l (repeat place least most g t) h = absurd h
 
-  for-none : (a : List ℕ) (lo top p : ℕ) (Q : Rule → Type 0) → Q empty → p ≡ 0 → (t : Rule) → Chain rule known a t lo top p → Q t
+  pub for-none : (a : List ℕ) (lo top p : ℕ) (Q : Rule → Type 0) → Q empty → p ≡ 0 → (t : Rule) → Chain rule known a t lo top p → Q t
   unfolding Chain
   for-none a lo top p Q q e empty h = q
   for-none a lo top p Q q e (seq x y) h = absurd (omega (arith, part-here rule known a y (h .mid) top p (h .right) .some))

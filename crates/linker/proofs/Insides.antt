@@ -31,7 +31,7 @@ module _ (rule : List ℕ) (known : Names) where
   none-links groups r a p next sofar e (repeat place least most g t) lo top h f = absurd h
 
   -- a sequence: what is no last branch
-  is-chain : (a : List ℕ) (p : ℕ) → (getD a p 0 ≡ 6 → ⊥) → (t : Rule) (lo top : ℕ) → Inside rule known a t lo top p → Chain rule known a t lo top p
+  pub is-chain : (a : List ℕ) (p : ℕ) → (getD a p 0 ≡ 6 → ⊥) → (t : Rule) (lo top : ℕ) → Inside rule known a t lo top p → Chain rule known a t lo top p
   unfolding Inside
   is-chain a p e empty lo top h = h
   is-chain a p e (seq x y) lo top h = h
@@ -62,7 +62,7 @@ module _ (rule : List ℕ) (known : Names) where
 
   -- An alternation ----------------------------------------------------------------------
 
-  for-alt : (a : List ℕ) (lo top p : ℕ) (Q : Rule → Type 0) → ((bs : Branches) (t : Rule) → Branch a 6 (Several rule known a bs) (Chain rule known a t) lo top p → Q (alt bs t)) → 1 ≤ p → getD a p 0 ≡ 6 → (t : Rule) → Inside rule known a t lo top p → Q t
+  pub for-alt : (a : List ℕ) (lo top p : ℕ) (Q : Rule → Type 0) → ((bs : Branches) (t : Rule) → Branch a 6 (Several rule known a bs) (Chain rule known a t) lo top p → Q (alt bs t)) → 1 ≤ p → getD a p 0 ≡ 6 → (t : Rule) → Inside rule known a t lo top p → Q t
   unfolding Inside
   for-alt a lo top p Q f l e empty h = absurd (omega (arith, h .0))
   for-alt a lo top p Q f l e (seq x y) h = absurd (never-last rule known a y (h .mid) top p (h .right) e)

@@ -4,11 +4,11 @@ pub mod Compiled
 mod Made
 mod Stores
 mod Called
-mod Trees
+pub mod Trees
 mod Items
 mod Groups
 mod Repeats
 mod Plains
-mod Chains
+pub mod Chains
 mod Branches
-mod Insides
+pub mod Insides

@@ -212,6 +212,7 @@ module _ (rule : List ℕ) (known : Names) (a b : List ℕ) where
           least = word a b lo top p 8 7 2 (omega arith) s (h .node) (h .least);
           most = word a b lo top p 8 7 3 (omega arith) s (h .node) (h .most);
           greed = word a b lo top p 8 7 4 (omega arith) s (h .node) (h .greed);
+          origin = word a b lo top p 8 7 5 (omega arith) s (h .node) (h .origin);
           body = h .body;
           is = word a b lo top p 8 7 6 (omega arith) s (h .node) (h .is);
           holds = part-same t lo p (h .body) (λ i i1 i2. s i i1 (omega (arith, h .node .high))) (h .holds);

@@ -7,7 +7,7 @@
 --   named     12, before, place, where the group's name begins in the rule, 1 if it is folded, how many bytes the name has
 --   group      4, before, 0, the slot of its span, 3, inside, 0       the close's four numbers, then the open's three
 --   plain     10, before, inside                                      a group that does not capture
---   repeat     7, 8, least, most, greed, 0, body, before
+--   repeat     7, 8, least, most, greed, place, body, before
 --   branch     5, inside, the branch before it
 --   last       6, inside, the branch before it
 --
@@ -125,6 +125,7 @@ module _ (s : List ℕ) (known : Names) (a : List ℕ) where
       least : getD a (p + 2) 0 ≡ least;
       most : getD a (p + 3) 0 ≡ mostWord most;
       greed : getD a (p + 4) 0 ≡ greedWord g;
+      origin : getD a (p + 5) 0 ≡ place;
       body : ℕ;
       is : getD a (p + 6) 0 ≡ body;
       holds : Part t lo p body;

@@ -66,7 +66,7 @@ fn put_two(area: &mut [u32], at: usize, x: usize, y: usize)
 }
 
 // The number at a position.
-fn word(area: &[u32], at: usize) -> usize
+pub fn word(area: &[u32], at: usize) -> usize
     requires { ⌜ at < length (now area) ⌝ }
     ensures { λ r. ⌜ (r ≡ getD (now (area .entry)) at 0) × (r < 4294967296) ⌝ }
 {
@@ -74,7 +74,7 @@ fn word(area: &[u32], at: usize) -> usize
 }
 
 // The part before the one at p.
-fn before_of(area: &[u32], p: usize) -> usize
+pub fn before_of(area: &[u32], p: usize) -> usize
     requires { ⌜ (p + 3 ≤ length (now area)) × (getD (now area) p 0 ≡ 7 → p + 8 ≤ length (now area)) ⌝ }
     ensures { λ r. ⌜ r ≡ beforeOf (now (area .entry)) p ⌝ }
 {

@@ -53,6 +53,8 @@ fn letters(text: &[u8]) -> Value {
             flags = flags | 4;
         } else if text[i] == b'x' {
             flags = flags | 8;
+        } else if text[i] == b'D' {
+            flags = flags | 16;
         } else {
             return Value::Wrong;
         }
@@ -61,7 +63,7 @@ fn letters(text: &[u8]) -> Value {
     Value::Is(flags)
 }
 
-// Flags: a number from 0 to 15, letters out of `s`, `m`, `i` and `x`, or `-` for none.
+// Flags: a number from 0 to 31, letters out of `s`, `m`, `i`, `x` and `D`, or `-` for none.
 pub fn flags(text: &[u8]) -> Value {
     if text.len() == 0 {
         return Value::Wrong;
@@ -71,7 +73,7 @@ pub fn flags(text: &[u8]) -> Value {
             return Value::Is(0);
         }
     }
-    match decimal(text, 15) {
+    match decimal(text, 31) {
         Value::Is(n) => Value::Is(n),
         Value::Wrong => letters(text),
     }

@@ -68,9 +68,9 @@ one group too many; a rule has at most \n\
 the 25th bracket inside another; they nest at most 24 deep\n\
 a name is missing, malformed or not closed\n\
 this name is used twice\n\
-\n\
-\n\
-\n\
+a reference, which the depot profile does not allow\n\
+a repeat without upper bound of what may take no bytes, which the depot profile does not allow\n\
+a range whose ends are not two digits, two upper or two lower letters, as the depot profile wants them\n\
 a record begins with a byte that is none of the kinds 1, 2 and 3\n\
 it ends before its last record does\n\
 its records are in the wrong order, or not as many as the rule's length needs\n\

@@ -66,7 +66,7 @@ module _ {old : List ℕ} {c : Cursor} {next : ℕ} (last kind least : ℕ) (mos
       by names (repeated t) k = unfold repeating in refl
 
   pub repeat-once : {new : List ℕ} → c .at < next → (kind ≡ 0 → ⊥) → (kind ≡ 2 → ⊥)
-      → Wrote old new (c .used) 8 (7 ∷ 8 ∷ least ∷ mostWord most ∷ greedWord greed ∷ 0 ∷ last ∷ getD old (last + 1) 0 ∷ [])
+      → Wrote old new (c .used) 8 (7 ∷ 8 ∷ least ∷ mostWord most ∷ greedWord greed ∷ c .at ∷ last ∷ getD old (last + 1) 0 ∷ [])
       → Repeats old new c last kind least most greed next (Goes (behindNode c next 8) (c .used) 2)
   repeat-once {new} l ne two w = record {
     moved = record { on = omega arith; within = omega arith; grown = omega arith; paid = omega arith; address = omega arith; few = r .few };
@@ -78,7 +78,7 @@ module _ {old : List ℕ} {c : Cursor} {next : ℕ} (last kind least : ℕ) (mos
       by : (s : List ℕ) (known : Names) (told : Told) (lo : ℕ) (q : Sequence) → kind ≡ kindOf q → SoFar s known old q lo (c .used) last
           → SaysTurn s known told (repeating q (c .at) least most greed (told (c .opened)) next) new lo (Goes (behindNode c next 8) (c .used) 2)
       by s known told lo (unrepeatable t) k h = absurd (ne k)
-      by s known told lo (repeatable x y) k h = (repeated (seq x (repeat (c .at) least most greed y)), refl, unfold repeating in refl, repeat-chain s known lo (c .at) most greed x y w (r .began) h)
+      by s known told lo (repeatable x y) k h = (repeated (seq x (repeat (c .at) least most greed y)), refl, unfold repeating in refl, repeat-chain s known lo most greed x y w (r .began) h)
       by s known told lo (repeated t) k h = absurd (two k)
 
 -- Items ---------------------------------------------------------------------------

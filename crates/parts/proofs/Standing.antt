@@ -168,10 +168,10 @@ module _ (s : List ℕ) (known : Names) where
   so-far-chain (repeated t) a lo top p h = h
 
   -- the last part repeated
-  pub repeat-chain : {old new : List ℕ} {p last least : ℕ} (lo place : ℕ) (most : Most) (greed : Greed) (x y : Rule) → Wrote old new p 8 (7 ∷ 8 ∷ least ∷ mostWord most ∷ greedWord greed ∷ 0 ∷ last ∷ getD old (last + 1) 0 ∷ []) → 1 ≤ p
+  pub repeat-chain : {old new : List ℕ} {p last least place : ℕ} (lo : ℕ) (most : Most) (greed : Greed) (x y : Rule) → Wrote old new p 8 (7 ∷ 8 ∷ least ∷ mostWord most ∷ greedWord greed ∷ place ∷ last ∷ getD old (last + 1) 0 ∷ []) → 1 ≤ p
       → SoFar s known old (repeatable x y) lo p last → Chain s known new (seq x (repeat place least most greed y)) lo (p + 8) p
   unfolding Part
-  repeat-chain {old} {new} {p} {last} {least} lo place most greed x y w b h =
+  repeat-chain {old} {new} {p} {last} {least} {place} lo most greed x y w b h =
       let mid = h .0 in
       let k = part-here s known old y mid p last (h .3 .0) in
       record {
@@ -185,6 +185,7 @@ module _ (s : List ℕ) (known : Names) where
           least = w .at 2 (omega arith);
           most = w .at 3 (omega arith);
           greed = w .at 4 (omega arith);
+          origin = w .at 5 (omega arith);
           body = last;
           is = w .at 6 (omega arith);
           holds = part-same s known old new y mid p last (below-same new old p mid p (omega arith) (w .below)) (h .3 .0);

@@ -80,7 +80,16 @@ fn repeated(
         });
     }
     let before = area[last + 1];
-    put_repeat(area, used, least, most, greed, last as u32, before);
+    put_repeat(
+        area,
+        used,
+        least,
+        most,
+        greed,
+        at as u32,
+        last as u32,
+        before,
+    );
     Turn::Goes(behind(c, next, 8), used, REPEATED)
 }
 

@@ -10,19 +10,25 @@ use lib.ListN.{getD, length, take, drop, length-append, length-take, length-drop
 use lib.Seq.{slice, take-at, drop-at, drop-drop}
 use Rattle.syntax.specs.declared.Reason.{Reason}
 use Rattle.syntax.specs.declared.Reason.the-variants.{NoSuchGroup}
-use Rattle.syntax.specs.Limits.{groupLimit, ruleAreaNeed, spansLength}
+use Rattle.syntax.specs.declared.Refusal.{Refusal}
+use Rattle.syntax.specs.Limits.{groupLimit, ruleAreaNeed, spansLength, levelLimit}
 use Rattle.syntax.specs.Read.{sound, refused}
 use Rattle.syntax.specs.Tree.{Rule}
 use Rattle.syntax.specs.Names.{Names}
-use Rattle.syntax.specs.Reading.{parsed, namesRead, namesOf, unresolved, resolved, reading}
-use Rattle.syntax.specs.WellFormed.{WellFormed}
+use Rattle.syntax.specs.Reading.{parsed, namesRead, namesOf, unresolved, unless, profiled, settled, reading}
+use Rattle.syntax.specs.Flags.{depot}
+use Rattle.syntax.specs.WellFormed.{levels, WellFormed}
 use Rattle.syntax.specs.Laws.Formation.{parsed-formed, well-formed}
 use Rattle.linker.specs.declared.Linkage.{Linkage}
 use Rattle.linker.specs.declared.Linkage.the-variants.{Entry, NoGroup}
 use Rattle.linker.specs.Table.{Spelled, namesIn, NamesFit, spelled-same, spelled-next, length-names}
 use Rattle.linker.specs.Linking.{Fits, Linkable, Outside, Entered, Whole, LinksWhole}
 use Rattle.linker.specs.Laws.{fits-whole}
+use Rattle.linker.specs.Nodes.{Inside}
 use Rattle.linker.proofs.Compiled.{keep}
+use Rattle.lengths.specs.declared.Judgement.{Judgement}
+use Rattle.lengths.specs.declared.Judgement.the-variants.{Passes, Barred}
+use Rattle.lengths.specs.Measures.{Deep, Judged, Judges}
 use Rattle.parts.specs.declared.Cursor.{Cursor}
 use Rattle.parts.specs.declared.Answer.the-variants.{Sound}
 use Rattle.reader.specs.Areas.{tableStart}
@@ -67,17 +73,20 @@ module _ (s : List ℕ) (flags : ℕ) where
   parse-refused place why e = rw (e (namesOf s flags))
 
   module _ (names : Names) (t : Rule) (groups at : ℕ) (n : namesOf s flags ≡ names) (l : length names ≡ groups) (e : parsed s flags names ≡ sound (t, names) at) where
-    pub parse-sound : unresolved groups t ≡ none → reading s flags ≡ sound (t, groups) at
-    unfolding reading resolved
+    pub parse-sound : unresolved groups t ≡ none → reading s flags ≡ profiled (depot flags) t (sound (t, groups) at)
+    unfolding reading settled unless
     parse-sound r = rw (n, e, l, r)
 
     pub parse-dangling : (place : ℕ) → unresolved groups t ≡ some place → reading s flags ≡ refused place NoSuchGroup
-    unfolding reading resolved
+    unfolding reading settled unless
     parse-dangling place r = rw (n, e, l, r)
 
     -- a tree that was parsed fits
     parse-fits : Fits groups spansLength t
     parse-fits = let f = rw e at (parsed-formed s flags names) in rw (← l) (fits-whole (length names) t (f .0) (f .1) (f .2) (f .3))
+
+    parse-shallow : levels t ≤ levelLimit
+    parse-shallow = let f = rw e at (parsed-formed s flags names) in f .4
 
   -- What linking asks, and what it gives -----------------------------------------------
 
@@ -107,24 +116,51 @@ module _ (s : List ℕ) (flags : ℕ) where
           stands = record { tree = x .is names .0; lo = 1; top = d .used; holds = x .is names .2; fits = fits; within = x .within; small = omega (arith, x .small) };
         }
 
+    -- What the profile asks, and what it says -----------------------------------------------
+
+    pub measurable : Deep Inside area p levelLimit
+    measurable = record {
+      rule = s;
+      known = names;
+      tree = x .is names .0;
+      lo = 1;
+      top = d .used;
+      holds = x .is names .2;
+      within = x .within;
+      groups = d .opened;
+      proper = fits .proper;
+      deep = parse-shallow names (x .is names .0) (d .opened) (d .at) names-read many (x .is names .1);
+    }
+
+    judging : (j : Judgement) → Judges (depot flags) area p j → Judged (depot flags) (x .is names .0) j
+    unfolding Judges
+    judging j h = h s names (d .opened) (x .is names .0) 1 (d .used) (fits .proper) (x .is names .2)
+
     module _ (new : List ℕ) (l : Linkage) (y : LinksWhole s (d .opened) table area new p l) where
       made : Outside 1 (d .used) area new × Whole (d .opened) (x .is names .0) 1 (d .used) new l
       unfolding LinksWhole
       made = y names many (fit-spelled s table (d .opened) (x .fit)) (x .is names .0) 1 (d .used) (x .is names .2) fits
 
-      pub entered : (pc : ℕ) → l ≡ Entry pc → StandsWith s flags new table tableStart pc (d .opened)
-      entered pc e =
+      pub entered : (pc : ℕ) → l ≡ Entry pc → (j : Judgement) → j ≡ Passes → Judges (depot flags) area p j → StandsWith s flags new table tableStart pc (d .opened)
+      entered pc e j k h =
           let w : Entered (d .opened) (x .is names .0) 1 (d .used) new pc = rw e at (made .1) in
+          let passed : Judged (depot flags) (x .is names .0) Passes = rw k at (judging j h) in
           record {
             tree = x .is names .0;
             stop = d .at;
-            reads = parse-sound names (x .is names .0) (d .opened) (d .at) names-read many (x .is names .1) (w .resolved);
+            reads = parse-sound names (x .is names .0) (d .opened) (d .at) names-read many (x .is names .1) (w .resolved) ∙ passed (sound (x .is names .0, d .opened) (d .at));
             end = made .0 .below 0 (omega arith) ∙ x .end;
             compiled = keep new new 1 (d .used) 1 tableStart (omega arith) (x .small) (λ i a b. refl) (x .is names .0) pc 0 spansLength (w .compiled);
             near = omega (arith, w .near, x .small);
             many = rw names-read many;
             named = rw names-read (fit-spelled s table (d .opened) (x .fit));
           }
+
+      pub barred : (pc : ℕ) → l ≡ Entry pc → (j : Judgement) (f : Refusal) → j ≡ Barred f → Judges (depot flags) area p j → reading s flags ≡ refused (f .place) (f .reason)
+      barred pc e j f k h =
+          let w : Entered (d .opened) (x .is names .0) 1 (d .used) new pc = rw e at (made .1) in
+          let found : Judged (depot flags) (x .is names .0) (Barred f) = rw k at (judging j h) in
+          parse-sound names (x .is names .0) (d .opened) (d .at) names-read many (x .is names .1) (w .resolved) ∙ found (sound (x .is names .0, d .opened) (d .at))
 
       pub dangling : (place : ℕ) → l ≡ NoGroup place → reading s flags ≡ refused place NoSuchGroup
       dangling place e = parse-dangling names (x .is names .0) (d .opened) (d .at) names-read many (x .is names .1) place (rw e at (made .1))

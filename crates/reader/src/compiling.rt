@@ -1,5 +1,8 @@
 // A rule's bytes to a compiled rule: read, then linked.
 use crate::read_rule;
+use lengths::Judgement;
+use lengths::judge;
+use lexemes::in_depot;
 use linker::Linkage;
 use linker::link;
 use parts::Answer;
@@ -8,7 +11,10 @@ use syntax::Refusal;
 use syntax::SPANS_LENGTH;
 ghost use Prim.Native.Nat.{_≤_};
 ghost use lib.ListN.{length};
-ghost use Rattle.syntax.specs.Limits.{ruleLimit, ruleAreaNeed, spansLength};
+ghost use Rattle.syntax.specs.Limits.{ruleLimit, ruleAreaNeed, spansLength, levelLimit};
+ghost use Rattle.syntax.specs.Flags.{depot};
+ghost use Rattle.linker.specs.Nodes.{Inside};
+ghost use Rattle.lengths.specs.Measures.{Deep, Judges};
 ghost use Rattle.reader.specs.Areas.{tableStart};
 ghost use Rattle.writer.specs.Wrote.{Wrote};
 ghost use Rattle.reader.specs.Compiles.{SaysWith, Compiles};
@@ -25,7 +31,19 @@ pub enum Compilation {
     Refused(Refusal),
 }
 
-// Reads and links a rule, and leaves the names of its groups in the table.
+// What the depot profile says of the rule whose inside stands at p, if it is asked for.
+fn judged(area: &[u32], p: usize, flags: u32) -> Judgement
+    requires { ⌜ Deep Inside (now area) p levelLimit ⌝ }
+    ensures { λ r. ⌜ Judges (depot flags) (now (area .entry)) p r ⌝ }
+{
+    if in_depot(flags) {
+        return judge(area, p);
+    }
+    Judgement::Passes
+}
+
+// Reads and links a rule, and leaves the names of its groups in the table. What the profile bars is looked for before the rule is linked, but told only
+// where every reference is to a group.
 fn compile_into(rule: &[u8], flags: u32, area: &mut [u32], table: &mut [u32]) -> Compilation
     requires { ⌜ (length (now rule) ≤ ruleLimit) × (tableStart ≤ length (now area)) × (spansLength ≤ length (now table)) ⌝ }
     ensures { λ r. ⌜ SaysWith (now (rule .entry)) flags (now (area .exit)) (now (table .exit)) tableStart r ⌝ }
@@ -35,13 +53,17 @@ fn compile_into(rule: &[u8], flags: u32, area: &mut [u32], table: &mut [u32]) ->
         Answer::Refused(f) => Compilation::Refused(f),
         Answer::Sound(d, inside) => {
             let groups = d.opened;
+            let profile = judged(area, inside, flags);
             let l = link(rule, area, inside, groups, table);
             match l {
-                Linkage::Entry(pc) => Compilation::Sound(pc, groups),
                 Linkage::NoGroup(place) => Compilation::Refused(Refusal {
                     place,
                     reason: Reason::NoSuchGroup,
                 }),
+                Linkage::Entry(pc) => match profile {
+                    Judgement::Passes => Compilation::Sound(pc, groups),
+                    Judgement::Barred(f) => Compilation::Refused(f),
+                },
             }
         }
     }

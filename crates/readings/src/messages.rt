@@ -12,9 +12,11 @@ under the place where that ends, and the rule with ^ under what was expected the
 \n\
 RULE-FILE   the rule is what stands before its first line end\n\
 LINES-FILE  lines of up to 65535 bytes, ended by 0A (a 0D before it is a byte of the line)\n\
-FLAGS       0 to 15, or letters: s (a dot in the rule takes every byte), m (^ and $ at each 0A),\n            \
+FLAGS       0 to 31, or letters: s (a dot in the rule takes every byte), m (^ and $ at each 0A),\n            \
 i (A to Z and a to z match each other), x (blanks in the rule, and # up to the line's\n            \
-end, are skipped); - for none, as without it\n\
+end, are skipped), D (the depot profile, which refuses some rules: no references, no\n            \
+repeat without upper bound of what may take no bytes, and no range but of digits, of\n            \
+upper or of lower letters); - for none, as without it\n\
 BUDGET      the steps that each start in a line may take, 0 to 100000; without it 100000\n\
 \n\
 Readings are counted from every start in the line: (\\d+) has three on 12. For readings of whole\n\

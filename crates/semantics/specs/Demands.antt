@@ -59,7 +59,7 @@ stepsBefore walkFrom (suc n) = stepsBefore walkFrom n + length (walkFrom n)
 pub data Fault (need : ℕ) (c : Call) : Reason → Type 0 where
   ruleTooLong : ruleLimit < length (c .rule) → Fault need c RuleTooLong  -- "rule over 1,000 bytes"
   subjectTooLong : subjectLimit < length (c .subject) → Fault need c SubjectTooLong  -- "subject over 65,535 bytes"
-  unknownFlag : 2 ^ flagBits ≤ c .flags → Fault need c UnknownFlag  -- 02: "Refusal 3 now starts at bit 4": bits 0 to 3 alone make less than 16
+  unknownFlag : 2 ^ flagBits ≤ c .flags → Fault need c UnknownFlag  -- 02: "refusal 3 now starts at bit 5": bits 0 to 4 alone make less than 32
   budgetTooLarge : budgetLimit < c .budget → Fault need c BudgetTooLarge  -- "budget over 100,000"
   ruleAreaShort : length (c .ruleArea) < ruleAreaNeed → Fault need c RuleAreaShort  -- "rule area short"
   workAreaShort : length (c .workArea) < workAreaNeed (c .budget) → Fault need c WorkAreaShort  -- "work area short"

@@ -49,3 +49,6 @@ pub mod Batches
 pub mod SettledBatches
 pub mod LinesApart
 pub mod LinesInTurn
+-- What is proved of least lengths and of the depot profile.
+pub mod Lengths
+pub mod Profiles

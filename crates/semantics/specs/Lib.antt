@@ -18,6 +18,7 @@ pub mod ScanDemands
 pub mod DemandsHold
 pub mod BatchDemands
 pub mod BatchDemandsHold
+pub mod Profile
 pub mod Laws
 pub mod Computing
 pub mod Starred

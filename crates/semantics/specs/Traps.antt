@@ -61,7 +61,7 @@ traps =
     -- lazy repeats go on first
     ∷ listing "a*?" 0 "aa" 99 9 (Complete 6 18) (rowOf 0 0 [] ∷ rowOf 0 1 [] ∷ rowOf 0 2 [] ∷ rowOf 1 1 [] ∷ rowOf 1 2 [] ∷ rowOf 2 2 [] ∷ [])
     -- refusals 3 and 4
-    ∷ matching "(" 16 "" 99 (Refused 0 UnknownFlag) []
+    ∷ matching "(" 32 "" 99 (Refused 0 UnknownFlag) []
     ∷ matching "(" 0 "" 100001 (Refused 0 BudgetTooLarge) []
     -- 02 A1: `\h` has A0 and `\v` has 85, in classes too; `\H` and `\V` do not
     ∷ matching "\\h" 0 "\u{a0}" 99 (Matched 2) (rowOf 0 1 [] ∷ [])

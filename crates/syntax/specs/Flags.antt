@@ -3,7 +3,7 @@ use mathlib.Core.List.{List}
 use mathlib.Core.Bool.{Bool}
 use Prim.Native.Nat.{ℕ}
 use Rattle.charset.specs.Class.{bit}
-use Rattle.syntax.specs.Limits.{dotAllBit, multilineBit, ignoreCaseBit, extendedBit}
+use Rattle.syntax.specs.Limits.{dotAllBit, multilineBit, ignoreCaseBit, extendedBit, depotBit}
 
 -- "Flags: bit 0 is `s`, bit 1 is `m`." 02: "Flag bit 2 is `i`", "Flag bit 3 is `x`".
 unfoldable pub dotAll : ℕ → Bool
@@ -17,3 +17,7 @@ ignoreCase flags = bit flags ignoreCaseBit
 
 unfoldable pub extended : ℕ → Bool
 extended flags = bit flags extendedBit
+
+-- 02, request k): the depot profile, "stricter"
+unfoldable pub depot : ℕ → Bool
+depot flags = bit flags depotBit

@@ -16,7 +16,7 @@ use Rattle.charset.specs.Named.{inNamed}
 use Rattle.syntax.specs.Read.{if_then_else_, byte, isEnd, is, Read, sound, refused, andThen}
 use Rattle.syntax.specs.Sets.{single, only, notNewline, anyByte}
 use Rattle.syntax.specs.Tree.{Item, byteIn, assert, reference, Rule, empty, item, seq, group, repeat, Branches, one, also, alternatives}
-use Rattle.syntax.specs.Flags.{dotAll, multiline, ignoreCase, extended}
+use Rattle.syntax.specs.Flags.{dotAll, multiline, ignoreCase, extended, depot}
 use Rattle.syntax.specs.Names.{Name, Names, nameUpTo, fresh}
 use Rattle.syntax.specs.Escapes.{escape}
 use Rattle.syntax.specs.Classes.{class}
@@ -43,7 +43,7 @@ atom s flags known opened at =
     let b = byte s at in
     let folded = ignoreCase flags in
     if is "\\" b then escape s folded known opened at
-    else if is "[" b then andThen (class s at) (λ c next. sound (byteIn folded c) next)
+    else if is "[" b then andThen (class s (depot flags) at) (λ c next. sound (byteIn folded c) next)
     else if is "." b then sound (byteIn folded (if dotAll flags then anyByte else notNewline)) (at + 1)
     else if is "^" b then sound (assert (if multiline flags then LineStart else TextStart)) (at + 1)
     else if is "$" b then sound (assert (if multiline flags then LineEnd else LastLineEnd)) (at + 1)

@@ -6,4 +6,5 @@ pub mod Fuel
 pub mod Formation
 pub mod Names
 pub mod Places
+pub mod Profile
 pub mod ClassTest

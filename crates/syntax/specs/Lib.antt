@@ -12,6 +12,7 @@ pub mod Escapes
 pub mod Classes
 pub mod Quantifiers
 pub mod Grammar
+pub mod Lengths
 pub mod Reading
 pub mod WellFormed
 pub mod Compiled

@@ -20,7 +20,8 @@ ruleAreaNeed = 16384
 unfoldable pub workPerStep : ℕ
 workPerStep = 16
 
--- 01: "Flags: bit 0 is `s`, bit 1 is `m`"; 02, request c): "Flag bit 2 is `i`", "Flag bit 3 is `x`", and "Refusal 3 now starts at bit 4"
+-- 01: "Flags: bit 0 is `s`, bit 1 is `m`"; 02, request c): "Flag bit 2 is `i`", "Flag bit 3 is `x`"; request k): "Flag bit 4 asks for a narrower rule;
+-- refusal 3 now starts at bit 5"
 unfoldable pub dotAllBit : ℕ
 dotAllBit = 0
 
@@ -33,8 +34,11 @@ ignoreCaseBit = 2
 unfoldable pub extendedBit : ℕ
 extendedBit = 3
 
+unfoldable pub depotBit : ℕ
+depotBit = 4
+
 unfoldable pub flagBits : ℕ
-flagBits = 4
+flagBits = 5
 
 -- What a rule may hold --------------------------------------------------------
 
@@ -46,6 +50,11 @@ groupLimit = 64
 unfoldable pub nestingLimit : ℕ
 nestingLimit = 24
 
+-- how many levels of sequences and repeats stand one inside another: the rule itself and its groups are sequences, and each may be repeated
+unfoldable pub levelLimit : ℕ
+unfolding nestingLimit
+levelLimit = 2 * suc nestingLimit
+
 -- the greatest bound of a repeat
 unfoldable pub boundLimit : ℕ
 boundLimit = 255
@@ -53,6 +62,10 @@ boundLimit = 255
 -- the greatest value of a byte, which an escape's number cannot exceed
 unfoldable pub byteLimit : ℕ
 byteLimit = 255
+
+-- 02, request k): a least length "above 65,536 .. is held at 65,536"
+unfoldable pub lengthLimit : ℕ
+lengthLimit = 65536
 
 -- Rows --------------------------------------------------------------------------
 

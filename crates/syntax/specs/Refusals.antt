@@ -1,7 +1,7 @@
 -- 01, "Refusal numbers", and those that 02 adds.
 use Prim.Native.Nat.{ℕ}
 use Rattle.syntax.specs.declared.Reason.{Reason}
-use Rattle.syntax.specs.declared.Reason.the-variants.{RuleTooLong, SubjectTooLong, UnknownFlag, BudgetTooLarge, RuleAreaShort, WorkAreaShort, ResultAreaShort, NameIndexShort, WrittenAreaShort, TrailingBackslash, UnknownEscape, MalformedEscape, NoSuchGroup, UnclosedClass, BadRange, UnknownSet, NothingToRepeat, BadBraces, RepeatOnRepeat, UnclosedGroup, UnopenedGroup, UnknownGroup, TooManyGroups, TooDeep, BadName, NameTwice, UnknownKind, CardCutShort, WrongRecords, StrayBytes, WrongGroupNumber}
+use Rattle.syntax.specs.declared.Reason.the-variants.{RuleTooLong, SubjectTooLong, UnknownFlag, BudgetTooLarge, RuleAreaShort, WorkAreaShort, ResultAreaShort, NameIndexShort, WrittenAreaShort, TrailingBackslash, UnknownEscape, MalformedEscape, NoSuchGroup, UnclosedClass, BadRange, UnknownSet, NothingToRepeat, BadBraces, RepeatOnRepeat, UnclosedGroup, UnopenedGroup, UnknownGroup, TooManyGroups, TooDeep, BadName, NameTwice, BarredReference, IdleRepeat, MixedRange, UnknownKind, CardCutShort, WrongRecords, StrayBytes, WrongGroupNumber}
 
 abbrev pub numberOf : Reason → ℕ
 -- of a call, before its rule is read
@@ -32,6 +32,10 @@ numberOf TooManyGroups = 23
 numberOf TooDeep = 24
 numberOf BadName = 25
 numberOf NameTwice = 26
+-- of a rule under the depot profile
+numberOf BarredReference = 27
+numberOf IdleRepeat = 28
+numberOf MixedRange = 29
 -- of a card
 numberOf UnknownKind = 30
 numberOf CardCutShort = 31

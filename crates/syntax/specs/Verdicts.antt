@@ -329,3 +329,53 @@ extendedVerdicts =
 pub extended-verdicts-hold : map (read 8) extendedVerdicts ≡ extendedVerdicts
 unfolding computing-readings verdict read extendedVerdicts
 extended-verdicts-hold = refl
+
+-- Under the depot profile -----------------------------------------------------------
+
+unfoldable pub depotVerdicts : List Verdict
+depotVerdicts =
+    -- 02 K1: a range's ends are compared by their values
+    "[\\x41-\\x5a]" holds 0
+    ∷ "[0-9A-Za-z]" holds 0
+    ∷ "[!-~]" gives 29 at 1
+    ∷ "[A-z]" gives 29 at 1
+    ∷ "[0-9a-\\x7b]" gives 29 at 4
+    ∷ "[\\x30-9\\x61-\\x7a]" holds 0
+    ∷ "[a-]" holds 0
+    -- 02 K2: 29 is met left to right, behind 15
+    ∷ "[~-!]" gives 15 at 1
+    ∷ "[\\d-z]" gives 15 at 1
+    ∷ "[!-~" gives 29 at 1
+    ∷ "[A-z](" gives 29 at 1
+    ∷ "[A-z-a]\\q" gives 29 at 1
+    ∷ "\\q[A-z]" gives 11 at 0
+    ∷ "\\1[A-z]" gives 29 at 3
+    -- 02 K4: 13, then 27, then 28
+    ∷ "()*(b)\\2" gives 27 at 6
+    ∷ "()*\\2" gives 13 at 3
+    ∷ "(a)\\1\\2" gives 13 at 5
+    ∷ "()*" gives 28 at 2
+    -- 02 K5: the place of the repeat, and the lowest of several
+    ∷ "(?:()*)*" gives 28 at 5
+    ∷ "(|a)+" gives 28 at 4
+    ∷ "(a?){2,}" gives 28 at 4
+    ∷ "a*(b?)*?" gives 28 at 6
+    -- 02 K6: least lengths
+    ∷ "(?:a{0})*" gives 28 at 8
+    ∷ "[^\\d\\D]*" holds 0
+    ∷ "(?:()*){0}" gives 28 at 5
+    ∷ "(?:ab?|c{2}d*)*" holds 0
+    ∷ "(?:ab?|c{0}d*)*" gives 28 at 14
+    ∷ "(^a$)*" holds 1
+    ∷ "(^$)*" gives 28 at 4
+    ∷ "(a?){0,255}" holds 1
+    ∷ "(?:(?:(?:a{255}){255}){255}){255}" holds 0
+    -- 02 K7: every reference, by number or by name
+    ∷ "(a)(?:\\1){0}" gives 27 at 6
+    ∷ "(?<n>a)\\k<n>" gives 27 at 7
+    ∷ "(?<n>a)" holds 1
+    ∷ []
+
+pub depot-verdicts-hold : map (read 16) depotVerdicts ≡ depotVerdicts
+unfolding computing-readings verdict read depotVerdicts
+depot-verdicts-hold = refl

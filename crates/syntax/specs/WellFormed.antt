@@ -71,6 +71,21 @@ abbrev mutual
   repeatDepths (one a) = repeatDepth a
   repeatDepths (also bs b) = max (repeatDepths bs) (repeatDepth b)
 
+-- How many levels of sequences and repeats stand one inside another. Each part of a sequence stands one level deeper, and so does the body of a
+-- repeat. All kinds of groups count: one that does not capture is a sequence or an alternation that is itself a part.
+abbrev mutual
+  pub levels : Rule → ℕ
+  levels empty = 0
+  levels (item at i) = 0
+  levels (seq a b) = max (levels a) (suc (levels b))
+  levels (alt bs b) = max (levelsIn bs) (levels b)
+  levels (group n a) = levels a
+  levels (repeat at n m g a) = suc (levels a)
+
+  pub levelsIn : Branches → ℕ
+  levelsIn (one a) = levels a
+  levelsIn (also bs b) = max (levelsIn bs) (levels b)
+
 pub record WellFormed (groups : ℕ) (r : Rule) : Type 0 where
   pub few : groups ≤ groupLimit
   pub proper : Proper groups r

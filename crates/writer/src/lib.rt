@@ -156,21 +156,22 @@ fn greed_word(greed: Greed) -> u32
     }
 }
 
-// Writes a repeat.
+// Writes a repeat. Its place gives way to its register when it is linked.
 pub fn put_repeat(
     area: &mut [u32],
     at: usize,
     least: u32,
     most: Most,
     greed: Greed,
+    place: u32,
     body: u32,
     before: u32,
 )
     requires { ⌜ at + 8 ≤ length (now area) ⌝ }
-    ensures { λ _. ⌜ Wrote (now (area .entry)) (now (area .exit)) at 8 (7 ∷ 8 ∷ least ∷ mostWord most ∷ greedWord greed ∷ 0 ∷ body ∷ before ∷ []) ⌝ }
+    ensures { λ _. ⌜ Wrote (now (area .entry)) (now (area .exit)) at 8 (7 ∷ 8 ∷ least ∷ mostWord most ∷ greedWord greed ∷ place ∷ body ∷ before ∷ []) ⌝ }
 {
     let m = most_word(most);
     let g = greed_word(greed);
     put_four(area, at, REPEAT, AGAIN, least, m);
-    put_four(area, at + 4, g, 0, body, before);
+    put_four(area, at + 4, g, place, body, before);
 }

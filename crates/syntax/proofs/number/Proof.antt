@@ -96,6 +96,15 @@ enum-told-30 c = search needs
 enum-told-31 : tie.Need-enum-told-31
 enum-told-31 c = search needs
 
+enum-told-32 : tie.Need-enum-told-32
+enum-told-32 c = search needs
+
+enum-told-33 : tie.Need-enum-told-33
+enum-told-33 c = search needs
+
+enum-told-34 : tie.Need-enum-told-34
+enum-told-34 c = search needs
+
 returns : tie.Need-returns
 returns c = rw (c .enum-told .given .1)
 
@@ -189,6 +198,15 @@ returns-30 c = rw (c .enum-told30 .given .1)
 returns-31 : tie.Need-returns-31
 returns-31 c = rw (c .enum-told31 .given .1)
 
+returns-32 : tie.Need-returns-32
+returns-32 c = rw (c .enum-told32 .given .1)
+
+returns-33 : tie.Need-returns-33
+returns-33 c = rw (c .enum-told33 .given .1)
+
+returns-34 : tie.Need-returns-34
+returns-34 c = rw (c .enum-told34 .given .1)
+
 pub number-spec : {M : Type 1} → statement M
 number-spec =
     tie.close
@@ -224,6 +242,9 @@ number-spec =
     enum-told-29
     enum-told-30
     enum-told-31
+    enum-told-32
+    enum-told-33
+    enum-told-34
     returns
     returns-2
     returns-3
@@ -254,4 +275,7 @@ number-spec =
     returns-28
     returns-29
     returns-30
-    returns-31)
+    returns-31
+    returns-32
+    returns-33
+    returns-34)

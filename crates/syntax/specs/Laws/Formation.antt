@@ -3,7 +3,7 @@ use mathlib.Core.Path.{_≡_, refl}
 use mathlib.Core.List.{List, [], _∷_}
 use mathlib.Core.Bool.{Bool, true, false, not, _||_}
 use mathlib.Core.Option.{Option, none, some}
-use Prim.Native.Nat.{ℕ, zero, suc, _+_, _≤_, _<_}
+use Prim.Native.Nat.{ℕ, zero, suc, _+_, _*_, _≤_, _<_}
 use native.Mathlib.Omega.{arith}
 use lib.ListN.{length}
 use lib.Dec.{eqb, leb, ltb}
@@ -12,14 +12,17 @@ use Rattle.syntax.specs.declared.Greed.{Greed}
 use Rattle.syntax.specs.declared.Most.{Most}
 use Rattle.syntax.specs.declared.Quantifier.{Quantifier}
 use Rattle.syntax.specs.declared.Quantifier.the-variants.{Absent, Stray, Unfit, Times}
-use Rattle.syntax.specs.Limits.{groupLimit, nestingLimit}
+use Rattle.syntax.specs.declared.Reason.{Reason}
+use Rattle.syntax.specs.declared.Reason.the-variants.{NoSuchGroup, BarredReference, IdleRepeat}
+use Rattle.syntax.specs.Limits.{groupLimit, nestingLimit, levelLimit}
 use Rattle.syntax.specs.Read.{if_then_else_, byte, isEnd, is, Read, sound, andThen}
 use Rattle.syntax.specs.Tree.{Item, byteIn, assert, reference, Rule, empty, item, seq, alt, group, repeat, Branches, one, also, alternatives}
 use Rattle.syntax.specs.Quantifiers.{quantifier}
 use Rattle.syntax.specs.Names.{Name, Names}
 use Rattle.syntax.specs.Grammar.{behindBlanks, atom, Inner, closing, capturing, grouped, Sequence, unrepeatable, repeatable, repeated, whole, withItem, unfitFor, repeating, nextItem, part, ends, sequence, branch, further, alternation, inside}
-use Rattle.syntax.specs.Reading.{namesOf, parsed, firstOf, dangling, unresolved, unresolvedIn, resolved, reading}
-use Rattle.syntax.specs.WellFormed.{BoundsFit, Proper, Propers, Refers, Resolved, ResolvedIn, groupDepth, groupDepths, repeatDepth, repeatDepths, WellFormed}
+use Rattle.syntax.specs.Flags.{depot}
+use Rattle.syntax.specs.Reading.{namesOf, parsed, firstOf, dangling, unresolved, unresolvedIn, idle, unless, profiled, settled, reading}
+use Rattle.syntax.specs.WellFormed.{BoundsFit, Proper, Propers, Refers, Resolved, ResolvedIn, groupDepth, groupDepths, repeatDepth, repeatDepths, levels, levelsIn, WellFormed}
 use Rattle.syntax.specs.Laws.Forward.{Given, any-given, if-given, test-given, then-given, given-less, Holding, Bounded, quantifier-on}
 
 -- Trees among so many groups, in which groups and repeats nest so deep ---------
@@ -41,47 +44,50 @@ pub record Fits (g d e : ℕ) (t : Rule) : Type 0 where
   pub proper : Proper g t
   pub groups : groupDepth t ≤ d
   pub repeats : repeatDepth t ≤ e
+  pub nested : levels t ≤ 2 * e
 
 fits-more : (t : Rule) (g h d e : ℕ) → g ≤ h → Fits g d e t → Fits h d e t
-fits-more t g h d e l f = record { proper = proper-more t g h l (f .proper); groups = f .groups; repeats = f .repeats }
+fits-more t g h d e l f = record { proper = proper-more t g h l (f .proper); groups = f .groups; repeats = f .repeats; nested = f .nested }
 
 fits-empty : (g d e : ℕ) → Fits g d e empty
-fits-empty g d e = record { proper = tt; groups = omega arith; repeats = omega arith }
+fits-empty g d e = record { proper = tt; groups = omega arith; repeats = omega arith; nested = omega arith }
 
 fits-item : (g d e at : ℕ) (i : Item) → Fits g d e (item at i)
-fits-item g d e at i = record { proper = tt; groups = omega arith; repeats = omega arith }
+fits-item g d e at i = record { proper = tt; groups = omega arith; repeats = omega arith; nested = omega arith }
 
-fits-seq : (g d e : ℕ) (a b : Rule) → Fits g d e a → Fits g d e b → Fits g d e (seq a b)
-fits-seq g d e a b f h = record { proper = (f .proper, h .proper); groups = omega (arith, f .groups, h .groups); repeats = omega (arith, f .repeats, h .repeats) }
+-- a part stands one level deeper
+fits-seq : (g d e : ℕ) (a b : Rule) → Fits g d e a → Fits g d e b → suc (levels b) ≤ 2 * e → Fits g d e (seq a b)
+fits-seq g d e a b f h k = record { proper = (f .proper, h .proper); groups = omega (arith, f .groups, h .groups); repeats = omega (arith, f .repeats, h .repeats); nested = omega (arith, f .nested) }
 
 fits-group : (g d e n : ℕ) (a : Rule) → 1 ≤ n → n ≤ g → suc (groupDepth a) ≤ d → Fits g d e a → Fits g d e (group n a)
-fits-group g d e n a l m k f = record { proper = (l, m, f .proper); groups = k; repeats = f .repeats }
+fits-group g d e n a l m k f = record { proper = (l, m, f .proper); groups = k; repeats = f .repeats; nested = f .nested }
 
 fits-repeat : (g d e at n : ℕ) (m : Most) (x : Greed) (a : Rule) → BoundsFit n m → Fits g d e a → Fits g d (suc e) (repeat at n m x a)
-fits-repeat g d e at n m x a b f = record { proper = (b, f .proper); groups = f .groups; repeats = omega (arith, f .repeats) }
+fits-repeat g d e at n m x a b f = record { proper = (b, f .proper); groups = f .groups; repeats = omega (arith, f .repeats); nested = omega (arith, f .nested) }
 
 fits-wider : (g d e : ℕ) (a : Rule) → Fits g d e a → Fits g d (suc e) a
-fits-wider g d e a f = record { proper = f .proper; groups = f .groups; repeats = omega (arith, f .repeats) }
+fits-wider g d e a f = record { proper = f .proper; groups = f .groups; repeats = omega (arith, f .repeats); nested = omega (arith, f .nested) }
 
 -- branches of an alternation
 pub record AllFit (g d e : ℕ) (bs : Branches) : Type 0 where
   pub proper : Propers g bs
   pub groups : groupDepths bs ≤ d
   pub repeats : repeatDepths bs ≤ e
+  pub nested : levelsIn bs ≤ 2 * e
 
 all-more : (bs : Branches) (g h d e : ℕ) → g ≤ h → AllFit g d e bs → AllFit h d e bs
-all-more bs g h d e l f = record { proper = propers-more bs g h l (f .proper); groups = f .groups; repeats = f .repeats }
+all-more bs g h d e l f = record { proper = propers-more bs g h l (f .proper); groups = f .groups; repeats = f .repeats; nested = f .nested }
 
 all-one : (g d e : ℕ) (a : Rule) → Fits g d e a → AllFit g d e (one a)
-all-one g d e a f = record { proper = f .proper; groups = f .groups; repeats = f .repeats }
+all-one g d e a f = record { proper = f .proper; groups = f .groups; repeats = f .repeats; nested = f .nested }
 
 all-also : (g d e : ℕ) (bs : Branches) (b : Rule) → AllFit g d e bs → Fits g d e b → AllFit g d e (also bs b)
-all-also g d e bs b f h = record { proper = (f .proper, h .proper); groups = omega (arith, f .groups, h .groups); repeats = omega (arith, f .repeats, h .repeats) }
+all-also g d e bs b f h = record { proper = (f .proper, h .proper); groups = omega (arith, f .groups, h .groups); repeats = omega (arith, f .repeats, h .repeats); nested = omega (arith, f .nested, h .nested) }
 
 alternatives-fit : (g d e : ℕ) (bs : Branches) → AllFit g d e bs → Fits g d e (alternatives bs)
 unfolding alternatives
-alternatives-fit g d e (one a) f = record { proper = f .proper; groups = f .groups; repeats = f .repeats }
-alternatives-fit g d e (also bs b) f = record { proper = f .proper; groups = f .groups; repeats = f .repeats }
+alternatives-fit g d e (one a) f = record { proper = f .proper; groups = f .groups; repeats = f .repeats; nested = f .nested }
+alternatives-fit g d e (also bs b) f = record { proper = f .proper; groups = f .groups; repeats = f .repeats; nested = f .nested }
 
 -- a sequence whose groups nest d deep: its last item may still be repeated
 abbrev FitsIn : ℕ → ℕ → Sequence → Type 0
@@ -92,7 +98,7 @@ FitsIn g d (repeated t) = Fits g d (suc d) t
 whole-fits : (g d : ℕ) (q : Sequence) → FitsIn g d q → Fits g d (suc d) (whole q)
 unfolding whole
 whole-fits g d (unrepeatable t) f = f
-whole-fits g d (repeatable b l) f = fits-seq g d (suc d) b l (f .0) (fits-wider g d d l (f .1))
+whole-fits g d (repeatable b l) f = fits-seq g d (suc d) b l (f .0) (fits-wider g d d l (f .1)) (omega (arith, f .1 .nested))
 whole-fits g d (repeated t) f = f
 
 -- What readings give ---------------------------------------------------------
@@ -143,7 +149,7 @@ grouped-fits s inner at opened d h l =
 withItem-fits : (g d : ℕ) (q : Sequence) (at : ℕ) (i : Item) → FitsIn g d q → FitsIn g d (withItem q at i)
 unfolding withItem
 withItem-fits g d q at (byteIn folded c) f = (whole-fits g d q f, fits-item g d d at (byteIn folded c))
-withItem-fits g d q at (assert a) f = fits-seq g d (suc d) (whole q) (item at (assert a)) (whole-fits g d q f) (fits-item g d (suc d) at (assert a))
+withItem-fits g d q at (assert a) f = fits-seq g d (suc d) (whole q) (item at (assert a)) (whole-fits g d q f) (fits-item g d (suc d) at (assert a)) (omega arith)
 withItem-fits g d q at (reference folded n) f = (whole-fits g d q f, fits-item g d d at (reference folded n))
 
 nextItem-fits : (s : List ℕ) (flags : ℕ) (known : Names) (inner : Inner) (q : Sequence) (opened : Names) (at d : ℕ) → InnerFits d inner → length opened ≤ groupLimit → FitsIn (length opened) d q → Given (nextItem s flags known inner q opened at) (GoodIn (length opened) d)
@@ -163,7 +169,7 @@ repeating-fits : (q : Sequence) (at n : ℕ) (m : Most) (x : Greed) (opened : Na
 unfolding repeating
 repeating-fits (unrepeatable t) at n m x opened next d l b f = tt
 repeating-fits (repeatable before last) at n m x opened next d l b f =
-    ((omega arith, l), fits-seq (length opened) d (suc d) before (repeat at n m x last) (f .0) (fits-repeat (length opened) d d at n m x last b (f .1)))
+    ((omega arith, l), fits-seq (length opened) d (suc d) before (repeat at n m x last) (f .0) (fits-repeat (length opened) d d at n m x last b (f .1)) (omega (arith, f .1 .nested)))
 repeating-fits (repeated t) at n m x opened next d l b f = tt
 
 part-fits : (s : List ℕ) (flags : ℕ) (known : Names) (inner : Inner) (q : Sequence) (opened : Names) (at d : ℕ) (x : Quantifier) → InnerFits d inner → length opened ≤ groupLimit → FitsIn (length opened) d q → Holding x (Bounded (at + 1))
@@ -206,11 +212,11 @@ inside-fits zero s flags known opening opened head l g = tt
 inside-fits (suc d) s flags known opening opened head l g = then-given (Heads opened) (GoodInside opened (suc d)) head _ g (λ names at e.
     given-less (Good (length names) d (suc d)) (GoodInside opened (suc d)) (alternation s flags known (inside d s flags known) names at)
     (alternation-fits s flags known (inside d s flags known) names at d (inside-fits d s flags known) (omega (arith, e)))
-    (λ r p f. ((omega (arith, e, f .0 .0), f .0 .1), record { proper = f .1 .proper; groups = omega (arith, f .1 .groups); repeats = f .1 .repeats }, omega (arith, f .1 .groups))))
+    (λ r p f. ((omega (arith, e, f .0 .0), f .0 .1), record { proper = f .1 .proper; groups = omega (arith, f .1 .groups); repeats = f .1 .repeats; nested = f .1 .nested }, omega (arith, f .1 .groups))))
 
 -- References -----------------------------------------------------------------
 
-first-none : (p q : Option ℕ) → firstOf p q ≡ none → (p ≡ none) × (q ≡ none)
+pub first-none : (p q : Option ℕ) → firstOf p q ≡ none → (p ≡ none) × (q ≡ none)
 unfolding firstOf
 first-none none q e = (refl, e)
 first-none (some x) q e = (e, absurd (some-none x e))
@@ -225,7 +231,7 @@ or-false true b e = (e, true-false e)
     true-false e = cc
 or-false false b e = (refl, e)
 
-tested : (b : Bool) (at : ℕ) → (if b then some at else none) ≡ none → b ≡ false
+pub tested : (b : Bool) (at : ℕ) → (if b then some at else none) ≡ none → b ≡ false
 tested true at e = cc
 tested false at e = refl
 
@@ -265,14 +271,34 @@ parsed-fits s flags known = then-given (Good 0 nestingLimit (suc nestingLimit)) 
     (alternation-fits s flags known (inside nestingLimit s flags known) [] 0 nestingLimit (inside-fits nestingLimit s flags known) (omega arith)) (λ r p g. if-given _ _ _ (isEnd (byte s p)) g tt)
 
 -- the same of a rule whose references are not resolved yet
-pub parsed-formed : (s : List ℕ) (flags : ℕ) (known : Names) → Given (parsed s flags known) (λ r at. (length (r .1) ≤ groupLimit) × Proper (length (r .1)) (r .0) × (groupDepth (r .0) ≤ nestingLimit) × (repeatDepth (r .0) ≤ suc nestingLimit))
-parsed-formed s flags known = given-less (Good 0 nestingLimit (suc nestingLimit)) _ (parsed s flags known) (parsed-fits s flags known) (λ r p g. (g .0 .1, g .1 .proper, g .1 .groups, g .1 .repeats))
+pub parsed-formed : (s : List ℕ) (flags : ℕ) (known : Names) → Given (parsed s flags known) (λ r at. (length (r .1) ≤ groupLimit) × Proper (length (r .1)) (r .0) × (groupDepth (r .0) ≤ nestingLimit) × (repeatDepth (r .0) ≤ suc nestingLimit) × (levels (r .0) ≤ levelLimit))
+unfolding levelLimit
+parsed-formed s flags known = given-less (Good 0 nestingLimit (suc nestingLimit)) _ (parsed s flags known) (parsed-fits s flags known) (λ r p g. (g .0 .1, g .1 .proper, g .1 .groups, g .1 .repeats, g .1 .nested))
 
-resolved-fits : (r : Rule) (names : Names) (at : ℕ) (o : Option ℕ) → unresolved (length names) r ≡ o → Good 0 nestingLimit (suc nestingLimit) (r, names) at → Given (resolved (r, length names) at o) (λ x p. WellFormed (x .1) (x .0))
-unfolding resolved
-resolved-fits r names at none e g = record { few = g .0 .1; proper = g .1 .proper; resolved = resolves (length names) r e; groupsNest = g .1 .groups; repeatsNest = g .1 .repeats }
-resolved-fits r names at (some place) e g = tt
+-- what a tree has that the depot profile lets pass
+pub record Narrow (t : Rule) : Type 0 where
+  pub no-reference : unresolved 0 t ≡ none
+  pub no-idle-repeat : idle t ≡ none
+
+-- What is refused only after the whole rule has been read: what passes is the tree as it stands.
+unless-given : {A : Type 0} (P : A → ℕ → Type 0) (o : Option ℕ) (why : Reason) (rest : Read A) → (o ≡ none → Given rest P) → Given (unless o why rest) P
+unfolding unless
+unless-given P none why rest h = h refl
+unless-given P (some place) why rest h = tt
+
+profiled-given : {A : Type 0} (P : A → ℕ → Type 0) (strict : Bool) (t : Rule) (rest : Read A) → ((strict ≡ true → Narrow t) → Given rest P) → Given (profiled strict t rest) P
+unfolding profiled
+profiled-given P false t rest h = h (λ e. absurd (clash e))
+  where
+    clash : false ≡ true → ⊥
+    clash e = let bad : _≡_ {A = ℕ} 0 1 = cc in omega arith
+profiled-given P true t rest h = unless-given P (unresolved 0 t) BarredReference (unless (idle t) IdleRepeat rest) (λ e. unless-given P (idle t) IdleRepeat rest (λ i. h (λ _. record { no-reference = e; no-idle-repeat = i })))
+
+pub settled-given : (P : Rule × ℕ → ℕ → Type 0) (flags : ℕ) (t : Rule) (groups at : ℕ) → (unresolved groups t ≡ none → (depot flags ≡ true → Narrow t) → P (t, groups) at) → Given (settled flags t groups at) P
+unfolding settled
+settled-given P flags t groups at h = unless-given P (unresolved groups t) NoSuchGroup (profiled (depot flags) t (sound (t, groups) at)) (λ e. profiled-given P (depot flags) t (sound (t, groups) at) (h e))
 
 pub well-formed : (s : List ℕ) (flags : ℕ) → Given (reading s flags) (λ r at. WellFormed (r .1) (r .0))
 unfolding reading
-well-formed s flags = then-given (Good 0 nestingLimit (suc nestingLimit)) _ (parsed s flags (namesOf s flags)) _ (parsed-fits s flags (namesOf s flags)) (λ r at g. resolved-fits (r .0) (r .1) at (unresolved (length (r .1)) (r .0)) refl g)
+well-formed s flags = then-given (Good 0 nestingLimit (suc nestingLimit)) _ (parsed s flags (namesOf s flags)) _ (parsed-fits s flags (namesOf s flags)) (λ r at g.
+    settled-given _ flags (r .0) (length (r .1)) at (λ e n. record { few = g .0 .1; proper = g .1 .proper; resolved = resolves (length (r .1)) (r .0) e; groupsNest = g .1 .groups; repeatsNest = g .1 .repeats }))

@@ -23,9 +23,9 @@ use Rattle.syntax.specs.Sets.{setNamed, Member}
 use Rattle.syntax.specs.Tree.{Rule, empty, Branches, group, one, also}
 use Rattle.syntax.specs.Numbers.{digits, value, isNone}
 use Rattle.syntax.specs.Names.{Name, Names, wordAt, isName, nameUpTo, isUsed, fresh}
-use Rattle.syntax.specs.Flags.{ignoreCase}
+use Rattle.syntax.specs.Flags.{ignoreCase, depot}
 use Rattle.syntax.specs.Escapes.{called, callsByName, Meaning, _means_, meanings, byteOf, braced, hex, bracedOctal, octal, control, letter, common, classEscape, decimal, signed, groupNumber, escape}
-use Rattle.syntax.specs.Classes.{letters, posixMember, posixName, posix, element, rangeEnd, rangeOf, makesRange, member, members, class}
+use Rattle.syntax.specs.Classes.{letters, posixMember, posixName, posix, element, rangeEnd, alike, rangeOf, makesRange, member, members, class}
 use Rattle.syntax.specs.Quantifiers.{withGreed, atLeast, fromTo, upper, braces, quantifier}
 use Rattle.syntax.specs.Grammar.{behindBlanks, atom, Inner, closing, capturing, grouped, Sequence, unrepeatable, repeatable, repeated, unfitFor, repeating, nextItem, part, ends, sequence, branch, further, alternation, inside}
 use Rattle.syntax.specs.WellFormed.{BoundsFit}
@@ -191,30 +191,30 @@ element-on s from at =
     let b = byte s at in
     if-given _ _ _ (isEnd b) tt (if-given _ _ _ (is "\\" b) (classEscape-on s at) (if-given _ _ _ (is "[" b) (posix-on s at) (omega arith)))
 
-rangeOf-on : (at : ℕ) (low high : Option ℕ) (next n : ℕ) → n ≤ next → Given (rangeOf at low high next) (Past n)
+rangeOf-on : (strict : Bool) (at : ℕ) (low high : Option ℕ) (next n : ℕ) → n ≤ next → Given (rangeOf strict at low high next) (Past n)
 unfolding rangeOf
-rangeOf-on at none high next n h = tt
-rangeOf-on at (some a) none next n h = tt
-rangeOf-on at (some a) (some b) next n h = if-given _ _ _ (leb a b) h tt
+rangeOf-on strict at none high next n h = tt
+rangeOf-on strict at (some a) none next n h = tt
+rangeOf-on strict at (some a) (some b) next n h = if-given _ _ _ (not (leb a b)) tt (if-given _ _ _ (strict && not (alike a b)) tt h)
 
-pub member-on : (s : List ℕ) (from at : ℕ) → Given (member s from at) (Past (at + 1))
+pub member-on : (s : List ℕ) (strict : Bool) (from at : ℕ) → Given (member s strict from at) (Past (at + 1))
 unfolding member
-member-on s from at = then-given (Past (at + 1)) (Past (at + 1)) (element s from at) _ (element-on s from at) (λ low p l.
+member-on s strict from at = then-given (Past (at + 1)) (Past (at + 1)) (element s from at) _ (element-on s from at) (λ low p l.
     if-given _ _ _ (makesRange s p)
-    (then-given (Past (p + 1 + 1)) (Past (at + 1)) (element s from (p + 1)) _ (element-on s from (p + 1)) (λ high q m. rangeOf-on at (rangeEnd low) (rangeEnd high) q (at + 1) (omega arith)))
+    (then-given (Past (p + 1 + 1)) (Past (at + 1)) (element s from (p + 1)) _ (element-on s from (p + 1)) (λ high q m. rangeOf-on strict at (rangeEnd low) (rangeEnd high) q (at + 1) (omega arith)))
     (omega arith))
 
-members-on : (f : ℕ) (s : List ℕ) (from : ℕ) (first : Bool) (before : List Member) (at n : ℕ) → n ≤ at → Given (members f s from first before at) (Past n)
+members-on : (f : ℕ) (s : List ℕ) (strict : Bool) (from : ℕ) (first : Bool) (before : List Member) (at n : ℕ) → n ≤ at → Given (members f s strict from first before at) (Past n)
 unfolding members
-members-on zero s from first before at n h = tt
-members-on (suc f) s from first before at n h = if-given _ _ _ (is "]" (byte s at) && not first) (omega arith)
-    (then-given (Past (at + 1)) (Past n) (member s from at) _ (member-on s from at) (λ m p l. members-on f s from false (m ∷ before) p n (omega arith)))
+members-on zero s strict from first before at n h = tt
+members-on (suc f) s strict from first before at n h = if-given _ _ _ (is "]" (byte s at) && not first) (omega arith)
+    (then-given (Past (at + 1)) (Past n) (member s strict from at) _ (member-on s strict from at) (λ m p l. members-on f s strict from false (m ∷ before) p n (omega arith)))
 
-class-on : (s : List ℕ) (from : ℕ) → Given (class s from) (Past (from + 1))
+class-on : (s : List ℕ) (strict : Bool) (from : ℕ) → Given (class s strict from) (Past (from + 1))
 unfolding class
-class-on s from = if-given _ _ _ (is "^" (byte s (from + 1)))
-    (then-given (Past (from + 1)) (Past (from + 1)) (members (length s) s from true [] (from + 2)) _ (members-on (length s) s from true [] (from + 2) (from + 1) (omega arith)) (λ ms p l. l))
-    (then-given (Past (from + 1)) (Past (from + 1)) (members (length s) s from true [] (from + 1)) _ (members-on (length s) s from true [] (from + 1) (from + 1) (omega arith)) (λ ms p l. l))
+class-on s strict from = if-given _ _ _ (is "^" (byte s (from + 1)))
+    (then-given (Past (from + 1)) (Past (from + 1)) (members (length s) s strict from true [] (from + 2)) _ (members-on (length s) s strict from true [] (from + 2) (from + 1) (omega arith)) (λ ms p l. l))
+    (then-given (Past (from + 1)) (Past (from + 1)) (members (length s) s strict from true [] (from + 1)) _ (members-on (length s) s strict from true [] (from + 1) (from + 1) (omega arith)) (λ ms p l. l))
 
 -- Repeats --------------------------------------------------------------------
 
@@ -283,7 +283,7 @@ atom-on s flags known opened at =
     let b = byte s at in
     let h : at + 1 ≤ at + 1 = omega arith in
     if-given _ _ _ (is "\\" b) (escape-on s (ignoreCase flags) known opened at)
-    (if-given _ _ _ (is "[" b) (then-given (Past (at + 1)) (Past (at + 1)) (class s at) _ (class-on s at) (λ c p l. l))
+    (if-given _ _ _ (is "[" b) (then-given (Past (at + 1)) (Past (at + 1)) (class s (depot flags) at) _ (class-on s (depot flags) at) (λ c p l. l))
     (if-given _ _ _ (is "." b) h (if-given _ _ _ (is "^" b) h (if-given _ _ _ (is "$" b) h h))))
 
 closing-on : (s : List ℕ) (opening : ℕ) (t : Rule) (opened : Names) (at n : ℕ) → n ≤ at → Given (closing s opening t opened at) (Past n)

@@ -46,18 +46,18 @@ if-same false x y z e = refl
 
 -- Classes --------------------------------------------------------------------
 
-members-past : (f : ℕ) (s : List ℕ) (from : ℕ) (first : Bool) (before : List Member) (at : ℕ) → length s ≤ at → members f s from first before at ≡ refused from UnclosedClass
+members-past : (f : ℕ) (s : List ℕ) (strict : Bool) (from : ℕ) (first : Bool) (before : List Member) (at : ℕ) → length s ≤ at → members f s strict from first before at ≡ refused from UnclosedClass
 unfolding members member element isEnd
-members-past zero s from first before at h = refl
-members-past (suc f) s from first before at h = rw (byte-past s at h)
+members-past zero s strict from first before at h = refl
+members-past (suc f) s strict from first before at h = rw (byte-past s at h)
 
-pub members-fuel : (f k : ℕ) (s : List ℕ) (from : ℕ) (first : Bool) (before : List Member) (at : ℕ) → length s - at ≤ f → length s - at ≤ k → members f s from first before at ≡ members k s from first before at
+pub members-fuel : (f k : ℕ) (s : List ℕ) (strict : Bool) (from : ℕ) (first : Bool) (before : List Member) (at : ℕ) → length s - at ≤ f → length s - at ≤ k → members f s strict from first before at ≡ members k s strict from first before at
 unfolding members
-members-fuel zero k s from first before at l m = sym (members-past k s from first before at (omega arith))
-members-fuel (suc f) zero s from first before at l m = members-past (suc f) s from first before at (omega arith)
-members-fuel (suc f) (suc k) s from first before at l m =
+members-fuel zero k s strict from first before at l m = sym (members-past k s strict from first before at (omega arith))
+members-fuel (suc f) zero s strict from first before at l m = members-past (suc f) s strict from first before at (omega arith)
+members-fuel (suc f) (suc k) s strict from first before at l m =
     else-same (is "]" (byte s at) && not first) _ _ _
-    (then-same (Past (at + 1)) (member s from at) _ _ (member-on s from at) (λ x p n. members-fuel f k s from false (x ∷ before) p (omega arith) (omega arith)))
+    (then-same (Past (at + 1)) (member s strict from at) _ _ (member-on s strict from at) (λ x p n. members-fuel f k s strict from false (x ∷ before) p (omega arith) (omega arith)))
 
 -- Sequences ------------------------------------------------------------------
 
@@ -98,10 +98,10 @@ further-fuel (suc f) (suc k) s flags known inner bs opened at h l m =
 
 -- The loops' equations, with no number that falls ---------------------------------
 
-pub members-turn : (s : List ℕ) (from : ℕ) (first : Bool) (before : List Member) (at : ℕ) → members (length s) s from first before at
-    ≡ (if is "]" (byte s at) && not first then sound before (at + 1) else andThen (member s from at) (λ m next. members (length s) s from false (m ∷ before) next))
+pub members-turn : (s : List ℕ) (strict : Bool) (from : ℕ) (first : Bool) (before : List Member) (at : ℕ) → members (length s) s strict from first before at
+    ≡ (if is "]" (byte s at) && not first then sound before (at + 1) else andThen (member s strict from at) (λ m next. members (length s) s strict from false (m ∷ before) next))
 unfolding members
-members-turn s from first before at = members-fuel (length s) (suc (length s)) s from first before at (omega arith) (omega arith)
+members-turn s strict from first before at = members-fuel (length s) (suc (length s)) s strict from first before at (omega arith) (omega arith)
 
 pub sequence-turn : (s : List ℕ) (flags : ℕ) (known : Names) (inner : Inner) (q : Sequence) (opened : Names) (start : ℕ) → Forward inner →
     let at = behindBlanks s flags start in

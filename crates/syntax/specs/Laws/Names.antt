@@ -15,14 +15,14 @@ use Rattle.syntax.specs.declared.Quantifier.{Quantifier}
 use Rattle.syntax.specs.declared.Quantifier.the-variants.{Absent, Stray, Unfit, Times}
 use Rattle.charset.specs.declared.Named.the-variants.{Digit}
 use Rattle.charset.specs.Named.{inNamed}
-use Rattle.syntax.specs.Limits.{groupLimit, nameLimit, nestingLimit}
+use Rattle.syntax.specs.Limits.{groupLimit, nameLimit, nestingLimit, levelLimit}
 use Rattle.syntax.specs.Read.{byte, isEnd, is, Read, sound, refused, andThen}
 use Rattle.syntax.specs.Tree.{Rule, empty, group, Branches, one, also}
 use Rattle.syntax.specs.Names.{Name, Names, wordAt, isName, nameUpTo, isUsed, fresh}
 use Rattle.syntax.specs.Quantifiers.{quantifier}
 use Rattle.syntax.specs.Grammar.{behindBlanks, atom, Inner, closing, capturing, grouped, Sequence, unrepeatable, repeatable, repeated, unfitFor, repeating, nextItem, part, ends, sequence, branch, further, alternation, inside}
 use Rattle.syntax.specs.Reading.{parsed, namesRead, namesOf}
-use Rattle.syntax.specs.WellFormed.{Proper, groupDepth, repeatDepth}
+use Rattle.syntax.specs.WellFormed.{Proper, groupDepth, repeatDepth, levels}
 use Rattle.syntax.specs.Laws.Formation.{parsed-formed}
 use Rattle.syntax.specs.Laws.Forward.{Given, any-given, if-given, test-given, then-given, and-left, and-right}
 
@@ -186,7 +186,7 @@ namesOf-apart s flags = aparts (namesOf s flags) (namesOf-all (λ n ms. 1 ≤ le
 
 -- There are no more than groups may be opened ---------------------------------------
 
-read-few : (a : Read (Rule × Names)) → Given a (λ r at. (length (r .1) ≤ groupLimit) × Proper (length (r .1)) (r .0) × (groupDepth (r .0) ≤ nestingLimit) × (repeatDepth (r .0) ≤ suc nestingLimit)) → length (namesRead a) ≤ groupLimit
+read-few : (a : Read (Rule × Names)) → Given a (λ r at. (length (r .1) ≤ groupLimit) × Proper (length (r .1)) (r .0) × (groupDepth (r .0) ≤ nestingLimit) × (repeatDepth (r .0) ≤ suc nestingLimit) × (levels (r .0) ≤ levelLimit)) → length (namesRead a) ≤ groupLimit
 unfolding namesRead
 read-few (sound r at) h = h .0
 read-few (refused place why) h = omega arith

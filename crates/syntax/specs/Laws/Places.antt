@@ -1,5 +1,5 @@
--- Every refusal of a rule has its place within the rule. Most parts are refused where they begin; a reference to no group where it
--- stands in the tree, so that the places in a tree are followed too.
+-- Every refusal of a rule has its place within the rule. Most parts are refused where they begin; a reference and a repeat also where they
+-- stand in the tree, so that the places in a tree are followed too.
 use mathlib.Core.Path.{_≡_, refl, sym}
 use mathlib.Core.List.{List, [], _∷_}
 use mathlib.Core.Bool.{Bool, true, false, not, _&&_, _||_}
@@ -10,6 +10,7 @@ use native.Mathlib.Omega.{arith}
 use lib.ListN.{length, take}
 use lib.Dec.{ltb, leb, eqb}
 use Rattle.syntax.specs.declared.Reason.{Reason}
+use Rattle.syntax.specs.declared.Reason.the-variants.{NoSuchGroup, BarredReference, IdleRepeat}
 use Rattle.syntax.specs.declared.Greed.{Greed}
 use Rattle.syntax.specs.declared.Most.{Most}
 use Rattle.syntax.specs.declared.Quantifier.{Quantifier}
@@ -23,12 +24,13 @@ use Rattle.syntax.specs.Sets.{setNamed, Member, single}
 use Rattle.syntax.specs.Tree.{Item, byteIn, assert, reference, Rule, empty, item, seq, alt, group, repeat, Branches, one, also, alternatives}
 use Rattle.syntax.specs.Numbers.{digits, value, isNone}
 use Rattle.syntax.specs.Names.{Name, Names, wordAt, isName, nameUpTo, isUsed, fresh}
-use Rattle.syntax.specs.Flags.{ignoreCase}
+use Rattle.syntax.specs.Flags.{ignoreCase, depot}
 use Rattle.syntax.specs.Escapes.{called, callsByName, Meaning, _means_, meanings, byteOf, braced, hex, bracedOctal, octal, control, letter, common, classEscape, decimal, signed, groupNumber, escape}
-use Rattle.syntax.specs.Classes.{letters, posixMember, posixName, posix, element, rangeEnd, rangeOf, makesRange, member, members, class}
+use Rattle.syntax.specs.Classes.{letters, posixMember, posixName, posix, element, rangeEnd, alike, rangeOf, makesRange, member, members, class}
 use Rattle.syntax.specs.Quantifiers.{quantifier}
 use Rattle.syntax.specs.Grammar.{behindBlanks, atom, Inner, closing, capturing, grouped, Sequence, unrepeatable, repeatable, repeated, whole, withItem, unfitFor, repeating, nextItem, part, ends, sequence, branch, further, alternation, inside}
-use Rattle.syntax.specs.Reading.{parsed, namesOf, firstOf, dangling, unresolved, unresolvedIn, resolved, reading}
+use Rattle.syntax.specs.Lengths.{leastLength, unbounded}
+use Rattle.syntax.specs.Reading.{parsed, namesOf, firstOf, dangling, unresolved, unresolvedIn, idle, idleIn, unless, profiled, settled, reading}
 use Rattle.syntax.specs.Laws.Forward.{Given, if-given, test-given, then-given}
 use Rattle.syntax.specs.Laws.Within.{nameUpTo-in, Upto, Inward, not-end, is-in, quantifier-in, part-by, ends-false, branch-in, alternation-in, inside-in}
 
@@ -168,15 +170,15 @@ module _ (n at : ℕ) (h : at ≤ n) where
   unfolding posix
   posix-placed s = if-placed n _ _ (not (is ":" (byte s (at + 1)))) tt (if-placed n _ _ (is "^" (byte s (at + 2))) (posixName-placed s true (at + 3)) (posixName-placed s false (at + 2)))
 
-  rangeOf-placed : (low high : Option ℕ) (next : ℕ) → Placed n (rangeOf at low high next)
+  rangeOf-placed : (strict : Bool) (low high : Option ℕ) (next : ℕ) → Placed n (rangeOf strict at low high next)
   unfolding rangeOf
-  rangeOf-placed none high next = h
-  rangeOf-placed (some a) none next = h
-  rangeOf-placed (some a) (some b) next = if-placed n _ _ (leb a b) tt h
+  rangeOf-placed strict none high next = h
+  rangeOf-placed strict (some a) none next = h
+  rangeOf-placed strict (some a) (some b) next = if-placed n _ _ (not (leb a b)) h (if-placed n _ _ (strict && not (alike a b)) h tt)
 
 -- Classes ---------------------------------------------------------------------------
 
-module _ (s : List ℕ) (from : ℕ) (h : from ≤ length s) where
+module _ (s : List ℕ) (strict : Bool) (from : ℕ) (h : from ≤ length s) where
   element-placed : (at : ℕ) → Placed (length s) (element s from at)
   unfolding element
   element-placed at =
@@ -191,28 +193,28 @@ module _ (s : List ℕ) (from : ℕ) (h : from ≤ length s) where
       let b = byte s at in
       test-given _ _ _ (isEnd b) (λ e. tt) (λ e. any-given (if is "\\" b then classEscape s at else if is "[" b then posix s at else sound (single b) (at + 1)) (at < length s) (not-end s at e))
 
-  member-placed : (at : ℕ) → Placed (length s) (member s from at)
+  member-placed : (at : ℕ) → Placed (length s) (member s strict from at)
   unfolding member
   member-placed at = then-placed (length s) (λ x p. at < length s) (element s from at) _ (element-placed at) (element-there at) (λ low p l.
       if-placed (length s) _ _ (makesRange s p)
-      (on-placed (length s) (element s from (p + 1)) _ (element-placed (p + 1)) (λ high q. rangeOf-placed (length s) at (omega arith) (rangeEnd low) (rangeEnd high) q))
+      (on-placed (length s) (element s from (p + 1)) _ (element-placed (p + 1)) (λ high q. rangeOf-placed (length s) at (omega arith) strict (rangeEnd low) (rangeEnd high) q))
       tt)
 
-  members-placed : (f : ℕ) (first : Bool) (before : List Member) (at : ℕ) → Placed (length s) (members f s from first before at)
+  members-placed : (f : ℕ) (first : Bool) (before : List Member) (at : ℕ) → Placed (length s) (members f s strict from first before at)
   unfolding members
   members-placed zero first before at = h
   members-placed (suc f) first before at = if-placed (length s) _ _ (is "]" (byte s at) && not first) tt
-      (on-placed (length s) (member s from at) _ (member-placed at) (λ m p. members-placed f false (m ∷ before) p))
+      (on-placed (length s) (member s strict from at) _ (member-placed at) (λ m p. members-placed f false (m ∷ before) p))
 
-  class-placed : Placed (length s) (class s from)
+  class-placed : Placed (length s) (class s strict from)
   unfolding class
   class-placed = if-placed (length s) _ _ (is "^" (byte s (from + 1)))
-      (on-placed (length s) (members (length s) s from true [] (from + 2)) _ (members-placed (length s) true [] (from + 2)) (λ ms p. tt))
-      (on-placed (length s) (members (length s) s from true [] (from + 1)) _ (members-placed (length s) true [] (from + 1)) (λ ms p. tt))
+      (on-placed (length s) (members (length s) s strict from true [] (from + 2)) _ (members-placed (length s) true [] (from + 2)) (λ ms p. tt))
+      (on-placed (length s) (members (length s) s strict from true [] (from + 1)) _ (members-placed (length s) true [] (from + 1)) (λ ms p. tt))
 
 -- Places in a tree ---------------------------------------------------------------------
 
--- all items of a tree stand at n at most
+-- all items and repeats of a tree stand at n at most
 abbrev mutual
   pub ItemsIn : ℕ → Rule → Type 0
   ItemsIn n empty = Unit
@@ -220,7 +222,7 @@ abbrev mutual
   ItemsIn n (seq a b) = ItemsIn n a × ItemsIn n b
   ItemsIn n (alt bs b) = BranchesIn n bs × ItemsIn n b
   ItemsIn n (group k a) = ItemsIn n a
-  ItemsIn n (repeat at l m g a) = ItemsIn n a
+  ItemsIn n (repeat at l m g a) = (at ≤ n) × ItemsIn n a
 
   pub BranchesIn : ℕ → Branches → Type 0
   BranchesIn n (one a) = ItemsIn n a
@@ -285,7 +287,7 @@ module _ (s : List ℕ) where
   atom-placed flags known opened at h =
       let b = byte s at in
       if-placed (length s) _ _ (is "\\" b) (escape-placed (length s) at h s (ignoreCase flags) known opened)
-      (if-placed (length s) _ _ (is "[" b) (on-placed (length s) (class s at) _ (class-placed s at h) (λ c p. tt))
+      (if-placed (length s) _ _ (is "[" b) (on-placed (length s) (class s (depot flags) at) _ (class-placed s (depot flags) at h) (λ c p. tt))
       (if-placed (length s) _ _ (is "." b) tt (if-placed (length s) _ _ (is "^" b) tt (if-placed (length s) _ _ (is "$" b) tt tt))))
 
   closing-well : (opening : ℕ) (t : Rule) (opened : Names) (at : ℕ) → opening ≤ length s → ItemsIn (length s) t → Well (length s) (Treed (length s)) (closing s opening t opened at)
@@ -334,7 +336,7 @@ module _ (s : List ℕ) where
   repeating-well : (q : Sequence) (at n : ℕ) (m : Most) (g : Greed) (opened : Names) (next : ℕ) → at ≤ length s → SequenceIn (length s) q → Well (length s) (Sequenced (length s)) (repeating q at n m g opened next)
   unfolding repeating SequenceIn
   repeating-well (unrepeatable t) at n m g opened next h k = (h, tt)
-  repeating-well (repeatable b l) at n m g opened next h k = (tt, k)
+  repeating-well (repeatable b l) at n m g opened next h k = (tt, (k .0, (h, k .1)))
   repeating-well (repeated t) at n m g opened next h k = (h, tt)
 
   part-well : (flags : ℕ) (known : Names) (inner : Inner) (q : Sequence) (opened : Names) (at : ℕ) (x : Quantifier) → InnerWell inner → at < length s → SequenceIn (length s) q → Well (length s) (Sequenced (length s)) (part s flags known inner q opened at x)
@@ -412,19 +414,43 @@ mutual
   unresolved-found n groups (seq a b) h = first-found n (unresolved groups a) (unresolved groups b) (unresolved-found n groups a (h .0)) (unresolved-found n groups b (h .1))
   unresolved-found n groups (alt bs b) h = first-found n (unresolvedIn groups bs) (unresolved groups b) (unresolvedIn-found n groups bs (h .0)) (unresolved-found n groups b (h .1))
   unresolved-found n groups (group k a) h = unresolved-found n groups a h
-  unresolved-found n groups (repeat at l m g a) h = unresolved-found n groups a h
+  unresolved-found n groups (repeat at l m g a) h = unresolved-found n groups a (h .1)
 
   unresolvedIn-found : (n groups : ℕ) (bs : Branches) → BranchesIn n bs → Found n (unresolvedIn groups bs)
   unresolvedIn-found n groups (one a) h = unresolved-found n groups a h
   unresolvedIn-found n groups (also bs b) h = first-found n (unresolvedIn groups bs) (unresolved groups b) (unresolvedIn-found n groups bs (h .0)) (unresolved-found n groups b (h .1))
 
-resolved-placed : (n : ℕ) (r : Rule × ℕ) (at : ℕ) (o : Option ℕ) → Found n o → Placed n (resolved r at o)
-unfolding resolved
-resolved-placed n r at none h = tt
-resolved-placed n r at (some p) h = h
+mutual
+  unfolding idle idleIn
+
+  idle-found : (n : ℕ) (t : Rule) → ItemsIn n t → Found n (idle t)
+  idle-found n empty h = tt
+  idle-found n (item at i) h = tt
+  idle-found n (seq a b) h = first-found n (idle a) (idle b) (idle-found n a (h .0)) (idle-found n b (h .1))
+  idle-found n (alt bs b) h = first-found n (idleIn bs) (idle b) (idleIn-found n bs (h .0)) (idle-found n b (h .1))
+  idle-found n (group k a) h = idle-found n a h
+  idle-found n (repeat at l m g a) h = first-found n (idle a) (if unbounded m && eqb (leastLength a) 0 then some at else none) (idle-found n a (h .1)) (if-found n at (unbounded m && eqb (leastLength a) 0) (h .0))
+
+  idleIn-found : (n : ℕ) (bs : Branches) → BranchesIn n bs → Found n (idleIn bs)
+  idleIn-found n (one a) h = idle-found n a h
+  idleIn-found n (also bs b) h = first-found n (idleIn bs) (idle b) (idleIn-found n bs (h .0)) (idle-found n b (h .1))
+
+unless-placed : {A : Type 0} (n : ℕ) (o : Option ℕ) (why : Reason) (rest : Read A) → Found n o → Placed n rest → Placed n (unless o why rest)
+unfolding unless
+unless-placed n none why rest h k = k
+unless-placed n (some p) why rest h k = h
+
+profiled-placed : {A : Type 0} (n : ℕ) (strict : Bool) (t : Rule) (rest : Read A) → ItemsIn n t → Placed n rest → Placed n (profiled strict t rest)
+unfolding profiled
+profiled-placed n false t rest h k = k
+profiled-placed n true t rest h k = unless-placed n (unresolved 0 t) BarredReference (unless (idle t) IdleRepeat rest) (unresolved-found n 0 t h) (unless-placed n (idle t) IdleRepeat rest (idle-found n t h) k)
+
+settled-placed : (n flags : ℕ) (t : Rule) (groups at : ℕ) → ItemsIn n t → Placed n (settled flags t groups at)
+unfolding settled
+settled-placed n flags t groups at h = unless-placed n (unresolved groups t) NoSuchGroup (profiled (depot flags) t (sound (t, groups) at)) (unresolved-found n groups t h) (profiled-placed n (depot flags) t (sound (t, groups) at) h tt)
 
 -- a refused rule's place is within the rule
 pub reading-placed : (s : List ℕ) (flags : ℕ) → Placed (length s) (reading s flags)
 unfolding reading
 reading-placed s flags = then-placed (length s) (Treed (length s)) (parsed s flags (namesOf s flags)) _ (parsed-well s flags (namesOf s flags) .0) (parsed-well s flags (namesOf s flags) .1)
-    (λ r p t. resolved-placed (length s) (r .0, length (r .1)) p (unresolved (length (r .1)) (r .0)) (unresolved-found (length s) (length (r .1)) (r .0) t))
+    (λ r p t. settled-placed (length s) flags (r .0) (length (r .1)) p t)

@@ -24,9 +24,9 @@ use Rattle.syntax.specs.Sets.{setNamed, Member}
 use Rattle.syntax.specs.Tree.{Rule, empty, Branches, group, one, also}
 use Rattle.syntax.specs.Numbers.{run, isDigit, digits, value, isNone}
 use Rattle.syntax.specs.Names.{Name, Names, wordAt, isName, nameUpTo, isUsed, fresh}
-use Rattle.syntax.specs.Flags.{ignoreCase}
+use Rattle.syntax.specs.Flags.{ignoreCase, depot}
 use Rattle.syntax.specs.Escapes.{called, callsByName, Meaning, _means_, meanings, byteOf, braced, hex, bracedOctal, octal, control, letter, common, classEscape, decimal, signed, groupNumber, escape}
-use Rattle.syntax.specs.Classes.{letters, posixMember, posixName, posix, element, rangeEnd, rangeOf, makesRange, member, members, class}
+use Rattle.syntax.specs.Classes.{letters, posixMember, posixName, posix, element, rangeEnd, alike, rangeOf, makesRange, member, members, class}
 use Rattle.syntax.specs.Quantifiers.{withGreed, atLeast, fromTo, upper, braces, quantifier}
 use Rattle.syntax.specs.Grammar.{behindBlanks, atom, Inner, closing, capturing, grouped, Sequence, unrepeatable, repeatable, repeated, nextItem, unfitFor, repeating, part, ends, sequence, branch, further, alternation, inside}
 use Rattle.syntax.specs.Laws.Blanks.{blanks-in}
@@ -221,31 +221,31 @@ element-in s from at =
     test-given _ _ _ (isEnd b) (λ e. tt) (λ e. let i = not-end s at e in
     if-given _ _ _ (is "\\" b) (classEscape-in s at i) (if-given _ _ _ (is "[" b) (posix-in s at i) (omega arith)))
 
-rangeOf-in : (s : List ℕ) (at : ℕ) (low high : Option ℕ) (next : ℕ) → next ≤ length s → Given (rangeOf at low high next) (Upto s)
+rangeOf-in : (s : List ℕ) (strict : Bool) (at : ℕ) (low high : Option ℕ) (next : ℕ) → next ≤ length s → Given (rangeOf strict at low high next) (Upto s)
 unfolding rangeOf
-rangeOf-in s at none high next h = tt
-rangeOf-in s at (some a) none next h = tt
-rangeOf-in s at (some a) (some b) next h = if-given _ _ _ (leb a b) h tt
+rangeOf-in s strict at none high next h = tt
+rangeOf-in s strict at (some a) none next h = tt
+rangeOf-in s strict at (some a) (some b) next h = if-given _ _ _ (not (leb a b)) tt (if-given _ _ _ (strict && not (alike a b)) tt h)
 
-member-in : (s : List ℕ) (from at : ℕ) → Given (member s from at) (Upto s)
+member-in : (s : List ℕ) (strict : Bool) (from at : ℕ) → Given (member s strict from at) (Upto s)
 unfolding member
-member-in s from at = then-given (Upto s) (Upto s) (element s from at) _ (element-in s from at) (λ low p l.
+member-in s strict from at = then-given (Upto s) (Upto s) (element s from at) _ (element-in s from at) (λ low p l.
     if-given _ _ _ (makesRange s p)
-    (then-given (Upto s) (Upto s) (element s from (p + 1)) _ (element-in s from (p + 1)) (λ high q m. rangeOf-in s at (rangeEnd low) (rangeEnd high) q m))
+    (then-given (Upto s) (Upto s) (element s from (p + 1)) _ (element-in s from (p + 1)) (λ high q m. rangeOf-in s strict at (rangeEnd low) (rangeEnd high) q m))
     l)
 
-members-in : (f : ℕ) (s : List ℕ) (from : ℕ) (first : Bool) (before : List Member) (at : ℕ) → Given (members f s from first before at) (Upto s)
+members-in : (f : ℕ) (s : List ℕ) (strict : Bool) (from : ℕ) (first : Bool) (before : List Member) (at : ℕ) → Given (members f s strict from first before at) (Upto s)
 unfolding members
-members-in zero s from first before at = tt
-members-in (suc f) s from first before at = test-given _ _ _ (is "]" (byte s at) && not first)
+members-in zero s strict from first before at = tt
+members-in (suc f) s strict from first before at = test-given _ _ _ (is "]" (byte s at) && not first)
     (λ e. let i = is-in s at 93 (omega arith) (and-left (is "]" (byte s at)) (not first) e) in omega arith)
-    (λ e. then-given (Upto s) (Upto s) (member s from at) _ (member-in s from at) (λ m p l. members-in f s from false (m ∷ before) p))
+    (λ e. then-given (Upto s) (Upto s) (member s strict from at) _ (member-in s strict from at) (λ m p l. members-in f s strict from false (m ∷ before) p))
 
-class-in : (s : List ℕ) (from : ℕ) → Given (class s from) (Upto s)
+class-in : (s : List ℕ) (strict : Bool) (from : ℕ) → Given (class s strict from) (Upto s)
 unfolding class
-class-in s from = if-given _ _ _ (is "^" (byte s (from + 1)))
-    (then-given (Upto s) (Upto s) (members (length s) s from true [] (from + 2)) _ (members-in (length s) s from true [] (from + 2)) (λ ms p l. l))
-    (then-given (Upto s) (Upto s) (members (length s) s from true [] (from + 1)) _ (members-in (length s) s from true [] (from + 1)) (λ ms p l. l))
+class-in s strict from = if-given _ _ _ (is "^" (byte s (from + 1)))
+    (then-given (Upto s) (Upto s) (members (length s) s strict from true [] (from + 2)) _ (members-in (length s) s strict from true [] (from + 2)) (λ ms p l. l))
+    (then-given (Upto s) (Upto s) (members (length s) s strict from true [] (from + 1)) _ (members-in (length s) s strict from true [] (from + 1)) (λ ms p l. l))
 
 -- Repeats --------------------------------------------------------------------------
 
@@ -298,7 +298,7 @@ atom-in s flags known opened at h =
     let b = byte s at in
     let k : at + 1 ≤ length s = omega arith in
     if-given _ _ _ (is "\\" b) (escape-in s (ignoreCase flags) known opened at h)
-    (if-given _ _ _ (is "[" b) (then-given (Upto s) (Upto s) (class s at) _ (class-in s at) (λ c p l. l))
+    (if-given _ _ _ (is "[" b) (then-given (Upto s) (Upto s) (class s (depot flags) at) _ (class-in s (depot flags) at) (λ c p l. l))
     (if-given _ _ _ (is "." b) k (if-given _ _ _ (is "^" b) k (if-given _ _ _ (is "$" b) k k))))
 
 closing-in : (s : List ℕ) (opening : ℕ) (t : Rule) (opened : Names) (at : ℕ) → Given (closing s opening t opened at) (Upto s)

@@ -20,7 +20,7 @@ complement-requires : tie.Need-complement-requires
 complement-requires c κs = search needs
 
 returns : tie.Need-returns
-returns c = class-negated _ _ _ _ (c .before .before .before .before .peek .ensures .is) _ (c .before .before .before .if1 .taken) _ (c .complement .ensures) (c .before .before .members-at .result .end) (c .before .before .members-at .ensures)
+returns c = class-negated _ _ _ _ _ (c .before .before .before .before .peek .ensures .is) _ (c .before .before .before .if1 .taken) _ (c .complement .ensures) (c .before .before .members-at .result .end) (c .before .before .members-at .ensures)
 
 add-members-at-2 : tie.Need-add-members-at-2
 add-members-at-2 c = search needs
@@ -29,7 +29,7 @@ members-at-requires-2 : tie.Need-members-at-requires-2
 members-at-requires-2 c κs = search needs
 
 returns-2 : tie.Need-returns-2
-returns-2 c = class-plain _ _ _ _ (c .before .before .peek .ensures .is) (c .members-at2 .result .words) (c .before .if1 .left) (c .members-at2 .result .end) (c .members-at2 .ensures)
+returns-2 c = class-plain _ _ _ _ _ (c .before .before .peek .ensures .is) (c .members-at2 .result .words) (c .before .if1 .left) (c .members-at2 .result .end) (c .members-at2 .ensures)
 
 pub class-at-spec : {M : Type 1} → statement M
 class-at-spec =

@@ -13,7 +13,7 @@ enum-told : tie.Need-enum-told
 enum-told c = search needs
 
 returns : tie.Need-returns
-returns c = member-bad _ _ _ (c .before .before .element-at .result) (c .before .before .element-at .ensures) _ (c .enum-told .given .1)
+returns c = member-bad _ _ _ _ (c .before .before .element-at .result) (c .before .before .element-at .ensures) _ (c .enum-told .given .1)
 
 next-of-requires : tie.Need-next-of-requires
 next-of-requires c κs = search needs
@@ -31,10 +31,10 @@ range-of-requires : tie.Need-range-of-requires
 range-of-requires c κs = search needs
 
 returns-2 : tie.Need-returns-2
-returns-2 c = c .range-of .ensures ∙ member-range _ _ _ (c .before .before .before .before .before .before .element-at .result) (c .before .before .before .before .before .before .element-at .ensures) (c .before .before .before .before .before .match .keys2) _ (c .before .before .before .before .next-of .ensures) _ (c .before .before .before .makes-range .ensures .0) (c .before .before .if1 .taken) (c .before .element-at2 .result) (c .before .element-at2 .ensures)
+returns-2 c = c .range-of .ensures ∙ member-range _ _ _ _ (c .before .before .before .before .before .before .element-at .result) (c .before .before .before .before .before .before .element-at .ensures) (c .before .before .before .before .before .match .keys2) _ (c .before .before .before .before .next-of .ensures) _ (c .before .before .before .makes-range .ensures .0) (c .before .before .if1 .taken) (c .before .element-at2 .result) (c .before .element-at2 .ensures)
 
 returns-3 : tie.Need-returns-3
-returns-3 c = member-alone _ _ _ (c .before .before .before .before .element-at .result) (c .before .before .before .before .element-at .ensures) (c .before .before .before .match .keys2) _ (c .before .before .next-of .ensures) _ (c .before .makes-range .ensures .0) (c .if1 .left)
+returns-3 c = member-alone _ _ _ _ (c .before .before .before .before .element-at .result) (c .before .before .before .before .element-at .ensures) (c .before .before .before .match .keys2) _ (c .before .before .next-of .ensures) _ (c .before .makes-range .ensures .0) (c .if1 .left)
 
 pub member-at-spec : {M : Type 1} → statement M
 member-at-spec =

@@ -17,8 +17,8 @@ shared-slice-read-b c = search needs
 escape-at-requires : tie.Need-escape-at-requires
 escape-at-requires c κs = search needs
 
-class-at-requires : tie.Need-class-at-requires
-class-at-requires c κs = search needs
+bracketed-requires : tie.Need-bracketed-requires
+bracketed-requires c κs = search needs
 
 class-item-requires : tie.Need-class-item-requires
 class-item-requires c κs = search needs
@@ -39,7 +39,7 @@ returns : tie.Need-returns
 returns c = λ known. as-atom _ known _ _ (c .before .before .before .ignores-case .ensures) (c .escape-at .result) (atom-escape _ _ known _ _ _ (byte-at _ _ (c .before .before .before .before .before .pre .1)) _ (c .before .before .before .ignores-case .ensures) (c .before .match .keys1)) (c .escape-at .ensures known)
 
 returns-2 : tie.Need-returns-2
-returns-2 c = λ known. as-atom _ known _ _ (c .before .before .before .before .ignores-case .ensures) (c .class-item .result) (atom-class _ _ known _ _ _ (byte-at _ _ (c .before .before .before .before .before .before .pre .1)) _ (c .before .before .before .before .ignores-case .ensures) (c .before .before .match .keys2)) (c .class-item .ensures _ _ known _ (c .before .class-at .ensures))
+returns-2 c = λ known. as-atom _ known _ _ (c .before .before .before .before .ignores-case .ensures) (c .class-item .result) (atom-class _ _ known _ _ _ (byte-at _ _ (c .before .before .before .before .before .before .pre .1)) _ (c .before .before .before .before .ignores-case .ensures) (c .before .before .match .keys2)) (c .class-item .ensures _ _ known _ (c .before .bracketed .ensures))
 
 returns-3 : tie.Need-returns-3
 returns-3 c = λ known. as-atom _ known _ _ (c .before .before .before .ignores-case .ensures) (c .dot .result) (atom-dot _ _ known _ _ _ (byte-at _ _ (c .before .before .before .before .before .pre .1)) _ (c .before .before .before .ignores-case .ensures) (c .before .match .keys3)) (c .dot .ensures _ _ known)
@@ -62,7 +62,7 @@ item-at-spec =
     add-next
     shared-slice-read-b
     escape-at-requires
-    class-at-requires
+    bracketed-requires
     class-item-requires
     dot-requires
     caret-requires

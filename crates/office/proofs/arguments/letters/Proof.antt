@@ -26,6 +26,9 @@ shared-slice-read-if3 c = search needs
 shared-slice-read-if4 : tie.Need-shared-slice-read-if4 Inv-loop μ-loop
 shared-slice-read-if4 c = search needs
 
+shared-slice-read-if5 : tie.Need-shared-slice-read-if5 Inv-loop μ-loop
+shared-slice-read-if5 c = search needs
+
 returns : tie.Need-returns Inv-loop μ-loop
 returns c = search needs
 
@@ -52,6 +55,7 @@ letters-spec =
     shared-slice-read-if2
     shared-slice-read-if3
     shared-slice-read-if4
+    shared-slice-read-if5
     returns
     add-i
     loop-less

@@ -28,6 +28,9 @@ slice-read-before c = search needs
 cast-put-repeat : tie.Need-cast-put-repeat
 cast-put-repeat c = search needs
 
+cast-put-repeat-2 : tie.Need-cast-put-repeat-2
+cast-put-repeat-2 c = search needs
+
 put-repeat-requires : tie.Need-put-repeat-requires
 put-repeat-requires c κs = search needs
 
@@ -53,6 +56,7 @@ repeated-spec =
     mul-before
     slice-read-before
     cast-put-repeat
+    cast-put-repeat-2
     put-repeat-requires
     behind-requires
     same-length

@@ -1,0 +1,77 @@
+-- The numbers that are found: lengths that are held, and places.
+use mathlib.Core.Path.{_≡_, refl, ap, _∙_}
+use mathlib.Core.Bool.{Bool, true, false, _||_, not}
+use mathlib.Core.Option.{Option, none, some}
+use Prim.Native.Nat.{ℕ, zero, suc, min, _+_, _*_, _≤_}
+use native.Mathlib.Omega.{arith}
+use lib.Dec.{eqb, leb}
+use borrow.Author.Tests.{ne-eqb, lt-leb}
+use Rattle.syntax.specs.Limits.{lengthLimit}
+use Rattle.syntax.specs.Read.{if_then_else_}
+use Rattle.syntax.specs.Tree.{Item, byteIn, assert, reference, Rule, empty, item, seq, alt, group, repeat, Branches, one, also}
+use Rattle.syntax.specs.Lengths.{held, itemLength, leastLength, shortest}
+use Rattle.syntax.specs.Reading.{firstOf, dangling}
+use Rattle.lengths.specs.Measures.{marked, sooner}
+
+-- Lengths ---------------------------------------------------------------------------
+
+pub held-bounded : (n : ℕ) → held n ≤ lengthLimit
+unfolding held
+held-bounded n = omega arith
+
+pub held-within : (n : ℕ) → n ≤ lengthLimit → held n ≡ n
+unfolding held
+held-within n h = omega arith
+
+-- held on the way or at the end
+pub held-both : (x y z : ℕ) → held (held (x + y) + z) ≡ held (x + held (y + z))
+unfolding held lengthLimit
+held-both x y z = omega arith
+
+item-bounded : (i : Item) → itemLength i ≤ lengthLimit
+unfolding itemLength lengthLimit
+item-bounded (byteIn folded c) = omega arith
+item-bounded (assert a) = omega arith
+item-bounded (reference folded n) = omega arith
+
+mutual
+  unfolding leastLength shortest
+
+  pub least-bounded : (t : Rule) → leastLength t ≤ lengthLimit
+  least-bounded empty = omega arith
+  least-bounded (item place i) = item-bounded i
+  least-bounded (seq a b) = held-bounded (leastLength a + leastLength b)
+  least-bounded (alt bs b) = let x = least-bounded b in omega arith
+  least-bounded (group n a) = least-bounded a
+  least-bounded (repeat place n m g a) = held-bounded (n * leastLength a)
+
+-- Places ------------------------------------------------------------------------------
+
+-- a place that was found is no 0
+some-place : (a : ℕ) → eqb (suc a) 0 ≡ false
+some-place a = ne-eqb (suc a) 0 (λ e. omega arith)
+
+pub sooner-none : (a : ℕ) → sooner a 0 ≡ a
+unfolding sooner
+sooner-none zero = refl
+sooner-none (suc a) = rw (some-place a)
+
+pub sooner-both : (a b c : ℕ) → sooner (sooner a b) c ≡ sooner a (sooner b c)
+unfolding sooner
+sooner-both zero b c = refl
+sooner-both (suc a) b c = rw (some-place a, some-place a)
+
+sooner-some : (a b : ℕ) → a + 1 ≡ sooner (a + 1) b
+unfolding sooner
+sooner-some a b = let e : a + 1 ≡ suc a = omega arith in rw (e, some-place a)
+
+pub marked-first : (x y : Option ℕ) → marked (firstOf x y) ≡ sooner (marked x) (marked y)
+unfolding marked firstOf
+marked-first none y = unfold sooner in refl
+marked-first (some p) y = sooner-some p (marked y)
+
+-- with no groups every reference is to none
+pub dangles : (at : ℕ) (folded : Bool) (n : ℕ) → dangling 0 at (reference folded n) ≡ some at
+unfolding dangling
+dangles at folded zero = refl
+dangles at folded (suc n) = rw (some-place n, lt-leb (suc n) 0 (omega arith))

@@ -1,0 +1,2 @@
+-- What measuring a rule promises.
+pub mod Measures

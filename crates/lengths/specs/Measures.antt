@@ -1,0 +1,125 @@
+-- What measuring promises: whatever tree stands at a position, the least length that was found is the tree's, and the two places are those of its first
+-- reference and its first idle repeat.
+use mathlib.Core.Path.{_≡_}
+use mathlib.Core.Bool.{Bool, _&&_}
+use mathlib.Core.List.{List}
+use mathlib.Core.Option.{Option, none, some}
+use Prim.Native.Nat.{ℕ, min, _+_, _*_, _≤_, _<_}
+use lib.Dec.{eqb, ltb}
+use lib.ListN.{getD, length}
+use Rattle.syntax.specs.Limits.{lengthLimit, unset}
+use Rattle.syntax.specs.Read.{if_then_else_, Read, refused}
+use Rattle.syntax.specs.Names.{Names}
+use Rattle.syntax.specs.Tree.{Rule, Branches}
+use Rattle.syntax.specs.Lengths.{held, leastLength, shortest}
+use Rattle.syntax.specs.Reading.{unresolved, unresolvedIn, idle, idleIn, profiled}
+use Rattle.syntax.specs.WellFormed.{Proper, Propers, levels, levelsIn}
+use Rattle.linker.specs.Nodes.{Region, Inside, Several}
+use Rattle.lengths.specs.declared.Measured.{Measured}
+use Rattle.lengths.specs.declared.Judgement.{Judgement}
+use Rattle.lengths.specs.declared.Judgement.the-variants.{Passes, Barred}
+
+-- Places that were found -----------------------------------------------------------
+
+-- a place as a number: one more than it, and 0 for none
+unfoldable pub marked : Option ℕ → ℕ
+marked none = 0
+marked (some place) = place + 1
+
+-- the first of two
+unfoldable pub sooner : ℕ → ℕ → ℕ
+sooner a b = if eqb a 0 then b else a
+
+-- What the small functions find ------------------------------------------------------
+
+pub record IsNothing (m : Measured) : Type 0 where
+  pub least : m .least ≡ 0
+  pub reference : m .reference ≡ 0
+  pub idle : m .idle ≡ 0
+
+-- one part and what follows it
+pub record Joined (a b m : Measured) : Type 0 where
+  pub least : m .least ≡ held (a .least + b .least)
+  pub reference : m .reference ≡ sooner (a .reference) (b .reference)
+  pub idle : m .idle ≡ sooner (a .idle) (b .idle)
+
+-- one branch and those behind it
+pub record Shorter (a b m : Measured) : Type 0 where
+  pub least : m .least ≡ min (a .least) (b .least)
+  pub reference : m .reference ≡ sooner (a .reference) (b .reference)
+  pub idle : m .idle ≡ sooner (a .idle) (b .idle)
+
+-- the repeat at p, if its body's least length is such that it is idle
+unfoldable pub idleAt : List ℕ → (p body : ℕ) → ℕ
+idleAt a p body = if eqb (getD a (p + 3) 0) unset && eqb body 0 then getD a (p + 5) 0 + 1 else 0
+
+pub record Repeated (a : List ℕ) (p : ℕ) (body m : Measured) : Type 0 where
+  pub least : m .least ≡ held (getD a (p + 2) 0 * body .least)
+  pub reference : m .reference ≡ body .reference
+  pub idle : m .idle ≡ sooner (body .idle) (idleAt a p (body .least))
+
+-- an item, by its kind
+pub record Singled (a : List ℕ) (p kind : ℕ) (m : Measured) : Type 0 where
+  pub least : m .least ≡ (if eqb kind 0 then 1 else 0)
+  pub reference : m .reference ≡ (if ltb kind 11 then 0 else getD a (p + 2) 0 + 1)
+  pub idle : m .idle ≡ 0
+
+-- What is asked ------------------------------------------------------------------------
+
+-- what stands in an area as a part, as a sequence or inside a group
+abbrev pub Standing : Type 1
+Standing = (rule : List ℕ) → Names → (area : List ℕ) → Rule → Region
+
+-- a tree stands at p, in which so many levels may stand, its repeats' bounds within theirs
+pub record Deep (Stands : Standing) (a : List ℕ) (p depth : ℕ) : Type 0 where
+  pub rule : List ℕ
+  pub known : Names
+  pub tree : Rule
+  pub lo : ℕ
+  pub top : ℕ
+  pub holds : Stands rule known a tree lo top p
+  pub within : top ≤ length a
+  pub groups : ℕ
+  pub proper : Proper groups tree
+  pub deep : levels tree ≤ depth
+
+pub record DeepBranches (a : List ℕ) (p depth : ℕ) : Type 0 where
+  pub rule : List ℕ
+  pub known : Names
+  pub branches : Branches
+  pub lo : ℕ
+  pub top : ℕ
+  pub holds : Several rule known a branches lo top p
+  pub within : top ≤ length a
+  pub groups : ℕ
+  pub proper : Propers groups branches
+  pub deep : levelsIn branches ≤ depth
+
+-- What is promised -----------------------------------------------------------------------
+
+-- m is what there is to find of a tree
+pub record Of (t : Rule) (m : Measured) : Type 0 where
+  pub least : m .least ≡ leastLength t
+  pub reference : m .reference ≡ marked (unresolved 0 t)
+  pub idle : m .idle ≡ marked (idle t)
+
+-- of branches, behind which `behind` was found
+pub record OfBranches (bs : Branches) (behind m : Measured) : Type 0 where
+  pub least : m .least ≡ min (shortest bs) (behind .least)
+  pub reference : m .reference ≡ sooner (marked (unresolvedIn 0 bs)) (behind .reference)
+  pub idle : m .idle ≡ sooner (marked (idleIn bs)) (behind .idle)
+
+-- whatever tree stands at p
+unfoldable pub Finds : Standing → List ℕ → ℕ → Measured → Type 0
+Finds Stands a p m = (rule : List ℕ) (known : Names) (groups : ℕ) (t : Rule) (lo top : ℕ) → Proper groups t → Stands rule known a t lo top p → Of t m
+
+unfoldable pub FindsBranches : List ℕ → ℕ → (behind m : Measured) → Type 0
+FindsBranches a p behind m = (rule : List ℕ) (known : Names) (groups : ℕ) (bs : Branches) (lo top : ℕ) → Propers groups bs → Several rule known a bs lo top p → OfBranches bs behind m
+
+-- what the profile, asked for or not, makes of a tree, whatever its reading was up to then
+abbrev pub Judged : Bool → Rule → Judgement → Type 0
+Judged strict t Passes = (rest : Read (Rule × ℕ)) → profiled strict t rest ≡ rest
+Judged strict t (Barred f) = (rest : Read (Rule × ℕ)) → profiled strict t rest ≡ refused (f .place) (f .reason)
+
+unfoldable pub Judges : Bool → List ℕ → ℕ → Judgement → Type 0
+Judges strict a p r = (rule : List ℕ) (known : Names) (groups : ℕ) (t : Rule) (lo top : ℕ) → Proper groups t → Inside rule known a t lo top p → Judged strict t r

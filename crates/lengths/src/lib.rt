@@ -1,0 +1,260 @@
+// What the depot profile bars of a rule, and the least lengths that it asks for: a recursion over the rule's groups and repeats, one inside another, in
+// which the levels that are left fall at each part. It goes over the nodes as the first pass left them in the rule area, and looks at each once. It has
+// to come before linking, since the linked rule does not tell where an alternation ends, and a repeat's place there gives way to its register.
+use linker::before_of;
+use linker::word;
+use syntax::Reason;
+use syntax::Refusal;
+ghost use mathlib.Core.Path.{_≡_};
+ghost use mathlib.Core.Bool.{true};
+ghost use Prim.Native.Nat.{min, _+_, _≤_};
+ghost use lib.ListN.{length};
+ghost use Rattle.syntax.specs.Limits.{lengthLimit, levelLimit};
+ghost use Rattle.linker.specs.Nodes.{Part, Chain, Inside};
+ghost use Rattle.lengths.specs.Measures.{sooner, IsNothing, Joined, Shorter, idleAt, Repeated, Singled, Deep, DeepBranches, Finds, FindsBranches, Judges};
+
+// The kinds of nodes, as the linker's specs/Nodes.antt lists them.
+const BYTE: usize = 0;
+
+const GROUP: usize = 4;
+
+const LAST: usize = 6;
+
+const REPEAT: usize = 7;
+
+const PLAIN: usize = 10;
+
+const REFERENCE: usize = 11;
+
+// The maximum of a repeat that has none.
+const UNLIMITED: usize = 4294967295;
+
+// Where least lengths are held.
+const LENGTH_LIMIT: usize = 65536;
+
+// How many levels of sequences and repeats a rule can have, one inside another.
+const LEVEL_LIMIT: u32 = 50;
+
+// Whether a rule keeps to the profile, or why it does not.
+pub enum Judgement {
+    Passes,
+    Barred(Refusal),
+}
+
+// What was found of a part: its least length, and one more than the places of its first reference and of its first repeat without upper bound whose body
+// has the least length 0; 0 for none.
+struct Measured {
+    least: usize,
+    reference: usize,
+    idle: usize,
+}
+
+// Of two places that were found, the one further left. 0 is none.
+fn first(a: usize, b: usize) -> usize
+    ensures { λ r. ⌜ r ≡ sooner a b ⌝ }
+{
+    if a == 0 {
+        return b;
+    }
+    a
+}
+
+fn smaller(a: usize, b: usize) -> usize
+    ensures { λ r. ⌜ r ≡ min a b ⌝ }
+{
+    if a < b {
+        return a;
+    }
+    b
+}
+
+// Nothing: it takes no bytes, and nothing is found in it.
+fn nothing() -> Measured
+    ensures { λ m. ⌜ IsNothing m ⌝ }
+{
+    Measured {
+        least: 0,
+        reference: 0,
+        idle: 0,
+    }
+}
+
+// Parts that follow one another.
+fn follow(a: Measured, b: Measured) -> Measured
+    requires { ⌜ (a .least ≤ lengthLimit) × (b .least ≤ lengthLimit) ⌝ }
+    ensures { λ m. ⌜ Joined a b m ⌝ }
+{
+    let sum = a.least + b.least;
+    let x = a.reference;
+    let y = b.reference;
+    let i = a.idle;
+    let j = b.idle;
+    Measured {
+        least: smaller(sum, LENGTH_LIMIT),
+        reference: first(x, y),
+        idle: first(i, j),
+    }
+}
+
+// Branches of which one is taken.
+fn either(a: Measured, b: Measured) -> Measured
+    ensures { λ m. ⌜ Shorter a b m ⌝ }
+{
+    let k = a.least;
+    let l = b.least;
+    let x = a.reference;
+    let y = b.reference;
+    let i = a.idle;
+    let j = b.idle;
+    Measured {
+        least: smaller(k, l),
+        reference: first(x, y),
+        idle: first(i, j),
+    }
+}
+
+// The place of the repeat at p, if it has no upper bound and its body's least length is 0.
+fn own_idle(area: &[u32], p: usize, body: usize) -> usize
+    requires { ⌜ p + 8 ≤ length (now area) ⌝ }
+    ensures { λ r. ⌜ r ≡ idleAt (now (area .entry)) p body ⌝ }
+{
+    if word(area, p + 3) != UNLIMITED {
+        return 0;
+    }
+    if body != 0 {
+        return 0;
+    }
+    word(area, p + 5) + 1
+}
+
+// The repeat at p, of whose body this was found.
+fn repeated(area: &[u32], p: usize, body: Measured) -> Measured
+    requires { ⌜ (p + 8 ≤ length (now area)) × (body .least ≤ lengthLimit) ⌝ }
+    ensures { λ m. ⌜ Repeated (now (area .entry)) p body m ⌝ }
+{
+    let length = body.least;
+    let reference = body.reference;
+    let inner = body.idle;
+    let least = word(area, p + 2);
+    let own = own_idle(area, p, length);
+    Measured {
+        least: smaller(least * length, LENGTH_LIMIT),
+        reference,
+        idle: first(inner, own),
+    }
+}
+
+// The item at p, of a kind.
+fn single(area: &[u32], p: usize, kind: usize) -> Measured
+    requires { ⌜ p + 3 ≤ length (now area) ⌝ }
+    ensures { λ m. ⌜ Singled (now (area .entry)) p kind m ⌝ }
+{
+    if kind == BYTE {
+        return Measured {
+            least: 1,
+            reference: 0,
+            idle: 0,
+        };
+    }
+    if kind < REFERENCE {
+        return nothing();
+    }
+    let place = word(area, p + 2);
+    Measured {
+        least: 0,
+        reference: place + 1,
+        idle: 0,
+    }
+}
+
+// The part at p, in which so many levels may stand.
+fn part(area: &[u32], p: usize, depth: u32) -> Measured
+    requires { ⌜ Deep Part (now area) p depth ⌝ }
+    ensures { λ m. ⌜ Finds Part (now (area .entry)) p m ⌝ }
+{
+    let kind = word(area, p);
+    if kind == GROUP {
+        return inside(area, word(area, p + 5), depth);
+    }
+    if kind == PLAIN {
+        return inside(area, word(area, p + 2), depth);
+    }
+    if kind == REPEAT {
+        let body = part(area, word(area, p + 6), depth - 1);
+        return repeated(area, p, body);
+    }
+    single(area, p, kind)
+}
+
+// A sequence, from its last part to its first. Its parts stand one level deeper.
+fn chain(area: &[u32], last: usize, depth: u32) -> Measured
+    requires { ⌜ Deep Chain (now area) last depth ⌝ }
+    ensures { λ m. ⌜ Finds Chain (now (area .entry)) last m ⌝ }
+{
+    let mut p = last;
+    let mut m = nothing();
+    while p != 0 {
+        let before = before_of(area, p);
+        let one = part(area, p, depth - 1);
+        m = follow(one, m);
+        p = before;
+    }
+    m
+}
+
+// Branches, from the latest to the first; `behind` was found of the last branch.
+fn branches(area: &[u32], last: usize, behind: Measured, depth: u32) -> Measured
+    requires { ⌜ DeepBranches (now area) last depth ⌝ }
+    ensures { λ m. ⌜ FindsBranches (now (area .entry)) last behind m ⌝ }
+{
+    let mut p = last;
+    let mut m = behind;
+    while p != 0 {
+        let held = word(area, p + 1);
+        let before = word(area, p + 2);
+        let one = chain(area, held, depth);
+        m = either(one, m);
+        p = before;
+    }
+    m
+}
+
+// What stands in a group, or in no group: nothing, an alternation with its last branch at p, or a sequence with its last part there.
+fn inside(area: &[u32], p: usize, depth: u32) -> Measured
+    requires { ⌜ Deep Inside (now area) p depth ⌝ }
+    ensures { λ m. ⌜ Finds Inside (now (area .entry)) p m ⌝ }
+{
+    if p == 0 {
+        return nothing();
+    }
+    if word(area, p) == LAST {
+        let held = word(area, p + 1);
+        let before = word(area, p + 2);
+        let last = chain(area, held, depth);
+        return branches(area, before, last, depth);
+    }
+    chain(area, p, depth)
+}
+
+// Judges a whole rule, whose inside the first pass left.
+pub fn judge(area: &[u32], p: usize) -> Judgement
+    requires { ⌜ Deep Inside (now area) p levelLimit ⌝ }
+    ensures { λ r. ⌜ Judges true (now (area .entry)) p r ⌝ }
+{
+    let m = inside(area, p, LEVEL_LIMIT);
+    let reference = m.reference;
+    let idle = m.idle;
+    if reference != 0 {
+        return Judgement::Barred(Refusal {
+            place: reference - 1,
+            reason: Reason::BarredReference,
+        });
+    }
+    if idle != 0 {
+        return Judgement::Barred(Refusal {
+            place: idle - 1,
+            reason: Reason::IdleRepeat,
+        });
+    }
+    Judgement::Passes
+}
