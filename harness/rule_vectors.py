@@ -303,8 +303,8 @@ def main():
     cases += [(rule, flags) for flags in (I, X, I | X) for rule in (b"(?<a>)(?<A>)\\k<A>", b"(?<a>)\\k<A>", b"(?<a>#)\n)\\k<a> *", b"(?<#>)\n)", b"(?<a>) \\g {a}", b"(?<a>)(?<a>)")]
     cases += [(rule, flags) for flags in range(16) for rule in (b"^ *", b". *", b"[A-z]  {2 }", b"(a) \\1#\\2")]
     TARGET.mkdir(parents=True, exist_ok=True)
-    # One hex digit for the flags, and the rule's bytes behind it.
-    (TARGET / "stdin").write_text("".join("%x%s\n" % (flags, rule.hex()) for rule, flags in cases))
+    # the flags, and the rule's bytes in hex
+    (TARGET / "stdin").write_text("".join("%d %s\n" % (flags, rule.hex()) for rule, flags in cases))
     (TARGET / "stdout").write_text("".join(verdict(rule, flags) + "\n" for rule, flags in cases))
     print("%d rules, %d bytes" % (len(cases), (TARGET / "stdin").stat().st_size), file=sys.stderr)
 

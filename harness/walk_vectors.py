@@ -132,7 +132,7 @@ def within_references():
 def main():
     asked, answers = [], []
     for rule, flags, subject, start, budget in cases():
-        asked.append("%x %d %d %s %s\n" % (flags, budget, start, rule.hex(), subject.hex()))
+        asked.append("%d %d %d %s %s\n" % (flags, budget, start, rule.hex(), subject.hex()))
         answers += told(rule, flags, subject, start, budget)[0]
     TARGET.joinpath("stdin").write_text("".join(asked))
     TARGET.joinpath("stdout").write_text("".join(line + "\n" for line in answers))
