@@ -1,9 +1,11 @@
 #!/usr/bin/env python3
-"""An independent matcher written from documents 01 and 02: parse, walk, match, list, explain, scan, batch."""
+"""An independent matcher written from documents 01 and 02: parse, walk, match, list, explain, scan, batch, rule cards."""
 import sys
 sys.setrecursionlimit(1000000)
 U=4294967295
 S,M,I,X=1,2,4,8
+FLAGS=16 # refused from here on
+RULE_AREA,CARD_AREA,RULE_BYTES=16384,1064,1000
 class Refuse(Exception):
     def __init__(s,n,p): s.n=n; s.p=p
 def rng(*ps):
@@ -358,3 +360,28 @@ def batch(rule,flags,buf,budget):
     """what match gives for each line; ('R',2) for one that is too long"""
     read(rule,flags)
     return [('R',2) if len(l)>65535 else match(rule,flags,l,budget) for l in lines(buf)]
+BODY={1:4,2:32,3:2} # the kinds of a card's records, with the lengths of their bodies
+def first_of(tests):
+    """raises the first refusal that is due"""
+    for n,due in tests:
+        if due: raise Refuse(n,0)
+def card_write(rule,flags,budget,rule_area,area):
+    """the card; the areas are lengths"""
+    first_of([(9,area<CARD_AREA),(1,len(rule)>1000),(3,flags>=FLAGS),(4,budget>65535),(5,rule_area<RULE_AREA)])
+    groups=read(rule,flags)[1]; padded=rule+bytes(-len(rule)%32)
+    chunks=b''.join(b'\2'+padded[i:i+32] for i in range(0,len(padded),32))
+    return bytes([1,flags])+budget.to_bytes(2,'little')+bytes([groups])+chunks+b'\3'+len(rule).to_bytes(2,'little')
+def card_read(card,rule_area,area):
+    """what a card says: rule, flags, budget, groups"""
+    first_of([(9,area<RULE_BYTES)])
+    at=0; kinds=[]; bodies=[]
+    while 3 not in kinds:
+        kind=card[at] if at<len(card) else None
+        first_of([(30,kind is not None and kind not in BODY),(31,kind is None or at+BODY.get(kind,0)>=len(card))])
+        kinds.append(kind); bodies.append(card[at+1:at+1+BODY[kind]]); at+=1+BODY[kind]
+    n=int.from_bytes(bodies[-1],'little'); text=b''.join(bodies[1:-1])
+    first_of([(32,kinds!=[1]+[2]*-(-n//32)+[3]),(33,any(text[n:]) or at<len(card))])
+    flags,low,high,groups=bodies[0]
+    first_of([(1,n>1000),(3,flags>=FLAGS),(5,rule_area<RULE_AREA)])
+    first_of([(34,read(text[:n],flags)[1]!=groups)])
+    return text[:n],flags,low+256*high,groups

@@ -197,7 +197,7 @@ fn numbers(value: &str) -> Option<Vec<usize>> {
 }
 
 /// Flags as letters, each once, or as a number.
-fn flags(value: &str) -> Option<u32> {
+pub fn flags(value: &str) -> Option<u32> {
     let flag = |letter| match letter {
         's' => Some(FLAG_S),
         'm' => Some(FLAG_M),

@@ -35,7 +35,7 @@ pub fn read(file: &str) -> Result<Vec<Example>, String> {
 }
 
 /// The blocks of lines between empty ones and comments, each with the number of its first line.
-fn blocks(file: &str) -> Vec<(usize, Vec<&str>)> {
+pub fn blocks(file: &str) -> Vec<(usize, Vec<&str>)> {
     let mut blocks: Vec<(usize, Vec<&str>)> = Vec::new();
     let mut open = false;
     for (number, line) in (1..).zip(file.lines()) {

@@ -5,7 +5,7 @@
 
 use std::fmt;
 
-/// The reason, and the place in the rule that it is about, counted in bytes from 0; 0 for reasons 1 to 8.
+/// The reason, and the place in the rule that it is about, counted in bytes from 0; 0 for reasons 1 to 9 and those of a rule card, from 30 on.
 #[derive(Clone, Copy, PartialEq, Eq, Debug)]
 pub struct Refusal {
     pub reason: Reason,
@@ -22,6 +22,7 @@ pub enum Reason {
     WorkAreaShort = 6,
     ResultAreaShort = 7,
     NameIndexShort = 8,
+    CardAreaShort = 9,
     LoneBackslash = 10,
     EscapeNotHeld = 11,
     EscapeIllFormed = 12,
@@ -39,10 +40,15 @@ pub enum Reason {
     TooDeep = 24,
     NameIllFormed = 25,
     NameUsedTwice = 26,
+    UnknownRecord = 30,
+    CardCutShort = 31,
+    RecordsOutOfOrder = 32,
+    CardNotClean = 33,
+    OtherGroupNumber = 34,
 }
 
 /// Every reason with its sentence.
-const SENTENCES: [(Reason, &str); 25] = [
+const SENTENCES: [(Reason, &str); 31] = [
     (Reason::RuleTooLong, "the rule is over 1,000 bytes"),
     (Reason::SubjectTooLong, "the subject is over 65,535 bytes"),
     (Reason::UnknownFlag, "a flag bit above 3 is set"),
@@ -51,6 +57,7 @@ const SENTENCES: [(Reason, &str); 25] = [
     (Reason::WorkAreaShort, "the work area is short"),
     (Reason::ResultAreaShort, "the result area is under 66 numbers"),
     (Reason::NameIndexShort, "the name index is under 544 bytes"),
+    (Reason::CardAreaShort, "the area for the card is under 1,064 bytes, or that for the rule's bytes under 1,000"),
     (Reason::LoneBackslash, "a backslash is the rule's last byte"),
     (Reason::EscapeNotHeld, "the escape is not held here"),
     (Reason::EscapeIllFormed, "the escape's number or letter is missing, of another form, unclosed or over its limit"),
@@ -68,6 +75,11 @@ const SENTENCES: [(Reason, &str); 25] = [
     (Reason::TooDeep, "groups nest more than 24 deep"),
     (Reason::NameIllFormed, "a name is missing, malformed or not closed"),
     (Reason::NameUsedTwice, "the name is used twice"),
+    (Reason::UnknownRecord, "the card has a record of an unknown kind"),
+    (Reason::CardCutShort, "the card is cut short"),
+    (Reason::RecordsOutOfOrder, "the card's records are in the wrong order or number"),
+    (Reason::CardNotClean, "the card's padding is not 00, or bytes follow its last record"),
+    (Reason::OtherGroupNumber, "the card's number of groups is not the rule's"),
 ];
 
 impl Reason {

@@ -14,6 +14,7 @@ use super::tree::Rule;
 use super::walk::{End, Event, Walk};
 
 pub const ROW_LENGTH: usize = 66;
+pub const LONGEST_RULE: usize = 1_000;
 pub const LONGEST_SUBJECT: usize = 65_535;
 pub const UNSET: u32 = 4_294_967_295;
 pub const RULE_AREA: usize = 16_384;
@@ -149,7 +150,7 @@ fn unacceptable(call: Call, inputs: &Inputs) -> Option<u32> {
         Call::Batch => batch::lines(inputs.subject).len() > inputs.result_area / PART_LENGTH,
     };
     let tests = [
-        inputs.rule.len() > 1_000,
+        inputs.rule.len() > LONGEST_RULE,
         call != Call::Batch && inputs.subject.len() > LONGEST_SUBJECT,
         inputs.flags > ALL_FLAGS,
         inputs.budget > 100_000,

@@ -70,7 +70,8 @@ fn areas(rng: &mut Rng, budget: u32) -> (usize, usize, usize) {
     (length(rng, RULE_AREA), length(rng, work), if rng.percent(2) { *rng.pick(&[0, 1, 64, 65]) } else { result })
 }
 
-fn length(rng: &mut Rng, needed: usize) -> usize {
+/// Exactly what is needed, or a little more or less.
+pub fn length(rng: &mut Rng, needed: usize) -> usize {
     match rng.weighted(&[67, 30, 2, 1]) {
         0 => needed,
         1 => needed + rng.between(1, 20),

@@ -2,6 +2,7 @@
 
 pub mod batches;
 pub mod calls;
+pub mod cards;
 pub mod damage;
 pub mod explanations;
 pub mod fast;
