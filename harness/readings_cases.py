@@ -12,6 +12,7 @@ from pathlib import Path
 
 import reference
 from cases import Cases
+from reference import ENTRY, FLAGS, GROUPS
 
 ROOT = Path(__file__).resolve().parent.parent
 PROGRAM = ROOT / "target" / "bin" / "readings"
@@ -26,7 +27,7 @@ LITRES = rb"^(?:(\d{1,3},\d{3})|(\d+,\d+)) L$"
 def labels(rule, flags):
     """What each group is called, from 1 on, and how wide the labels are."""
     index = reference.index(rule, flags)
-    names = [index[at + 1:at + 1 + index[at]].decode() for at in range(0, len(index), 17)]
+    names = [index[at + 1:at + 1 + index[at]].decode() for at in range(0, len(index), ENTRY)]
     return [name or "group %d" % group for group, name in enumerate(names, 1)], max(12, *map(len, names))
 
 
@@ -205,7 +206,7 @@ def arguments(t):
     Path("lines").write_bytes(b"1,500 L\n")
     both = ["rule", "lines"]
     two = TWO + summary(1, ambiguous="1")
-    for words in ([], ["rule"], both + ["0", "5", "x"], both + ["16"], both + ["00016"], both + ["31"], both + [""], both + ["a"], both + ["I"], both + ["sax"], both + ["i x"],
+    for words in ([], ["rule"], both + ["0", "5", "x"], both + ["%d" % FLAGS], both + ["000%d" % FLAGS], both + ["%d" % (2 * FLAGS - 1)], both + [""], both + ["a"], both + ["I"], both + ["sax"], both + ["i x"],
                   both + ["x8"], both + ["--"], both + ["-1"], both + ["-i"],
                   both + ["0", "100001"], both + ["0", "4294967296"], both + ["0", "99999999999999999999"], both + ["0", ""], both + ["0", "1k"], both + ["0", "-"]):
         t.run("arguments %r" % words, words, "", USAGE)
@@ -254,7 +255,7 @@ def refusals(t):
              14: (b"[a", "this class is not closed by ]"), 16: (b"[[:no:]]", "no set has this name"),
              17: (b"*", "a repeat with nothing before it that it could repeat"),
              18: (b"a{256}", "a { that begins no repeat, or a repeat over 255 or with its bounds the wrong way round"),
-             22: (b"(?a)", "(? is followed by neither : nor <"), 23: (b"()" * 33, "the 33rd group; a rule has at most 32"),
+             22: (b"(?a)", "(? is followed by neither : nor <"), 23: (b"()" * (GROUPS + 1), "the %s group; a rule has at most %d" % ({32: "33rd", 64: "65th"}[GROUPS], GROUPS)),
              24: (b"(" * 25, "the 25th bracket inside another; they nest at most 24 deep"), 25: (b"\\k<", "a name is missing, malformed or not closed"),
              26: (b"(?<n>)(?<n>)", "this name is used twice")}
     for number, (rule, meaning) in rules.items():
@@ -429,7 +430,7 @@ line 2: not matched
     t.on("nothing is left of a line", rb"^(a*)(a*)(a*)(b?)$|^c(a*)*d", b"\n".join([few, full, few, many, full, b"c" + full, many, b"c" + full, few, b"", many, b"d", many]))
     t.on("more than 1000 readings", rb"^(a*)(a*)(a*)$", b"a" * 44 + b"\na\n")
     t.on("1000 readings", rb"(a*?)(a*)$", b"a" * 43 + b"\n" + b"a" * 44)
-    t.on("32 groups", b"^" + b"(a?)" * 32 + b"$", b"a")
+    t.on("the most groups", b"^" + b"(a?)" * GROUPS + b"$", b"a")
     t.on("exhausted at a later start", rb"b(a*)*c", b"ba" * 3 + b"b" + b"a" * 30, budget=3000)
 
 
@@ -478,8 +479,8 @@ line 1: 2 readings
     reading 2  -  0-1
 litres_of_day  ^  0-1
 """ + summary(1, ambiguous="1"))
-    t.on("32 names", b"^" + b"".join(b"(?<g%d>a?)" % g for g in range(1, 33)) + b"$", b"a")
-    t.on("the last of 32 groups has a name", b"^" + b"(a?)" * 31 + b"(?<the_last>a?)$", b"a")
+    t.on("the most names", b"^" + b"".join(b"(?<g%d>a?)" % g for g in range(1, GROUPS + 1)) + b"$", b"a")
+    t.on("the last of the most groups has a name", b"^" + b"(a?)" * (GROUPS - 1) + b"(?<the_last>a?)$", b"a")
     t.on("a name in windows", rb"^(?:(?<the_first_column>a+)|(a+))b*(?<rest>.*)$", b"a" * 60 + b"b" * 10 + b"c" * 90)
 
 TANK = rb"^tank (\w+): (\d+) L$"

@@ -5,6 +5,8 @@ sys.setrecursionlimit(1000000)
 U=4294967295
 S,M,I,X=1,2,4,8
 FLAGS=16 # refused from here on
+GROUPS,NAME=32,16 # the most groups, and the bytes of the longest name
+ROW=2+2*GROUPS; PART=ROW+4; ENTRY=1+NAME; INDEX=GROUPS*ENTRY # the lengths of a row, a line's part, an entry of the name index, the index
 RULE_AREA,CARD_AREA,RULE_BYTES=16384,1064,1000
 class Refuse(Exception):
     def __init__(s,n,p): s.n=n; s.p=p
@@ -48,7 +50,7 @@ class Parser:
     def name(s,i,close,at):
         """the name from i on, closed by this sign, and where it ends; 25 at the place"""
         n,j=s.run(i,WORD)
-        if not 1<=len(n)<=16 or n[0] in '0123456789' or s.ch(j)!=close: raise Refuse(25,at)
+        if not 1<=len(n)<=NAME or n[0] in '0123456789' or s.ch(j)!=close: raise Refuse(25,at)
         return n.encode(),j+1
     def alt(s,depth,opening):
         bs=[s.seq(depth)]
@@ -98,7 +100,7 @@ class Parser:
             if depth>=24: raise Refuse(24,at)
             s.i=at+3; t=s.alt(depth+1,at); g=t
         else:
-            if s.opened>=32: raise Refuse(23,at)
+            if s.opened>=GROUPS: raise Refuse(23,at)
             if depth>=24: raise Refuse(24,at)
             s.opened+=1; k=s.opened; s.i=at+1
             if named:
@@ -279,21 +281,21 @@ class Walk:
         s.go(s.tree,start,{},fin)
 def row(start,i,caps):
     out=[start,i]
-    for g in range(1,33):
+    for g in range(1,GROUPS+1):
         a,b=caps.get(g,(U,U)); out+=[a,b]
     return tuple(out)
 def read(rule,flags): return Parser(rule,flags).parse()
 def index(rule,flags):
-    """the name index of a sound rule: 32 entries of 17 bytes"""
+    """the name index of a sound rule: an entry for each group that a rule can have"""
     p=Parser(rule,flags); p.parse(); by={k:n for n,k in p.names.items()}
-    return b''.join((bytes([len(n)])+n).ljust(17,b'\0') for n in (by.get(k,b'') for k in range(1,33)))
+    return b''.join((bytes([len(n)])+n).ljust(ENTRY,b'\0') for n in (by.get(k,b'') for k in range(1,GROUPS+1)))
 def field(name,idx,line,kind,row,standing):
     """the field lookup: 0 for the line or 1 for the standing text, from, to"""
-    entries=[idx[i:i+17] for i in range(0,min(len(idx),544)-16,17)]
-    hits=[k for k,e in enumerate(entries) if 1<=e[0]<=16 and e[1:1+e[0]]==name]
-    if not hits or kind!=0 or len(row)<66: return 1,0,0
+    entries=[idx[i:i+ENTRY] for i in range(0,min(len(idx),INDEX)-NAME,ENTRY)]
+    hits=[k for k,e in enumerate(entries) if 1<=e[0]<=NAME and e[1:1+e[0]]==name]
+    if not hits or kind!=0 or len(row)<ROW: return 1,0,0
     start,end=row[0],row[1]
-    pairs=[(row[2*k+2],row[2*k+3]) for k in range(32)]
+    pairs=[(row[2*k+2],row[2*k+3]) for k in range(GROUPS)]
     if start>end or end>len(line): return 1,0,0
     if any(p!=(U,U) and not start<=p[0]<=p[1]<=end for p in pairs): return 1,0,0
     a,b=pairs[hits[0]]

@@ -39,7 +39,7 @@
 
 use std::ops::Range;
 
-use crate::raw::{self, Call, CardText, Lookup, ANSWER_LENGTH, READ_ANSWER_LENGTH, WRITE_ANSWER_LENGTH};
+use crate::raw::{self, Call, CardText, Lookup, ANSWER_LENGTH, GROUPS, READ_ANSWER_LENGTH, WRITE_ANSWER_LENGTH};
 pub use crate::refusal::{Reason, Refusal};
 
 /// `.` takes a newline too.
@@ -55,10 +55,10 @@ const RULE_AREA: usize = 16_384;
 const WORK_PER_STEP: usize = 16;
 const MOST_BUDGET: u32 = 100_000;
 const LONGEST_RULE: usize = 1_000;
-const ROW_LENGTH: usize = 66;
-const PART_LENGTH: usize = 70;
-const GROUPS: usize = 32;
-const INDEX_LENGTH: usize = 544;
+const ROW_LENGTH: usize = 2 + 2 * GROUPS;
+const PART_LENGTH: usize = ROW_LENGTH + 4;
+const NAME_ENTRY: usize = 17;
+const INDEX_LENGTH: usize = GROUPS * NAME_ENTRY;
 const UNSET: u32 = u32::MAX;
 const CARD_AREA: usize = 1_064;
 
@@ -348,7 +348,7 @@ impl<'m> Reading<'m> {
         (from != UNSET).then_some(from as usize..to as usize)
     }
 
-    /// What groups 1 to 32 took.
+    /// What each group took that a rule can have, from group 1 on.
     pub fn groups(self) -> impl Iterator<Item = Option<Range<usize>>> + 'm {
         (1..=GROUPS).map(move |number| self.group(number))
     }

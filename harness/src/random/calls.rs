@@ -34,7 +34,7 @@ pub fn case(seed: u64, number: u64) -> Case {
         _ => budget(rng),
     };
     let (rule_area, work_area, result_area) = areas(rng, budget);
-    let name_index = if rng.percent(2) { *rng.pick(&[0, 1, 16, 17, 543]) } else { length(rng, INDEX_LENGTH) };
+    let name_index = if rng.percent(2) { *rng.pick(&[0, 1, 16, 17, 544, INDEX_LENGTH - 1]) } else { length(rng, INDEX_LENGTH) };
     let marks = rule.len();
     Case { call, rule, flags, subject, budget, rule_area, work_area, result_area, name_index, marks }
 }
@@ -67,7 +67,7 @@ fn areas(rng: &mut Rng, budget: u32) -> (usize, usize, usize) {
     let work = if budget > 100_000 { 16 } else { WORK_PER_STEP * budget as usize };
     let rows = 1 + rng.weighted(&[20, 15, 10, 10, 5, 5, 5, 5, 25]);
     let result = ROW_LENGTH * if rows == 9 { rng.between(9, 40) } else { rows } + rng.below(2) * rng.below(ROW_LENGTH);
-    (length(rng, RULE_AREA), length(rng, work), if rng.percent(2) { *rng.pick(&[0, 1, 64, 65]) } else { result })
+    (length(rng, RULE_AREA), length(rng, work), if rng.percent(2) { *rng.pick(&[0, 1, 66, ROW_LENGTH - 2, ROW_LENGTH - 1]) } else { result })
 }
 
 /// Exactly what is needed, or a little more or less.

@@ -54,7 +54,7 @@ pub fn case(seed: u64, number: u64) -> Case {
     case
 }
 
-/// A rule that is refused is not walked at all, and another one is made; that is seldom, with more than 32 groups. Most of those that can take no
+/// A rule that is refused is not walked at all, and another one is made; that is seldom, with more groups than a rule can have. Most of those that can take no
 /// bytes are passed by, too, unless they are for many rows or for references: they match at the first start.
 fn sound_rule(rng: &mut Rng, flags: u32, aim: Aim) -> (Vec<u8>, Rule) {
     loop {
