@@ -11,14 +11,15 @@ pub fn case(seed: u64, number: u64) -> Case {
     let rng = &mut Rng::new(seed, number);
     let flags = if rng.percent(1) { *rng.pick(&[16, 17, 31, 32, 1 << 20, 0x8000_0000, u32::MAX]) } else { rng.below(16) as u32 };
     let style = rules::any_style(rng, flags);
-    let rule = match rng.weighted(&[52, 16, 12, 3, 6, 7, 4]) {
+    let rule = match rng.weighted(&[49, 16, 12, 3, 6, 7, 4, 3]) {
         0 => rules::rule(rng, style),
         1 => damage::damaged(rng, style),
         2 => damage::jumble(rng),
         3 => damage::noise(rng),
         4 => damage::at_limit(rng),
         5 => damage::with_odd_blanks(rng, style),
-        _ => damage::names(rng),
+        6 => damage::names(rng),
+        _ => rules::many_groups(rng, false),
     };
     let tree = independent::read(&rule, flags).ok();
     let mut subject = subjects::subject(rng, tree.as_ref(), style.alphabet);

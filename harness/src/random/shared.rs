@@ -29,7 +29,11 @@ pub fn case(seed: u64, number: u64) -> Option<Shared> {
     let flags = rng.below(16) as u32;
     let style = rules::plain_style(rng, flags);
     // Blanks at odd places are mostly refused; where they are not, they tell what is part of an item.
-    let rule = if style.blanks && rng.percent(10) { damage::with_odd_blanks(rng, style) } else { rules::rule(rng, style) };
+    let rule = match rng.weighted(&[if style.blanks { 10 } else { 0 }, 2, 90]) {
+        0 => damage::with_odd_blanks(rng, style),
+        1 => rules::many_groups(rng, true),
+        _ => rules::rule(rng, style),
+    };
     let tree = independent::read(&rule, flags).ok()?;
     let subject = subjects::subject(rng, Some(&tree), style.alphabet);
     Some(Shared { rule, flags, tree, subject })
