@@ -5,7 +5,7 @@ sys.setrecursionlimit(1000000)
 U=4294967295
 S,M,I,X=1,2,4,8
 FLAGS=16 # refused from here on
-GROUPS,NAME=32,16 # the most groups, and the bytes of the longest name
+GROUPS,NAME=64,16 # the most groups, and the bytes of the longest name
 ROW=2+2*GROUPS; PART=ROW+4; ENTRY=1+NAME; INDEX=GROUPS*ENTRY # the lengths of a row, a line's part, an entry of the name index, the index
 RULE_AREA,CARD_AREA,RULE_BYTES=16384,1064,1000
 class Refuse(Exception):

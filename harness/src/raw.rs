@@ -20,7 +20,7 @@ pub enum Call {
 }
 
 /// The most capturing groups that a rule can have. The lengths of rows, parts and name indices follow from it.
-pub const GROUPS: usize = 32;
+pub const GROUPS: usize = 64;
 
 /// The most numbers that an answer has: those of an explanation. The other calls have the first six.
 pub const ANSWER_LENGTH: usize = 11;

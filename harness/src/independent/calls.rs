@@ -13,7 +13,7 @@ use super::scan;
 use super::tree::Rule;
 use super::walk::{End, Event, Walk};
 
-/// "A row is 66 numbers of 32 bits: start, end, then 32 pairs".
+/// 02 j): "A row becomes 130 numbers: start, end and 64 pairs."
 pub const ROW_LENGTH: usize = 2 + 2 * MOST_GROUPS;
 pub const LONGEST_RULE: usize = 1_000;
 pub const LONGEST_SUBJECT: usize = 65_535;

@@ -33,7 +33,7 @@ pub fn field(lookup: &Lookup) -> Field {
     }
 }
 
-/// "of its first 32 entries the first whole one of that name, length 1 to 16, whatever its padding, counts". Groups are counted from 1.
+/// 02 j): "64 entries, all of them counting in the lookup"; "the first whole one of that name, length 1 to 16, whatever its padding, counts". Groups are counted from 1.
 fn group_of(name: &[u8], index: &[u8]) -> Option<usize> {
     for group in 1..=MOST_GROUPS {
         let entry = index.get(ENTRY_LENGTH * (group - 1)..ENTRY_LENGTH * group)?;
@@ -45,7 +45,7 @@ fn group_of(name: &[u8], index: &[u8]) -> Option<usize> {
     None
 }
 
-/// "If the answer row breaks 01's row rules for the line, that counts as not matched": "A row is 66 numbers", "an unset or missing group is 4294967295
+/// "If the answer row breaks 01's row rules for the line, that counts as not matched": "A row becomes 130 numbers", "old rows are not read", "an unset or missing group is 4294967295
 /// twice. Start <= end <= length, and each set span lies within them." What stands behind these numbers is no part of the row.
 fn has_matched(lookup: &Lookup) -> bool {
     let Some(row) = lookup.row.get(..ROW_LENGTH) else { return false };

@@ -5,9 +5,9 @@ use super::reader::{Reader, Refusal, MOST_GROUPS};
 use super::tree::Rule;
 
 pub const LONGEST_NAME: usize = 16;
-/// "for each of 32 groups 17 bytes, the length (0 if none) and the name padded with 00".
+/// "17 bytes, the length (0 if none) and the name padded with 00"
 pub const ENTRY_LENGTH: usize = 1 + LONGEST_NAME;
-/// "New refusal 8 ..: index under 544 bytes".
+/// 02 j): "The name index becomes 64 entries, .. and 8 is given under 1,088 bytes."
 pub const INDEX_LENGTH: usize = MOST_GROUPS * ENTRY_LENGTH;
 
 /// The name index as a call fills it.

@@ -18,7 +18,7 @@ pub const FLAG_X: u32 = 8;
 /// Document 02: "Refusal 3 now starts at bit 4".
 pub const ALL_FLAGS: u32 = FLAG_S | FLAG_M | FLAG_I | FLAG_X;
 
-/// "23: a 33rd capturing group".
+/// 02 j): "Sixty-four groups", "23 at the 65th group".
 pub const MOST_GROUPS: usize = crate::raw::GROUPS;
 const MOST_DEPTH: usize = 24;
 const GREATEST_BOUND: u64 = 255;
