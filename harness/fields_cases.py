@@ -12,7 +12,7 @@ from pathlib import Path
 
 import reference
 from cases import Cases
-from reference import ENTRY, GROUPS
+from reference import ENTRY, FLAGS, GROUPS
 
 ROOT = Path(__file__).resolve().parent.parent
 PROGRAM = ROOT / "target" / "bin" / "fields"
@@ -153,11 +153,12 @@ def arguments(t):
     good = HEAD + "1\tmatched\t\t1,5\n"
     t.run("plain", ["rule", "lines"], good)
     t.run("all options", ["-f", "i", "-b", "500", "-s", "", "rule", "lines"], good)
+    t.run("the depot profile", ["-f", "iD", "rule", "lines"], good)
     t.run("options in another order", ["-b", "500", "-f", "-", "rule", "lines"], good)
     t.run("the last of two counts", ["-b", "0", "-b", "500", "rule", "lines"], good)
     t.run("an option behind the files is a name", ["rule", "lines", "-f"], "", "fields: the rule has no name -f\n")
     for name, line in (("nothing", []), ("one file", ["rule"]), ("an option without its value", ["-f"]), ("an option and one file", ["-b", "5", "rule"]), ("no such option", ["-z", "1", "rule", "lines"]),
-                       ("a long option", ["--flags", "1", "rule", "lines"]), ("bad flags", ["-f", "q", "rule", "lines"]), ("bad budget", ["-b", "100001", "rule", "lines"]), ("a budget that is no number", ["-b", "1x", "rule", "lines"]),
+                       ("a long option", ["--flags", "1", "rule", "lines"]), ("bad flags", ["-f", "q", "rule", "lines"]), ("flags over their limit", ["-f", "%d" % FLAGS, "rule", "lines"]), ("bad budget", ["-b", "100001", "rule", "lines"]), ("a budget that is no number", ["-b", "1x", "rule", "lines"]),
                        ("a standing text of 4097 bytes", ["-s", "s" * 4097, "rule", "lines"])):
         ran = subprocess.run([str(PROGRAM), *line], capture_output=True)
         t.same("%s, stdout" % name, ran.stdout, b"")

@@ -180,9 +180,11 @@ under the place where that ends, and the rule with ^ under what was expected the
 
 RULE-FILE   the rule is what stands before its first line end
 LINES-FILE  lines of up to 65535 bytes, ended by 0A (a 0D before it is a byte of the line)
-FLAGS       0 to 15, or letters: s (a dot in the rule takes every byte), m (^ and $ at each 0A),
+FLAGS       0 to 31, or letters: s (a dot in the rule takes every byte), m (^ and $ at each 0A),
             i (A to Z and a to z match each other), x (blanks in the rule, and # up to the line's
-            end, are skipped); - for none, as without it
+            end, are skipped), D (the depot profile, which refuses some rules: no references, no
+            repeat without upper bound of what may take no bytes, and no range but of digits, of
+            upper or of lower letters); - for none, as without it
 BUDGET      the steps that each start in a line may take, 0 to 100000; without it 100000
 
 Readings are counted from every start in the line: (\\d+) has three on 12. For readings of whole
@@ -206,12 +208,12 @@ def arguments(t):
     Path("lines").write_bytes(b"1,500 L\n")
     both = ["rule", "lines"]
     two = TWO + summary(1, ambiguous="1")
-    for words in ([], ["rule"], both + ["0", "5", "x"], both + ["%d" % FLAGS], both + ["000%d" % FLAGS], both + ["%d" % (2 * FLAGS - 1)], both + [""], both + ["a"], both + ["I"], both + ["sax"], both + ["i x"],
+    for words in ([], ["rule"], both + ["0", "5", "x"], both + ["%d" % FLAGS], both + ["000%d" % FLAGS], both + ["%d" % (2 * FLAGS - 1)], both + [""], both + ["a"], both + ["I"], both + ["d"], both + ["sax"], both + ["i x"],
                   both + ["x8"], both + ["--"], both + ["-1"], both + ["-i"],
                   both + ["0", "100001"], both + ["0", "4294967296"], both + ["0", "99999999999999999999"], both + ["0", ""], both + ["0", "1k"], both + ["0", "-"]):
         t.run("arguments %r" % words, words, "", USAGE)
     for words in ([], ["-"], ["0"], ["3"], ["s"], ["m"], ["sm"], ["ms"], ["03"], ["-", "100000"], ["-", "1000"], ["-", "0100"], ["i"], ["4"], ["7"], ["007"], ["mis"],
-                  ["i", "1000"]):
+                  ["i", "1000"], ["D"], ["16"], ["23"], ["Dims"]):
         t.run("arguments %r" % words, both + words, two, "")
     # Under `x` the rule's blank is none, and a line with one does not fit.
     without = """\
@@ -222,7 +224,7 @@ line 1: not matched
     expected                           ^^^   ^
               It fits up to `1,500`; then `\\d+` or `L` was expected, and a blank was found.
 """ + summary(1, unmatched=1)
-    for words in (["x"], ["8"], ["15"], ["0012"], ["ix"], ["smix"], ["xims"], ["x", "100000"]):
+    for words in (["x"], ["8"], ["15"], ["31"], ["0012"], ["ix"], ["smix"], ["xims"], ["xD"], ["x", "100000"]):
         t.run("arguments %r" % words, both + words, without, "")
     t.run("no rule file", ["none", "lines"], "", "readings: none: No such file or directory\n")
     t.run("no lines file", ["rule", "none"], "", "readings: none: No such file or directory\n")
@@ -248,6 +250,9 @@ def refusals(t):
     refused("odd bytes", b"\t\xff)", "21 at 2: a ) that closes nothing\n  ..)\n    ^\n")
     refused("a blank before the `?`", b" \ta* ?", "19 at 5: a repeat of a repeat\n   .a* ?\n       ^\n", flags=8)
     refused("a blank in an opening", b"( ?:a)", "17 at 2: a repeat with nothing before it that it could repeat\n  ( ?:a)\n    ^   \n", flags=8)
+    refused("a reference in the depot profile", b"(a)\\1", "27 at 3: a reference, which the depot profile does not allow\n  (a)\\1\n     ^ \n", flags=16)
+    refused("a repeat in the depot profile", b"(a?)*", "28 at 4: a repeat without upper bound of what may take no bytes, which the depot profile does not allow\n  (a?)*\n      ^\n", flags=16)
+    refused("a range in the depot profile", b"[A-z]", "29 at 1: a range whose ends are not two digits, two upper or two lower letters, as the depot profile wants them\n  [A-z]\n   ^   \n", flags=16)
     refused("1001 bytes", b"a" * 1001, "1 at 0: the rule has more than 1000 bytes\n")
     refused("5000 bytes", b"a" * 5000, "1 at 0: the rule has more than 1000 bytes\n")
     refused("in the second window", b"a" * 70 + b"\\", "10 at 70: a backslash with nothing behind it\n  %s\n  aaaaaa\\\n        ^\n" % ("a" * 64))

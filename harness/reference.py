@@ -3,8 +3,8 @@
 import sys
 sys.setrecursionlimit(1000000)
 U=4294967295
-S,M,I,X=1,2,4,8
-FLAGS=16 # refused from here on
+S,M,I,X,DEPOT=1,2,4,8,16
+FLAGS=32 # refused from here on
 GROUPS,NAME=64,16 # the most groups, and the bytes of the longest name
 ROW=2+2*GROUPS; PART=ROW+4; ENTRY=1+NAME; INDEX=GROUPS*ENTRY # the lengths of a row, a line's part, an entry of the name index, the index
 RULE_AREA,CARD_AREA,RULE_BYTES=16384,1064,1000
@@ -39,6 +39,10 @@ class Parser:
         if s.i<len(s.r): raise Refuse(21,s.i)
         for p,n in s.refs: # they are met by rising places
             if not 1<=s.number(n)<=s.opened: raise Refuse(13,p)
+        if s.flags&DEPOT:
+            if s.refs: raise Refuse(27,s.refs[0][0])
+            idle=[r[1] for r in repeats(t) if r[3] is None and least(r[5])==0]
+            if idle: raise Refuse(28,min(idle))
         return s.resolved(t),s.opened
     def number(s,n): return s.names.get(n,0) if isinstance(n,bytes) else n
     def resolved(s,t):
@@ -209,11 +213,26 @@ class Parser:
             if s.ch(s.i)=='-' and s.ch(s.i+1)!=']':
                 s.i+=1; hi=s.element(op)
                 if lo[0]=='s' or hi[0]=='s' or lo[1]>hi[1]: raise Refuse(15,at)
+                if s.flags&DEPOT and not any({lo[1],hi[1]}<=t for t in (D,UP,LO)): raise Refuse(29,at)
                 out|=set(range(lo[1],hi[1]+1))
             elif lo[0]=='b': out.add(lo[1])
             else: out|=lo[1]
         out=s.fold(out)
         return ALL-out if neg else out
+def repeats(t):
+    """all repeats of a tree"""
+    if isinstance(t,list): return [r for x in t for r in repeats(x)]
+    if not isinstance(t,tuple): return []
+    return ([t] if t[0]=='rep' else [])+[r for x in t[1:] for r in repeats(x)]
+def least(t):
+    """the least length of a part"""
+    y=t[0]
+    if y in('set','place','ref'): n=int(y=='set')
+    elif y=='seq': n=sum(map(least,t[1]))
+    elif y=='alt': n=min(map(least,t[1]))
+    elif y=='group': n=least(t[2])
+    else: n=t[2]*least(t[5])
+    return min(n,65536)
 W=SETS['word']
 class Done(Exception): pass
 class Walk:

@@ -2,7 +2,7 @@
 
 use crate::case::{shown_part, shown_row, Case};
 use crate::independent::{
-    self, Answer, Attempt, Ending, Explanation, Miss, FLAG_I, FLAG_M, FLAG_S, FLAG_X, INDEX_LENGTH, LONGEST_NAME, PART_LENGTH, ROW_LENGTH,
+    self, Answer, Attempt, Ending, Explanation, Miss, FLAG_D, FLAG_I, FLAG_M, FLAG_S, FLAG_X, INDEX_LENGTH, LONGEST_NAME, PART_LENGTH, ROW_LENGTH,
 };
 use crate::raw::Call;
 use crate::text;
@@ -227,6 +227,7 @@ pub fn flags(value: &str) -> Option<u32> {
         'm' => Some(FLAG_M),
         'i' => Some(FLAG_I),
         'x' => Some(FLAG_X),
+        'D' => Some(FLAG_D),
         _ => None,
     };
     value.parse().ok().or_else(|| value.chars().map(flag).sum())

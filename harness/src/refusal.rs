@@ -40,6 +40,9 @@ pub enum Reason {
     TooDeep = 24,
     NameIllFormed = 25,
     NameUsedTwice = 26,
+    ReferenceInProfile = 27,
+    EmptyRoundsInProfile = 28,
+    RangeInProfile = 29,
     UnknownRecord = 30,
     CardCutShort = 31,
     RecordsOutOfOrder = 32,
@@ -48,10 +51,10 @@ pub enum Reason {
 }
 
 /// Every reason with its sentence.
-const SENTENCES: [(Reason, &str); 31] = [
+const SENTENCES: [(Reason, &str); 34] = [
     (Reason::RuleTooLong, "the rule is over 1,000 bytes"),
     (Reason::SubjectTooLong, "the subject is over 65,535 bytes"),
-    (Reason::UnknownFlag, "a flag bit above 3 is set"),
+    (Reason::UnknownFlag, "an unknown flag bit is set"),
     (Reason::BudgetTooGreat, "the budget is over 100,000"),
     (Reason::RuleAreaShort, "the rule area is short"),
     (Reason::WorkAreaShort, "the work area is short"),
@@ -75,6 +78,9 @@ const SENTENCES: [(Reason, &str); 31] = [
     (Reason::TooDeep, "groups nest more than 24 deep"),
     (Reason::NameIllFormed, "a name is missing, malformed or not closed"),
     (Reason::NameUsedTwice, "the name is used twice"),
+    (Reason::ReferenceInProfile, "a reference, which the depot profile has not"),
+    (Reason::EmptyRoundsInProfile, "a repeat without upper bound over what can take no bytes, which the depot profile has not"),
+    (Reason::RangeInProfile, "a range that is not of digits, of upper or of lower letters, which the depot profile has not"),
     (Reason::UnknownRecord, "the card has a record of an unknown kind"),
     (Reason::CardCutShort, "the card is cut short"),
     (Reason::RecordsOutOfOrder, "the card's records are in the wrong order or number"),

@@ -50,6 +50,9 @@ pub const FLAG_M: u32 = 2;
 pub const FLAG_I: u32 = 4;
 /// Blanks in the rule, and `#` up to the line's end, are skipped.
 pub const FLAG_X: u32 = 8;
+/// The depot profile: a narrower rule, without references, without repeats that could go round without taking bytes, and with ranges of digits, of
+/// upper or of lower letters alone. What it takes is answered as without it.
+pub const FLAG_D: u32 = 16;
 
 const RULE_AREA: usize = 16_384;
 const WORK_PER_STEP: usize = 16;
@@ -205,7 +208,7 @@ impl Matcher {
         }
     }
 
-    /// The first reading of the line. The flags are `FLAG_S`, `FLAG_M`, `FLAG_I` and `FLAG_X`, as many as are wanted added up, or 0.
+    /// The first reading of the line. The flags are `FLAG_S`, `FLAG_M`, `FLAG_I`, `FLAG_X` and `FLAG_D`, as many as are wanted added up, or 0.
     pub fn match_line(&mut self, rule: &[u8], flags: u32, line: &[u8]) -> Outcome<'_> {
         let Answer { kind, detail, place, steps, .. } = self.call(Call::Match, rule, flags, line);
         outcome([kind, detail], place, steps, Reading { row: &self.rows[..ROW_LENGTH], names: &self.names })

@@ -1,11 +1,11 @@
 //! Calls at the limits of documents 01 and 02: each of refusals 1 to 8 at its last good and first bad value, all of them together in their order,
 //! subjects of 65,535 bytes, the greatest budget, also within a reference, every flag setting, rules of 1,000 bytes that `x` mostly skips, the
-//! longest names and the most, marks of every length around a rule's, as many successive matches as there can be, lines of every length around the
-//! limit and result areas around what they need, and lookups at the edges of an index and of a row.
+//! longest names and the most, least lengths beyond what is held, marks of every length around a rule's, as many successive matches as there can be,
+//! lines of every length around the limit and result areas around what they need, and lookups at the edges of an index and of a row.
 
 use harness::case::{shown, Case};
 use harness::independent::{
-    Ending, ALL_FLAGS, ENTRY_LENGTH, FLAG_I, FLAG_X, INDEX_LENGTH, LONGEST_NAME, MOST_GROUPS, PART_LENGTH, ROW_LENGTH, UNSET,
+    Ending, ALL_FLAGS, ENTRY_LENGTH, FLAG_D, FLAG_I, FLAG_X, INDEX_LENGTH, LONGEST_NAME, MOST_GROUPS, PART_LENGTH, ROW_LENGTH, UNSET,
 };
 use harness::lender::Lender;
 use harness::looker::{self, Looker};
@@ -29,6 +29,7 @@ fn main() -> std::process::ExitCode {
         names(&mut group, &mut lender, call);
         index_lengths(&mut group, &mut lender, call);
     }
+    least_lengths(&mut group, &mut lender);
     marks(&mut group, &mut lender);
     far_attempts(&mut group, &mut lender);
     most_matches(&mut group, &mut lender);
@@ -247,6 +248,21 @@ fn index_lengths(group: &mut Group, lender: &mut Lender, call: Call) {
             judge(group, lender, &Case { name_index, result_area: ROW_LENGTH - 1, ..case.clone() });
             judge(group, lender, &Case { name_index, budget: 1, ..case.clone() });
             judge(group, lender, &Case { name_index, ..case });
+        }
+    }
+}
+
+/// Least lengths up to and beyond what is held, in repeats that nest and in parts that follow one another: none of them is 0 where a number is too small
+/// for it.
+fn least_lengths(group: &mut Group, lender: &mut Lender) {
+    for (bound, levels) in [(2, 23), (4, 16), (16, 16), (64, 11), (128, 5), (255, 23), (256, 1)] {
+        for inside in ["a", "a?", "", "ab|", "^", "[^\\d\\D]"] {
+            let nested = format!("{}{inside}{}", "(?:".repeat(levels), format!("){{{bound}}}").repeat(levels));
+            for rule in
+                [format!("(?:{nested})*"), format!("(?:{nested}{nested})+?"), format!("(?:{nested}|b){{0,}}"), format!("(?:{nested}|b?){{0,}}")]
+            {
+                judge(group, lender, &Case::new(Call::Match, rule.as_bytes(), FLAG_D, b"ab", 300, 1));
+            }
         }
     }
 }

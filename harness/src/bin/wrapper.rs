@@ -8,7 +8,7 @@ use harness::random::{calls, cards as random_cards};
 use harness::raw::Call;
 use harness::report::Group;
 use harness::terravisco::{
-    Attempt, Card, Cards, Explanation, Failure, Lines, Listing, Matcher, Outcome, Readings, Reason, Refusal, FLAG_I, FLAG_M, FLAG_S, FLAG_X,
+    Attempt, Card, Cards, Explanation, Failure, Lines, Listing, Matcher, Outcome, Readings, Reason, Refusal, FLAG_D, FLAG_I, FLAG_M, FLAG_S, FLAG_X,
 };
 
 const BUDGET: u32 = 1_000;
@@ -43,7 +43,7 @@ fn random_calls(seed: u64) -> Vec<(String, Vec<String>)> {
     let mut judged = Vec::new();
     for number in 0..2_000 {
         let random = calls::case(seed, number);
-        let flags = random.flags & (FLAG_S | FLAG_M | FLAG_I | FLAG_X);
+        let flags = random.flags & (FLAG_S | FLAG_M | FLAG_I | FLAG_X | FLAG_D);
         for call in [random.call, Call::Explain, Call::Scan, Call::Batch] {
             // The matcher has room for every line.
             let room = if call == Call::Batch { random.subject.len() + 1 } else { ROWS };
@@ -86,7 +86,14 @@ fn flags(group: &mut Group, matcher: &mut Matcher) {
         let expected = [0, FLAG_S, FLAG_M, FLAG_I, FLAG_X].map(|flags| flags == flag);
         group.judge(&format!("flag {flag}"), &if matches == expected { Vec::new() } else { vec![format!("{matches:?}")] });
     }
-    let refused = matches!(matcher.match_line(b"a", 16, b"a"), Outcome::Refused(Refusal { reason: Reason::UnknownFlag, place: 0 }));
+    let refused = matches!(matcher.match_line(b"a", 32, b"a"), Outcome::Refused(Refusal { reason: Reason::UnknownFlag, place: 0 }));
+    let narrow = [
+        matches!(matcher.match_line(br"(\d+),\d", FLAG_D, b"1,5"), Outcome::Matched { .. }),
+        matches!(matcher.match_line(br"(a)\1", FLAG_D, b"aa"), Outcome::Refused(Refusal { reason: Reason::ReferenceInProfile, place: 3 })),
+        matches!(matcher.match_line(br"(a?)*", FLAG_D, b"aa"), Outcome::Refused(Refusal { reason: Reason::EmptyRoundsInProfile, place: 4 })),
+        matches!(matcher.match_line(br"[A-z]", FLAG_D, b"aa"), Outcome::Refused(Refusal { reason: Reason::RangeInProfile, place: 1 })),
+    ];
+    group.judge("the depot profile", &if narrow == [true; 4] { Vec::new() } else { vec![format!("{narrow:?}")] });
     group.judge("an unknown flag", &if refused { Vec::new() } else { vec!["it is not refused".to_string()] });
 }
 

@@ -9,7 +9,7 @@ use crate::raw::Call;
 /// The case of this seed and number.
 pub fn case(seed: u64, number: u64) -> Case {
     let rng = &mut Rng::new(seed, number);
-    let flags = if rng.percent(1) { *rng.pick(&[16, 17, 31, 32, 1 << 20, 0x8000_0000, u32::MAX]) } else { rng.below(16) as u32 };
+    let flags = if rng.percent(1) { *rng.pick(&[32, 33, 48, 63, 64, 1 << 20, 0x8000_0000, u32::MAX]) } else { super::flags(rng) };
     let style = rules::any_style(rng, flags);
     let rule = match rng.weighted(&[49, 16, 12, 3, 6, 7, 4, 3]) {
         0 => rules::rule(rng, style),

@@ -6,7 +6,7 @@ use super::rules::{self, Style};
 use super::{calls, sound, Rng};
 use crate::cards::{Asked, CardCase};
 use crate::independent::cards::{CARD_AREA, RULE_BYTES};
-use crate::independent::{self, ALL_FLAGS, RULE_AREA};
+use crate::independent::{self, RULE_AREA};
 
 /// The case of this seed and number.
 pub fn case(seed: u64, number: u64) -> CardCase {
@@ -22,7 +22,7 @@ pub fn case(seed: u64, number: u64) -> CardCase {
 
 /// Mostly a sound rule, else one of any kind, or one that is about as long as a rule may be.
 fn rule(rng: &mut Rng, seed: u64, number: u64) -> (Vec<u8>, u32) {
-    let flags = rng.number() as u32 & ALL_FLAGS;
+    let flags = super::flags(rng);
     match rng.weighted(&[70, 25, 5]) {
         0 => (sound::rule(rng, flags, |rng| Style { depth: 3, ..rules::any_style(rng, flags) }, &[("", "")]).0, flags),
         1 => {

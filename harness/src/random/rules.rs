@@ -72,6 +72,60 @@ pub fn rule(rng: &mut Rng, style: Style) -> Vec<u8> {
     maker.rule
 }
 
+/// What the depot profile takes and what it refuses, with repeats of every kind over what can take no bytes and over what cannot.
+const PROFILE_PIECES: [&str; 30] = [
+    "a",
+    "a",
+    "b",
+    "[a-z]",
+    "[A-Z]",
+    "[0-9]",
+    "[A-z]",
+    "[a-\\x7a]",
+    "[,-9]",
+    "[^\\d\\D]",
+    "^",
+    "\\b",
+    "a?",
+    "a??",
+    "a{0}",
+    "a{2}",
+    "a{1,3}",
+    "(",
+    "(",
+    "(?:",
+    "(?:",
+    ")",
+    ")",
+    ")*",
+    ")+",
+    "){2,}?",
+    "){0,2}",
+    "|",
+    "*",
+    "\\1",
+];
+
+/// A few of these pieces in any order, with the brackets that are open closed.
+pub fn for_profile(rng: &mut Rng) -> Vec<u8> {
+    let (mut rule, mut open) = (String::new(), 0);
+    let pieces = rng.between(1, 10);
+    for _ in 0..pieces {
+        let piece = *rng.pick(&PROFILE_PIECES);
+        // A bracket that closes nothing, and a reference in most rules, would hide all the rest.
+        if (piece.starts_with(')') && open == 0) || (piece == "\\1" && rng.percent(60)) {
+            continue;
+        }
+        open += usize::from(piece.starts_with('('));
+        open -= usize::from(piece.starts_with(')'));
+        rule += piece;
+    }
+    for _ in 0..open {
+        rule += *rng.pick(&[")", ")", ")*", ")+?", ")?", "){3}", "){0,}"]);
+    }
+    rule.into_bytes()
+}
+
 /// A rule of about as many groups as there can be, some of them with names, with references to any of them, before the group too; in some rules it is all
 /// repeated. Unless other matchers are to read it, it has seldom a group too many, or a reference to one.
 pub fn many_groups(rng: &mut Rng, plain: bool) -> Vec<u8> {
