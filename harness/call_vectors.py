@@ -10,7 +10,7 @@ import sys
 from pathlib import Path
 
 import reference
-from reference import ENTRY, FLAGS, GROUPS, I, INDEX, M, PART, ROW, RULE_AREA, S, X
+from reference import DEPOT, ENTRY, FLAGS, GROUPS, I, INDEX, M, PART, ROW, RULE_AREA, S, X
 from walk_vectors import NAMED_READINGS, READINGS, within_references
 
 TARGET = Path(__file__).resolve().parent.parent / "crates" / "call_vectors"
@@ -91,8 +91,9 @@ def cases():
         for kind in (0, 1):
             yield kind, rule, flags, subject, 1000, (RULE_AREA, 16000, RESULTS)
         yield 1, rule, flags, subject, 1000, (RULE_AREA, 16000, ROW)
-        for budget in (0, 1, 6, 7, 8) if sound(rule, flags) else (0,):
+        for budget in (0, 1, 6, 7) if sound(rule, flags) else (0,):
             yield 0, rule, flags, subject, budget, (RULE_AREA, 16 * budget, ROW)
+        for budget in (0, 6, 8) if sound(rule, flags) else (0,):
             yield 1, rule, flags, subject, budget, (RULE_AREA, 16 * budget, 2 * ROW)
     for rule, flags, subject, _, budget in within_references():
         yield budget % 2, rule, flags, subject, budget, (RULE_AREA, 16 * budget, ROW)
@@ -125,9 +126,35 @@ def cases():
         yield kind, b"(", 0, b"a", 10, (RULE_AREA, 160, 0)
         yield kind, b"(", 0, b"a", 10, (RULE_AREA, 160, ROW)
         yield from names(kind)
+    yield from profile()
+    yield from most_groups()
     yield from explanations()
     yield from scans()
     yield from batches()
+
+
+def profile():
+    """Each call under the depot profile: taken, and refused by each of its numbers and by others before them."""
+    for kind, need in ((MATCH, ROW), (LIST, 9 * ROW), (EXPLAIN, 9), (SCAN, 9 * ROW), (BATCH, 2 * PART)):
+        for rule, flags in ((b"(?<n>a+)(?:,[0-9])*", DEPOT), (b"( a | b ) {0,2}", DEPOT | X), (b"[A-z]", DEPOT), (b"(a?)*", DEPOT), (b"(a)\\1", DEPOT), (b"()*(a)\\2", DEPOT | I), (b"\\1[a-z]*", DEPOT)):
+            yield kind, rule, flags, b"aa,1", 99, (RULE_AREA, 1584, need, INDEX)
+    for kind in (MATCH, SCAN):
+        for rule, areas in ((b"[A-z]", (RULE_AREA, 1584, ROW, INDEX - 1)), (b"(a?)*", (RULE_AREA, 1584, ROW - 1, INDEX)), (b"(a)\\1", (RULE_AREA - 1, 1584, ROW, INDEX))):
+            yield kind, rule, DEPOT, b"a", 99, areas
+
+
+def most_groups():
+    """As many groups as a rule can have, in every call, each with a span; one more; references to the last and behind it."""
+    many, line = b"(a)" * GROUPS, b"a" * GROUPS
+    for kind, need in ((MATCH, ROW), (LIST, 2 * ROW), (EXPLAIN, 9), (SCAN, 2 * ROW), (BATCH, 2 * PART)):
+        for rule in (many, many + b"()", many + b"\\%d" % GROUPS, many + b"\\%d" % (GROUPS + 1)):
+            yield kind, rule, 0, line + b"a", 999, (RULE_AREA, 15984, need, INDEX)
+    # what was enough for half as many groups
+    for kind in (MATCH, LIST, SCAN):
+        for results in (GROUPS + 2, ROW - 1, ROW):
+            yield kind, b"a", 0, b"a", 9, (RULE_AREA, 144, results, INDEX)
+    for results in (GROUPS + 6, PART - 1, PART):
+        yield BATCH, b"a", 0, b"a", 9, (RULE_AREA, 144, results, INDEX)
 
 
 # What f)'s open points turn on, and each kind of item and of node: rule, flags, line.
@@ -275,8 +302,8 @@ def main():
     asked, answers = [], []
     for kind, rule, flags, subject, budget, areas in cases():
         areas += (INDEX,) * (4 - len(areas))
-        # a rule is one word: in hex, or in the later kinds as so many letters
-        written = given(rule, 999) if kind in (SCAN, BATCH) else rule.hex()
+        # a rule is one word: in hex, or as so many letters
+        written = given(rule, 999)
         # call, flags, budget, the lengths of the areas and of the name index, rule, subject
         asked.append("%d %d %d %d %d %d %d %s %s\n" % (kind, flags, budget, *areas, written, given(subject, 1000)))
         # in these calls an explanation has as many marks as another call has numbers in its result area
