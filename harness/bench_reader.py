@@ -31,7 +31,7 @@ RULES = {
 def main():
     nothing = shortest(PROGRAM, b"", RUNS)
     for name, rule in RULES.items():
-        data = (b"0" + rule.hex().encode() + b"\n") * COPIES
+        data = (b"0 " + rule.hex().encode() + b"\n") * COPIES
         print("%-32s %5d bytes  %6.1f us" % (name, len(rule), (shortest(PROGRAM, data, RUNS) - nothing) / COPIES * 1e6))
 
 

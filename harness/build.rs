@@ -32,6 +32,7 @@ fn link_terravisco() {
     tell_age(&archive, "before_explanations", b"terravisco_explain");
     tell_age(&archive, "before_scans", b"terravisco_match_all");
     tell_age(&archive, "before_batches", b"terravisco_match_lines");
+    tell_age(&archive, "before_cards", b"terravisco_card_read");
 }
 
 /// Tells the program if the archive is from before this function. Such a one can still be timed.

@@ -10,11 +10,12 @@ import sys
 from pathlib import Path
 
 import reference
-from reference import I, M, S, X
+from reference import DEPOT, ENTRY, FLAGS, GROUPS, I, INDEX, M, PART, ROW, RULE_AREA, S, X
 from walk_vectors import NAMED_READINGS, READINGS, within_references
 
 TARGET = Path(__file__).resolve().parent.parent / "crates" / "call_vectors"
-RULE_AREA, ROW, PART, INDEX = 16384, 66, 70, 544
+RESULTS = 100 * ROW  # the numbers of the largest result area that the program lends, and the whole parts in it
+PARTS = RESULTS // PART
 MOST = 100000  # the largest budget
 ROOM = 131072  # what the program reads of its input
 MATCH, LIST, EXPLAIN, SCAN, BATCH = range(5)
@@ -24,13 +25,13 @@ CLASSES = [b"[k]", b"[^k]", b"[W-c]", b"[^A-Y]", b"[[:upper:]]", b"[^[:^upper:]b
 
 
 def row_line(row):
-    spans = "".join(" %d:%d-%d" % (g, row[2 * g], row[2 * g + 1]) for g in range(1, 33) if row[2 * g] != reference.U)
+    spans = "".join(" %d:%d-%d" % (g, row[2 * g], row[2 * g + 1]) for g in range(1, GROUPS + 1) if row[2 * g] != reference.U)
     return "  %d %d%s" % (row[0], row[1], spans)
 
 
 def names_line(index):
-    """The entries that are not all 00, each with its group and its 17 bytes; no line where there is none."""
-    entries = [(g, index[17 * g - 17:17 * g]) for g in range(1, 33)]
+    """The entries that are not all 00, each with its group and its bytes; no line where there is none."""
+    entries = [(g, index[ENTRY * g - ENTRY:ENTRY * g]) for g in range(1, GROUPS + 1)]
     shown = "".join(" %d:%s" % (g, entry.hex()) for g, entry in entries if any(entry))
     return ["  names" + shown] if shown else []
 
@@ -53,7 +54,7 @@ def part_line(got):
 def refusal(kind, rule, flags, subject, budget, areas):
     """Refusals 1 to 8, in their order; 0 for none. An explanation is lent no result area; of a batch the lines may be too long, and too many."""
     is_short = {EXPLAIN: lambda: False, BATCH: lambda: len(reference.lines(subject)) > areas[2] // PART}.get(kind, lambda: areas[2] < ROW)
-    tests = [len(rule) > 1000, kind != BATCH and len(subject) > 65535, flags > 15, budget > 100000, areas[0] < RULE_AREA,
+    tests = [len(rule) > 1000, kind != BATCH and len(subject) > 65535, flags >= FLAGS, budget > 100000, areas[0] < RULE_AREA,
              areas[1] < 16 * budget, is_short(), areas[3] < INDEX]
     return tests.index(True) + 1 if True in tests else 0
 
@@ -88,10 +89,11 @@ def cases():
     """kind, rule, flags, subject, budget, lengths of the areas, and of the name index where it is not just enough."""
     for rule, flags, subject in READINGS:
         for kind in (0, 1):
-            yield kind, rule, flags, subject, 1000, (RULE_AREA, 16000, 6600)
+            yield kind, rule, flags, subject, 1000, (RULE_AREA, 16000, RESULTS)
         yield 1, rule, flags, subject, 1000, (RULE_AREA, 16000, ROW)
-        for budget in (0, 1, 6, 7, 8) if sound(rule, flags) else (0,):
+        for budget in (0, 1, 6, 7) if sound(rule, flags) else (0,):
             yield 0, rule, flags, subject, budget, (RULE_AREA, 16 * budget, ROW)
+        for budget in (0, 6, 8) if sound(rule, flags) else (0,):
             yield 1, rule, flags, subject, budget, (RULE_AREA, 16 * budget, 2 * ROW)
     for rule, flags, subject, _, budget in within_references():
         yield budget % 2, rule, flags, subject, budget, (RULE_AREA, 16 * budget, ROW)
@@ -101,11 +103,11 @@ def cases():
             yield kind, b"a*", 0, b"aa", budget, (RULE_AREA, work, ROW)
         for area in (0, RULE_AREA - 1, RULE_AREA):
             yield kind, b"a", 0, b"a", 10, (area, 160, ROW)
-        for results in (0, 65, 66, 67, 131, 132, 133):
+        for results in (0, ROW - 1, ROW, ROW + 1, 2 * ROW - 1, 2 * ROW, 2 * ROW + 1):
             yield kind, b"", 0, b"a", 10, (RULE_AREA, 160, results)
-        for flags in (*range(18), 31, 32, 1000):
-            yield kind, b"^.$", flags, b"\n", 10, (RULE_AREA, 160, 660)
-            yield kind, b"a ^ B", flags, b"A\nb", 10, (RULE_AREA, 160, 660)
+        for flags in (*range(FLAGS + 2), 2 * FLAGS - 1, 2 * FLAGS, 1000):
+            yield kind, b"^.$", flags, b"\n", 10, (RULE_AREA, 160, 10 * ROW)
+            yield kind, b"a ^ B", flags, b"A\nb", 10, (RULE_AREA, 160, 10 * ROW)
         for size in (1000, 1001):
             yield kind, b"a" * size, 0, b"a", 10, (RULE_AREA, 160, ROW)
             yield kind, b"a" + b" " * (size - 2) + b"*", X, b"a", 10, (RULE_AREA, 160, ROW)
@@ -115,18 +117,44 @@ def cases():
             yield kind, b"\\z", 0, b"a" * size, 10, (RULE_AREA, 160, ROW)
         yield from at_the_largest_budget(kind)
         # two faults: the lower number
-        yield kind, b"a" * 1001, 16, b"a" * 65536, 100001, (0, 0, 0)
-        yield kind, b"(", 16, b"a" * 65536, 100001, (0, 0, 0)
-        yield kind, b"(", 16, b"a", 100001, (0, 0, 0)
+        yield kind, b"a" * 1001, FLAGS, b"a" * 65536, 100001, (0, 0, 0)
+        yield kind, b"(", FLAGS, b"a" * 65536, 100001, (0, 0, 0)
+        yield kind, b"(", FLAGS, b"a", 100001, (0, 0, 0)
         yield kind, b"(", 0, b"a", 100001, (0, 0, 0)
         yield kind, b"(", 0, b"a", 10, (0, 0, 0)
         yield kind, b"(", 0, b"a", 10, (RULE_AREA, 0, 0)
         yield kind, b"(", 0, b"a", 10, (RULE_AREA, 160, 0)
         yield kind, b"(", 0, b"a", 10, (RULE_AREA, 160, ROW)
         yield from names(kind)
+    yield from profile()
+    yield from most_groups()
     yield from explanations()
     yield from scans()
     yield from batches()
+
+
+def profile():
+    """Each call under the depot profile: taken, and refused by each of its numbers and by others before them."""
+    for kind, need in ((MATCH, ROW), (LIST, 9 * ROW), (EXPLAIN, 9), (SCAN, 9 * ROW), (BATCH, 2 * PART)):
+        for rule, flags in ((b"(?<n>a+)(?:,[0-9])*", DEPOT), (b"( a | b ) {0,2}", DEPOT | X), (b"[A-z]", DEPOT), (b"(a?)*", DEPOT), (b"(a)\\1", DEPOT), (b"()*(a)\\2", DEPOT | I), (b"\\1[a-z]*", DEPOT)):
+            yield kind, rule, flags, b"aa,1", 99, (RULE_AREA, 1584, need, INDEX)
+    for kind in (MATCH, SCAN):
+        for rule, areas in ((b"[A-z]", (RULE_AREA, 1584, ROW, INDEX - 1)), (b"(a?)*", (RULE_AREA, 1584, ROW - 1, INDEX)), (b"(a)\\1", (RULE_AREA - 1, 1584, ROW, INDEX))):
+            yield kind, rule, DEPOT, b"a", 99, areas
+
+
+def most_groups():
+    """As many groups as a rule can have, in every call, each with a span; one more; references to the last and behind it."""
+    many, line = b"(a)" * GROUPS, b"a" * GROUPS
+    for kind, need in ((MATCH, ROW), (LIST, 2 * ROW), (EXPLAIN, 9), (SCAN, 2 * ROW), (BATCH, 2 * PART)):
+        for rule in (many, many + b"()", many + b"\\%d" % GROUPS, many + b"\\%d" % (GROUPS + 1)):
+            yield kind, rule, 0, line + b"a", 999, (RULE_AREA, 15984, need, INDEX)
+    # what was enough for half as many groups
+    for kind in (MATCH, LIST, SCAN):
+        for results in (GROUPS + 2, ROW - 1, ROW):
+            yield kind, b"a", 0, b"a", 9, (RULE_AREA, 144, results, INDEX)
+    for results in (GROUPS + 6, PART - 1, PART):
+        yield BATCH, b"a", 0, b"a", 9, (RULE_AREA, 144, results, INDEX)
 
 
 # What f)'s open points turn on, and each kind of item and of node: rule, flags, line.
@@ -142,7 +170,7 @@ def explanations():
             yield EXPLAIN, rule, flags, subject, 200, (RULE_AREA, 3200, marks, INDEX)
     for marks in (0, 1, 4, 1001):
         yield EXPLAIN, b"abc", 0, b"abd", 10, (RULE_AREA, 160, marks, INDEX)
-    for rule, budget, index in ((b"a", 9, 544), (b"a*b", 4, 600), (b"(", 9, 544), (b"(", 9, 543), (b"b", 9, 543), (b"(?<n>b)", 9, 544)):
+    for rule, budget, index in ((b"a", 9, INDEX), (b"a*b", 4, INDEX + 56), (b"(", 9, INDEX), (b"(", 9, INDEX - 1), (b"b", 9, INDEX - 1), (b"(?<n>b)", 9, INDEX)):
         yield EXPLAIN, rule, 0, b"aa", budget, (RULE_AREA, 16 * budget, 9, index)
 
 
@@ -157,14 +185,14 @@ SUCCESSIVE = [(b"(\\d+) L", 0, b"820 L, 64 L"), (b"aa", 0, b"aaaaa"), (b"a??", 0
 def scans():
     """Successive matches: the open points, room that is full or just enough, budgets that end at a try with its empty end barred or beside it."""
     for rule, flags, subject in SUCCESSIVE:
-        yield SCAN, rule, flags, subject, 100, (RULE_AREA, 1600, 660)
+        yield SCAN, rule, flags, subject, 100, (RULE_AREA, 1600, 10 * ROW)
     for rule, subject, results in ((b"a", b"a", ROW), (b"a", b"aa", ROW), (b"a", b"aa", 2 * ROW - 1), (b"a", b"aa", 2 * ROW), (b"", b"a", ROW),
                                    (b"", b"a", 2 * ROW), (b"a??", b"a", ROW), (b"a??", b"a", 3 * ROW)):
         yield SCAN, rule, 0, subject, 9, (RULE_AREA, 144, results)
     for rule, subject, budgets in ((b"", b"abc", (0, 1)), (b"|a", b"", (1, 2, 3)), (b"|a{3}", b"a", (2, 3, 4, 5, 6)), (b"a{3}|b", b"baa", (6, 7)),
                                    (b"a*", b"aa", (6, 7))):
         for budget in budgets:
-            yield SCAN, rule, 0, subject, budget, (RULE_AREA, 16 * budget, 660)
+            yield SCAN, rule, 0, subject, budget, (RULE_AREA, 16 * budget, 10 * ROW)
     # room for one row: the second try is exhausted before it is known whether the room is full
     yield SCAN, b"|a{3}", 0, b"a", 3, (RULE_AREA, 48, ROW)
     # a line of 65,536 bytes is too long, one of 65,535 is not
@@ -185,7 +213,7 @@ def batches():
         yield BATCH, rule, flags, buffer, 100, (RULE_AREA, 1600, 5 * PART)
     for rule, buffer, results in ((b"a", b"a\nb", 2 * PART - 1), (b"a", b"a\nb", 2 * PART), (b"a", b"a\nb", 2 * PART + 1), (b"a", b"a\nb\n", 2 * PART),
                                   (b"a", b"a\nb\n\n", 2 * PART), (b"a", b"\n", PART - 1), (b"a", b"a", 3 * PART + 5), (b"a", b"", 0),
-                                  (b"(?<n>a)", b"", 0), (b"(", b"", 0), (b"", b"\n" * 94, 94 * PART), (b"", b"\n" * 95, 6600)):
+                                  (b"(?<n>a)", b"", 0), (b"(", b"", 0), (b"", b"\n" * PARTS, PARTS * PART), (b"", b"\n" * (PARTS + 1), RESULTS)):
         yield BATCH, rule, 0, buffer, 9, (RULE_AREA, 144, results)
     for rule, buffer, budgets in ((b"a*", b"aa\na\n\naa", (0, 2, 3, 6, 7)), (b"b|a{2}", b"caa\nb", (5, 6))):
         for budget in budgets:
@@ -204,36 +232,36 @@ def refusals(kind, subject, need):
     """Each of the refusals 1 to 8 at its last good and its first bad value, then faults together: the lower number."""
     for size in (1000, 1001):
         yield kind, b"a" * size, 0, subject, 9, (RULE_AREA, 144, need)
-    for flags in (15, 16):
+    for flags in (FLAGS - 1, FLAGS):
         yield kind, b"a", flags, subject, 9, (RULE_AREA, 144, need)
     for budget in (MOST, MOST + 1):
         yield kind, b"a", 0, subject, budget, (RULE_AREA, 16 * MOST, need)
     for area, work, results, index in ((RULE_AREA, 144, need, INDEX), (RULE_AREA - 1, 144, need, INDEX), (RULE_AREA, 143, need, INDEX),
                                        (RULE_AREA, 144, need - 1, INDEX), (RULE_AREA, 144, need, INDEX - 1)):
         yield kind, b"a", 0, subject, 9, (area, work, results, index)
-    for rule, size, flags, budget, areas in ((b"a" * 1001, 65536, 16, MOST + 1, (0, 0, 0, 0)), (b"(", 65536, 16, MOST + 1, (0, 0, 0, 0)),
-                                             (b"(", 1, 16, MOST + 1, (0, 0, 0, 0)), (b"(", 1, 0, MOST + 1, (0, 0, 0, 0)), (b"(", 1, 0, 9, (0, 0, 0, 0)),
+    for rule, size, flags, budget, areas in ((b"a" * 1001, 65536, FLAGS, MOST + 1, (0, 0, 0, 0)), (b"(", 65536, FLAGS, MOST + 1, (0, 0, 0, 0)),
+                                             (b"(", 1, FLAGS, MOST + 1, (0, 0, 0, 0)), (b"(", 1, 0, MOST + 1, (0, 0, 0, 0)), (b"(", 1, 0, 9, (0, 0, 0, 0)),
                                              (b"(", 1, 0, 9, (RULE_AREA, 0, 0, 0)), (b"(", 1, 0, 9, (RULE_AREA, 144, 0, 0)),
                                              (b"(", 1, 0, 9, (RULE_AREA, 144, need, 0)), (b"(", 1, 0, 9, (RULE_AREA, 144, need, INDEX))):
         yield kind, rule, flags, b"a" * size, budget, areas
 
 
 def names(kind):
-    """Indices around 544 bytes; refusals 7, 8 and those of the rule in their order; the index after each outcome; the most names and the longest."""
-    for index in (0, 543, 544, 545):
+    """Indices around what is needed; refusals 7, 8 and those of the rule in their order; the index after each outcome; the most names and the longest."""
+    for index in (0, INDEX - 1, INDEX, INDEX + 1):
         for rule in (b"", b"(?<n>a)", b"(?<n>a", b"(?<n>a)(?<n>b)", b"\\k<n>"):
             yield kind, rule, 0, b"a", 10, (RULE_AREA, 160, ROW, index)
         yield kind, b"(?<n>a", 0, b"a", 10, (RULE_AREA, 160, ROW - 1, index)
-        yield kind, b"(", 16, b"a" * 65536, 100001, (0, 0, 0, index)
-    for index in (546, 561, 599, 600):
+        yield kind, b"(", FLAGS, b"a" * 65536, 100001, (0, 0, 0, index)
+    for index in (INDEX + 2, INDEX + ENTRY, INDEX + 55, INDEX + 56):
         yield kind, b"(?<n>a)", 0, b"a", 10, (RULE_AREA, 160, ROW, index)
     for rule, flags, subject in NAMED_READINGS:
-        yield kind, rule, flags, subject, 1000, (RULE_AREA, 16000, 6600)
+        yield kind, rule, flags, subject, 1000, (RULE_AREA, 16000, RESULTS)
     for rule, budget in ((b"(?<n>b)", 10), (b"(?<n>a)(?<m>b)?", 3), (b"()(?<litres>\\d+)()", 100), (b"(?<A>a)|(?<a>a)|(?<_>a)", 100)):
-        yield kind, rule, 0, b"a1", budget, (RULE_AREA, 16 * budget, 4 * ROW, 600)
+        yield kind, rule, 0, b"a1", budget, (RULE_AREA, 16 * budget, 4 * ROW, INDEX + 56)
     many = b"(?<n%d>a?)" if kind else b"(?<abcdefghijkl_%03d>a?)"
-    yield kind, b"".join(many % k for k in range(32)), 0, b"aa", 1000, (RULE_AREA, 16000, ROW, 545)
-    yield kind, b"()" * 31 + b"(?<abcdefghijklmnop>a)", 0, b"a", 1000, (RULE_AREA, 16000, ROW, 544)
+    yield kind, b"".join(many % k for k in range(min(GROUPS, 1000 // len(many % 0)))), 0, b"aa", 1000, (RULE_AREA, 16000, ROW, INDEX + 1)
+    yield kind, b"()" * (GROUPS - 1) + b"(?<abcdefghijklmnop>a)", 0, b"a", 1000, (RULE_AREA, 16000, ROW, INDEX)
 
 
 def classes():
@@ -274,8 +302,8 @@ def main():
     asked, answers = [], []
     for kind, rule, flags, subject, budget, areas in cases():
         areas += (INDEX,) * (4 - len(areas))
-        # a rule is one word: in hex, or in the later kinds as so many letters
-        written = given(rule, 999) if kind in (SCAN, BATCH) else rule.hex()
+        # a rule is one word: in hex, or as so many letters
+        written = given(rule, 999)
         # call, flags, budget, the lengths of the areas and of the name index, rule, subject
         asked.append("%d %d %d %d %d %d %d %s %s\n" % (kind, flags, budget, *areas, written, given(subject, 1000)))
         # in these calls an explanation has as many marks as another call has numbers in its result area

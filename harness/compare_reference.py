@@ -6,6 +6,7 @@ Neither is the library, and they share no line: where they differ, one of the tw
 Usage: harness/compare_reference.py [ARGUMENTS OF print_calls] (after `cargo build --release` in harness/), such as --explanations,
        --scans or --batches
        harness/compare_reference.py --lookups [ARGUMENTS OF print_lookups], for the field lookup
+       harness/compare_reference.py --cards [ARGUMENTS OF print_cards], for rule cards
 """
 import subprocess
 import sys
@@ -48,10 +49,25 @@ def lookup(fields):
     return "%d %d %d" % field
 
 
+def card(fields):
+    """What reference.py says of a line of print_cards."""
+    rule, flags, given, *areas = fields
+    try:
+        if rule != "read":
+            return "written " + reference.card_write(bytes.fromhex(rule), int(flags), int(given), *map(int, areas)).hex()
+        rule, *said = reference.card_read(bytes.fromhex(given), *map(int, areas))
+        return "read %s flags %d budget %d groups %d" % (rule.hex(), *said)
+    except reference.Refuse as refused:
+        return "refused %d at %d" % (refused.n, refused.p)
+
+
+OTHERS = {"--lookups": ("print_lookups", lookup, "lookups"), "--cards": ("print_cards", card, "cards")}
+
+
 def main():
     arguments, compared, differ = sys.argv[1:], 0, 0
-    program, told, what = ("print_lookups", lookup, "lookups") if "--lookups" in arguments else ("print_calls", call, "calls")
-    given = [word for word in arguments if word != "--lookups"]
+    program, told, what = next((OTHERS[word] for word in arguments if word in OTHERS), ("print_calls", call, "calls"))
+    given = [word for word in arguments if word not in OTHERS]
     for line in subprocess.run([PROGRAMS / program, *given], capture_output=True, text=True, check=True).stdout.splitlines():
         *fields, answer = line.split("\t")
         ours = told(fields)

@@ -12,6 +12,7 @@ from pathlib import Path
 
 import reference
 from cases import Cases
+from reference import ENTRY, FLAGS, GROUPS
 
 ROOT = Path(__file__).resolve().parent.parent
 PROGRAM = ROOT / "target" / "bin" / "fields"
@@ -31,7 +32,7 @@ def escaped(field):
 
 def names_of(rule, flags):
     index = reference.index(rule, flags)
-    entries = [index[i:i + 17] for i in range(0, 544, 17)]
+    entries = [index[i:i + ENTRY] for i in range(0, len(index), ENTRY)]
     return [e[1:1 + e[0]] for e in entries if e[0]]
 
 
@@ -137,9 +138,9 @@ def bytes_and_columns(t):
     t.on("a standing text of 4096 bytes", LITRES, b"1,5 L\n", HEAD + "1\tmatched\t" + "s" * 4096 + "\t1,5\n", standing=b"s" * 4096)
     t.on("no names", rb"^(\d+)$", b"12\nx\n", "line\tanswer\n1\tmatched\n2\tnot matched\n")
     t.on("a name twice", LITRES, b"1,5 L\n", "line\tanswer\tdecimal\tdecimal\n1\tmatched\t1,5\t1,5\n", names=[b"decimal", b"decimal"])
-    many = b"".join(b"(?<n%d>a?)" % n for n in range(32))
-    t.on("32 names", b"^" + many + b"$", b"\na\n" + b"a" * 32 + b"\n", None)
-    t.on("32 names, the last alone", b"^" + many + b"$", b"a" * 32 + b"\n", None, names=[b"n31"])
+    many = b"".join(b"(?<n%d>a?)" % n for n in range(GROUPS))
+    t.on("the most names", b"^" + many + b"$", b"\na\n" + b"a" * GROUPS + b"\n", None)
+    t.on("the most names, the last alone", b"^" + many + b"$", b"a" * GROUPS + b"\n", None, names=[b"n%d" % (GROUPS - 1)])
     for length in (4095, 4096, 4097, 8191, 8192, 8193, 65535):
         t.on("a field of %d bytes" % length, rb"^(?<n>\xff*)(?<m>b?)$", b"\xff" * length + b"\n" + b"\xff" * (length - 1) + b"b\n", None)
     nested = b"^" + b"".join(b"(?<n%d>" % n for n in range(24)) + b"." * 1 + b"*" + b")" * 24 + b"$"
@@ -152,11 +153,12 @@ def arguments(t):
     good = HEAD + "1\tmatched\t\t1,5\n"
     t.run("plain", ["rule", "lines"], good)
     t.run("all options", ["-f", "i", "-b", "500", "-s", "", "rule", "lines"], good)
+    t.run("the depot profile", ["-f", "iD", "rule", "lines"], good)
     t.run("options in another order", ["-b", "500", "-f", "-", "rule", "lines"], good)
     t.run("the last of two counts", ["-b", "0", "-b", "500", "rule", "lines"], good)
     t.run("an option behind the files is a name", ["rule", "lines", "-f"], "", "fields: the rule has no name -f\n")
     for name, line in (("nothing", []), ("one file", ["rule"]), ("an option without its value", ["-f"]), ("an option and one file", ["-b", "5", "rule"]), ("no such option", ["-z", "1", "rule", "lines"]),
-                       ("a long option", ["--flags", "1", "rule", "lines"]), ("bad flags", ["-f", "q", "rule", "lines"]), ("bad budget", ["-b", "100001", "rule", "lines"]), ("a budget that is no number", ["-b", "1x", "rule", "lines"]),
+                       ("a long option", ["--flags", "1", "rule", "lines"]), ("bad flags", ["-f", "q", "rule", "lines"]), ("flags over their limit", ["-f", "%d" % FLAGS, "rule", "lines"]), ("bad budget", ["-b", "100001", "rule", "lines"]), ("a budget that is no number", ["-b", "1x", "rule", "lines"]),
                        ("a standing text of 4097 bytes", ["-s", "s" * 4097, "rule", "lines"])):
         ran = subprocess.run([str(PROGRAM), *line], capture_output=True)
         t.same("%s, stdout" % name, ran.stdout, b"")
@@ -172,8 +174,8 @@ def mistakes(t):
     t.run("an empty name", ["rule", "lines", ""], "", "fields: the rule has no name \n")
     t.run("the beginning of a name", ["rule", "lines", "dec"], "", "fields: the rule has no name dec\n")
     t.run("a long name", ["rule", "lines", "decimal" * 9], "", "fields: the rule has no name " + "decimal" * 9 + "\n")
-    t.run("33 names", ["rule", "lines"] + ["decimal"] * 33, "", "fields: more than 32 names\n")
-    t.run("32 times a name", ["rule", "lines"] + ["decimal"] * 32, "line\tanswer" + "\tdecimal" * 32 + "\n1\tmatched" + "\t1,5" * 32 + "\n")
+    t.run("a name too many", ["rule", "lines"] + ["decimal"] * (GROUPS + 1), "", "fields: more than %d names\n" % GROUPS)
+    t.run("a name as often as there can be", ["rule", "lines"] + ["decimal"] * GROUPS, "line\tanswer" + "\tdecimal" * GROUPS + "\n1\tmatched" + "\t1,5" * GROUPS + "\n")
     t.run("no rule file", ["nothing", "lines"], "", "fields: nothing: No such file or directory\n")
     t.run("no lines file", ["rule", "nothing"], "", "fields: nothing: No such file or directory\n")
     t.run("no lines file, an unknown name", ["rule", "nothing", "litres"], "", "fields: the rule has no name litres\n")

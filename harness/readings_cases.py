@@ -12,6 +12,7 @@ from pathlib import Path
 
 import reference
 from cases import Cases
+from reference import ENTRY, FLAGS, GROUPS
 
 ROOT = Path(__file__).resolve().parent.parent
 PROGRAM = ROOT / "target" / "bin" / "readings"
@@ -26,7 +27,7 @@ LITRES = rb"^(?:(\d{1,3},\d{3})|(\d+,\d+)) L$"
 def labels(rule, flags):
     """What each group is called, from 1 on, and how wide the labels are."""
     index = reference.index(rule, flags)
-    names = [index[at + 1:at + 1 + index[at]].decode() for at in range(0, len(index), 17)]
+    names = [index[at + 1:at + 1 + index[at]].decode() for at in range(0, len(index), ENTRY)]
     return [name or "group %d" % group for group, name in enumerate(names, 1)], max(12, *map(len, names))
 
 
@@ -207,12 +208,12 @@ def arguments(t):
     Path("lines").write_bytes(b"1,500 L\n")
     both = ["rule", "lines"]
     two = TWO + summary(1, ambiguous="1")
-    for words in ([], ["rule"], both + ["0", "5", "x"], both + ["32"], both + ["00032"], both + ["47"], both + [""], both + ["a"], both + ["I"], both + ["sax"], both + ["i x"],
+    for words in ([], ["rule"], both + ["0", "5", "x"], both + ["%d" % FLAGS], both + ["000%d" % FLAGS], both + ["%d" % (2 * FLAGS - 1)], both + [""], both + ["a"], both + ["I"], both + ["d"], both + ["sax"], both + ["i x"],
                   both + ["x8"], both + ["--"], both + ["-1"], both + ["-i"],
                   both + ["0", "100001"], both + ["0", "4294967296"], both + ["0", "99999999999999999999"], both + ["0", ""], both + ["0", "1k"], both + ["0", "-"]):
         t.run("arguments %r" % words, words, "", USAGE)
     for words in ([], ["-"], ["0"], ["3"], ["s"], ["m"], ["sm"], ["ms"], ["03"], ["-", "100000"], ["-", "1000"], ["-", "0100"], ["i"], ["4"], ["7"], ["007"], ["mis"],
-                  ["i", "1000"], ["D"], ["16"], ["0023"], ["sDi"]):
+                  ["i", "1000"], ["D"], ["16"], ["23"], ["Dims"]):
         t.run("arguments %r" % words, both + words, two, "")
     # Under `x` the rule's blank is none, and a line with one does not fit.
     without = """\
@@ -223,7 +224,7 @@ line 1: not matched
     expected                           ^^^   ^
               It fits up to `1,500`; then `\\d+` or `L` was expected, and a blank was found.
 """ + summary(1, unmatched=1)
-    for words in (["x"], ["8"], ["15"], ["0012"], ["ix"], ["smix"], ["xims"], ["x", "100000"]):
+    for words in (["x"], ["8"], ["15"], ["31"], ["0012"], ["ix"], ["smix"], ["xims"], ["xD"], ["x", "100000"]):
         t.run("arguments %r" % words, both + words, without, "")
     t.run("no rule file", ["none", "lines"], "", "readings: none: No such file or directory\n")
     t.run("no lines file", ["rule", "none"], "", "readings: none: No such file or directory\n")
@@ -249,10 +250,9 @@ def refusals(t):
     refused("odd bytes", b"\t\xff)", "21 at 2: a ) that closes nothing\n  ..)\n    ^\n")
     refused("a blank before the `?`", b" \ta* ?", "19 at 5: a repeat of a repeat\n   .a* ?\n       ^\n", flags=8)
     refused("a blank in an opening", b"( ?:a)", "17 at 2: a repeat with nothing before it that it could repeat\n  ( ?:a)\n    ^   \n", flags=8)
-    refused("a reference, in the profile", b"(a)\\1", "27 at 3: a reference, which the depot profile does not allow\n  (a)\\1\n     ^ \n", flags=16)
-    refused("an idle repeat, in the profile", b"(a?)*", "28 at 4: a repeat without upper bound of what may take no bytes, which the depot profile does not allow\n  (a?)*\n      ^\n", flags=16)
-    refused("a range, in the profile", b"[A-z]",
-            "29 at 1: a range whose ends are not two digits, two upper or two lower letters, as the depot profile wants them\n  [A-z]\n   ^   \n", flags=16)
+    refused("a reference in the depot profile", b"(a)\\1", "27 at 3: a reference, which the depot profile does not allow\n  (a)\\1\n     ^ \n", flags=16)
+    refused("a repeat in the depot profile", b"(a?)*", "28 at 4: a repeat without upper bound of what may take no bytes, which the depot profile does not allow\n  (a?)*\n      ^\n", flags=16)
+    refused("a range in the depot profile", b"[A-z]", "29 at 1: a range whose ends are not two digits, two upper or two lower letters, as the depot profile wants them\n  [A-z]\n   ^   \n", flags=16)
     refused("1001 bytes", b"a" * 1001, "1 at 0: the rule has more than 1000 bytes\n")
     refused("5000 bytes", b"a" * 5000, "1 at 0: the rule has more than 1000 bytes\n")
     refused("in the second window", b"a" * 70 + b"\\", "10 at 70: a backslash with nothing behind it\n  %s\n  aaaaaa\\\n        ^\n" % ("a" * 64))
@@ -260,7 +260,7 @@ def refusals(t):
              14: (b"[a", "this class is not closed by ]"), 16: (b"[[:no:]]", "no set has this name"),
              17: (b"*", "a repeat with nothing before it that it could repeat"),
              18: (b"a{256}", "a { that begins no repeat, or a repeat over 255 or with its bounds the wrong way round"),
-             22: (b"(?a)", "(? is followed by neither : nor <"), 23: (b"()" * 33, "the 33rd group; a rule has at most 32"),
+             22: (b"(?a)", "(? is followed by neither : nor <"), 23: (b"()" * (GROUPS + 1), "the %s group; a rule has at most %d" % ({32: "33rd", 64: "65th"}[GROUPS], GROUPS)),
              24: (b"(" * 25, "the 25th bracket inside another; they nest at most 24 deep"), 25: (b"\\k<", "a name is missing, malformed or not closed"),
              26: (b"(?<n>)(?<n>)", "this name is used twice")}
     for number, (rule, meaning) in rules.items():
@@ -435,7 +435,7 @@ line 2: not matched
     t.on("nothing is left of a line", rb"^(a*)(a*)(a*)(b?)$|^c(a*)*d", b"\n".join([few, full, few, many, full, b"c" + full, many, b"c" + full, few, b"", many, b"d", many]))
     t.on("more than 1000 readings", rb"^(a*)(a*)(a*)$", b"a" * 44 + b"\na\n")
     t.on("1000 readings", rb"(a*?)(a*)$", b"a" * 43 + b"\n" + b"a" * 44)
-    t.on("32 groups", b"^" + b"(a?)" * 32 + b"$", b"a")
+    t.on("the most groups", b"^" + b"(a?)" * GROUPS + b"$", b"a")
     t.on("exhausted at a later start", rb"b(a*)*c", b"ba" * 3 + b"b" + b"a" * 30, budget=3000)
 
 
@@ -484,8 +484,8 @@ line 1: 2 readings
     reading 2  -  0-1
 litres_of_day  ^  0-1
 """ + summary(1, ambiguous="1"))
-    t.on("32 names", b"^" + b"".join(b"(?<g%d>a?)" % g for g in range(1, 33)) + b"$", b"a")
-    t.on("the last of 32 groups has a name", b"^" + b"(a?)" * 31 + b"(?<the_last>a?)$", b"a")
+    t.on("the most names", b"^" + b"".join(b"(?<g%d>a?)" % g for g in range(1, GROUPS + 1)) + b"$", b"a")
+    t.on("the last of the most groups has a name", b"^" + b"(a?)" * (GROUPS - 1) + b"(?<the_last>a?)$", b"a")
     t.on("a name in windows", rb"^(?:(?<the_first_column>a+)|(a+))b*(?<rest>.*)$", b"a" * 60 + b"b" * 10 + b"c" * 90)
 
 TANK = rb"^tank (\w+): (\d+) L$"

@@ -1,9 +1,13 @@
 #!/usr/bin/env python3
-"""An independent matcher written from documents 01 and 02: parse, walk, match, list, explain, scan, batch."""
+"""An independent matcher written from documents 01 and 02: parse, walk, match, list, explain, scan, batch, rule cards."""
 import sys
 sys.setrecursionlimit(1000000)
 U=4294967295
-S,M,I,X=1,2,4,8
+S,M,I,X,DEPOT=1,2,4,8,16
+FLAGS=32 # refused from here on
+GROUPS,NAME=64,16 # the most groups, and the bytes of the longest name
+ROW=2+2*GROUPS; PART=ROW+4; ENTRY=1+NAME; INDEX=GROUPS*ENTRY # the lengths of a row, a line's part, an entry of the name index, the index
+RULE_AREA,CARD_AREA,RULE_BYTES=16384,1064,1000
 class Refuse(Exception):
     def __init__(s,n,p): s.n=n; s.p=p
 def rng(*ps):
@@ -35,6 +39,10 @@ class Parser:
         if s.i<len(s.r): raise Refuse(21,s.i)
         for p,n in s.refs: # they are met by rising places
             if not 1<=s.number(n)<=s.opened: raise Refuse(13,p)
+        if s.flags&DEPOT:
+            if s.refs: raise Refuse(27,s.refs[0][0])
+            idle=[r[1] for r in repeats(t) if r[3] is None and least(r[5])==0]
+            if idle: raise Refuse(28,min(idle))
         return s.resolved(t),s.opened
     def number(s,n): return s.names.get(n,0) if isinstance(n,bytes) else n
     def resolved(s,t):
@@ -46,7 +54,7 @@ class Parser:
     def name(s,i,close,at):
         """the name from i on, closed by this sign, and where it ends; 25 at the place"""
         n,j=s.run(i,WORD)
-        if not 1<=len(n)<=16 or n[0] in '0123456789' or s.ch(j)!=close: raise Refuse(25,at)
+        if not 1<=len(n)<=NAME or n[0] in '0123456789' or s.ch(j)!=close: raise Refuse(25,at)
         return n.encode(),j+1
     def alt(s,depth,opening):
         bs=[s.seq(depth)]
@@ -96,7 +104,7 @@ class Parser:
             if depth>=24: raise Refuse(24,at)
             s.i=at+3; t=s.alt(depth+1,at); g=t
         else:
-            if s.opened>=32: raise Refuse(23,at)
+            if s.opened>=GROUPS: raise Refuse(23,at)
             if depth>=24: raise Refuse(24,at)
             s.opened+=1; k=s.opened; s.i=at+1
             if named:
@@ -205,11 +213,26 @@ class Parser:
             if s.ch(s.i)=='-' and s.ch(s.i+1)!=']':
                 s.i+=1; hi=s.element(op)
                 if lo[0]=='s' or hi[0]=='s' or lo[1]>hi[1]: raise Refuse(15,at)
+                if s.flags&DEPOT and not any({lo[1],hi[1]}<=t for t in (D,UP,LO)): raise Refuse(29,at)
                 out|=set(range(lo[1],hi[1]+1))
             elif lo[0]=='b': out.add(lo[1])
             else: out|=lo[1]
         out=s.fold(out)
         return ALL-out if neg else out
+def repeats(t):
+    """all repeats of a tree"""
+    if isinstance(t,list): return [r for x in t for r in repeats(x)]
+    if not isinstance(t,tuple): return []
+    return ([t] if t[0]=='rep' else [])+[r for x in t[1:] for r in repeats(x)]
+def least(t):
+    """the least length of a part"""
+    y=t[0]
+    if y in('set','place','ref'): n=int(y=='set')
+    elif y=='seq': n=sum(map(least,t[1]))
+    elif y=='alt': n=min(map(least,t[1]))
+    elif y=='group': n=least(t[2])
+    else: n=t[2]*least(t[5])
+    return min(n,65536)
 W=SETS['word']
 class Done(Exception): pass
 class Walk:
@@ -277,21 +300,21 @@ class Walk:
         s.go(s.tree,start,{},fin)
 def row(start,i,caps):
     out=[start,i]
-    for g in range(1,33):
+    for g in range(1,GROUPS+1):
         a,b=caps.get(g,(U,U)); out+=[a,b]
     return tuple(out)
 def read(rule,flags): return Parser(rule,flags).parse()
 def index(rule,flags):
-    """the name index of a sound rule: 32 entries of 17 bytes"""
+    """the name index of a sound rule: an entry for each group that a rule can have"""
     p=Parser(rule,flags); p.parse(); by={k:n for n,k in p.names.items()}
-    return b''.join((bytes([len(n)])+n).ljust(17,b'\0') for n in (by.get(k,b'') for k in range(1,33)))
+    return b''.join((bytes([len(n)])+n).ljust(ENTRY,b'\0') for n in (by.get(k,b'') for k in range(1,GROUPS+1)))
 def field(name,idx,line,kind,row,standing):
     """the field lookup: 0 for the line or 1 for the standing text, from, to"""
-    entries=[idx[i:i+17] for i in range(0,min(len(idx),544)-16,17)]
-    hits=[k for k,e in enumerate(entries) if 1<=e[0]<=16 and e[1:1+e[0]]==name]
-    if not hits or kind!=0 or len(row)<66: return 1,0,0
+    entries=[idx[i:i+ENTRY] for i in range(0,min(len(idx),INDEX)-NAME,ENTRY)]
+    hits=[k for k,e in enumerate(entries) if 1<=e[0]<=NAME and e[1:1+e[0]]==name]
+    if not hits or kind!=0 or len(row)<ROW: return 1,0,0
     start,end=row[0],row[1]
-    pairs=[(row[2*k+2],row[2*k+3]) for k in range(32)]
+    pairs=[(row[2*k+2],row[2*k+3]) for k in range(GROUPS)]
     if start>end or end>len(line): return 1,0,0
     if any(p!=(U,U) and not start<=p[0]<=p[1]<=end for p in pairs): return 1,0,0
     a,b=pairs[hits[0]]
@@ -358,3 +381,28 @@ def batch(rule,flags,buf,budget):
     """what match gives for each line; ('R',2) for one that is too long"""
     read(rule,flags)
     return [('R',2) if len(l)>65535 else match(rule,flags,l,budget) for l in lines(buf)]
+BODY={1:4,2:32,3:2} # the kinds of a card's records, with the lengths of their bodies
+def first_of(tests):
+    """raises the first refusal that is due"""
+    for n,due in tests:
+        if due: raise Refuse(n,0)
+def card_write(rule,flags,budget,rule_area,area):
+    """the card; the areas are lengths"""
+    first_of([(9,area<CARD_AREA),(1,len(rule)>1000),(3,flags>=FLAGS),(4,budget>65535),(5,rule_area<RULE_AREA)])
+    groups=read(rule,flags)[1]; padded=rule+bytes(-len(rule)%32)
+    chunks=b''.join(b'\2'+padded[i:i+32] for i in range(0,len(padded),32))
+    return bytes([1,flags])+budget.to_bytes(2,'little')+bytes([groups])+chunks+b'\3'+len(rule).to_bytes(2,'little')
+def card_read(card,rule_area,area):
+    """what a card says: rule, flags, budget, groups"""
+    first_of([(9,area<RULE_BYTES)])
+    at=0; kinds=[]; bodies=[]
+    while 3 not in kinds:
+        kind=card[at] if at<len(card) else None
+        first_of([(30,kind is not None and kind not in BODY),(31,kind is None or at+BODY.get(kind,0)>=len(card))])
+        kinds.append(kind); bodies.append(card[at+1:at+1+BODY[kind]]); at+=1+BODY[kind]
+    n=int.from_bytes(bodies[-1],'little'); text=b''.join(bodies[1:-1])
+    first_of([(32,kinds!=[1]+[2]*-(-n//32)+[3]),(33,any(text[n:]) or at<len(card))])
+    flags,low,high,groups=bodies[0]
+    first_of([(1,n>1000),(3,flags>=FLAGS),(5,rule_area<RULE_AREA)])
+    first_of([(34,read(text[:n],flags)[1]!=groups)])
+    return text[:n],flags,low+256*high,groups

@@ -9,7 +9,7 @@ import sys
 from pathlib import Path
 
 import reference
-from reference import I, M, S, X
+from reference import DEPOT, GROUPS, I, M, S, X
 
 TARGET = Path(__file__).resolve().parent.parent / "crates" / "walk_vectors"
 
@@ -35,11 +35,18 @@ READINGS = [
     (b"a {2}", X, b"aa"), (b"a #c\n*", X, b"aa"), (b"a *?", X, b"aa"), (b"^ *", X, b""), (b"( *)", X, b""), (b"\\N {", X, b""), (b"[ ][#][a #]", X, b" ##"), (b"a| ", X, b""), (b"  a**", X, b""),
     (b"^ (?: ( \\d{1,3} , \\d{3} ) | ( \\d+ , \\d+ ) ) \\ L $ # litres", X, b"1,500 L"), (b"( A ) \\1 # twice", I | X, b"aA"), (b"^ A . B $ #\n", S | M | I | X, b"a\nb\n"),
     (b" a B | [^ a ] ", I | X, b"Ab"),
+    (b"(\\d+),(\\d+)", DEPOT, b"1,5"), (b"(?:a+)*", DEPOT, b"aa"), (b"(?:ab|c)*?$", DEPOT, b"cab"), (b"[a-z]+(?:,[0-9]{3})*", DEPOT, b"ab,500"), (b"(){0,9}", DEPOT, b""), (b"(a?){2}", DEPOT, b"a"),
+    (b"(a?)*", DEPOT, b"a"), (b"(a)\\1", DEPOT, b"aa"), (b"[A-z]", DEPOT, b"a"), (b"()*\\1", DEPOT, b""),
 ]
 # The same with names.
 NAMED_READINGS = [
     (b"(?<litres>\\d+)=\\k<litres>", 0, b"7=7"), (b"(?<a>b|c\\g{a})+", 0, b"bcb"), (b"\\k'a'(?<a>b)", 0, b"bb"), (b"(?:\\k{a}c|(?<a>b))+", 0, b"bbc"), (b"(?<a>b)(?<A>c)\\k<A>", I, b"bcC"),
     (b"(?<n> a* ) , \\k<n> $", X, b"aa,aa"), (b"(?<a>)|(?<a>)", 0, b""), (b"(?<a>b)\\k<c>", 0, b"bb"), (b"(?<a", 0, b""), (b"\\k{ a}(?<a>)", X, b""), (b"(a)(?<b>b)?(?:c)((?<d>d))", 0, b"acd"),
+]
+# As many groups as a rule can have, set and unset, nested and in branches, with references to the last and to one behind it.
+MANY_GROUPS = [
+    (b"(a)" * (GROUPS // 2) + b"(b)?" * 2 + b"(c)?" * (GROUPS // 2 - 2) + b"\\%d?" % (GROUPS // 2 + 1), b"a" * (GROUPS // 2) + b"bb"), (b"(" * 24 + b"a" + b")" * 24 + b"(b)" * (GROUPS - 24) + b"\\%d" % GROUPS, b"a" + b"b" * (GROUPS - 23)),
+    (b"(?:" + b"(a)|" * (GROUPS - 1) + b"(b))*\\%d" % GROUPS, b"abb"), (b"()" * GROUPS + b"\\%d" % (GROUPS + 1), b""), (b"()" * (GROUPS + 1), b""), (b"()" * (GROUPS - 1) + b"(?<n>a)\\k<n>", b"aa"),
 ]
 ATOMS = ["a", "b", "c", ".", "^", "$", "\\b", "\\B", "\\A", "\\z", "\\Z", "\\d", "\\w", "[ab]", "[^a]", "[a-c]", "\\1", "\\2", "\\g-1", "\\n", "1", "\\N"]
 FOLDED = ["A", "B", "[A-B]", "[^B]", "[[:upper:]]", "[[:^lower:]]", "[Z-a]", "\\x41", "(A)", "\\1"]  # what `i` makes a difference to
@@ -99,6 +106,9 @@ def cases():
         for budget in {0, steps - 1, steps, steps // 2} - {-1}:
             yield rule, flags, subject, 0, budget
     yield from within_references()
+    for rule, subject in MANY_GROUPS:
+        for budget in {20000, told(rule, 0, subject, 0, 20000)[1] - 1} - {-1}:
+            yield rule, 0, subject, 0, budget
     random.seed(1)
     yield from random_walks(250, 0, "aab1\nc")
     yield from random_walks(150, I, "aAbB1\nZ")
@@ -106,16 +116,17 @@ def cases():
     yield from random_walks(100, I | X, "aAbB1\nZ")
     yield from random_walks(150, 0, "aabab", True)
     yield from random_walks(50, I | X, "aAbB", True)
+    yield from random_walks(100, DEPOT, "aab1\nc")
 
 
 def random_walks(wanted, flags, letters, named=False):
-    """So many walks of few ends under these flags, with `s` and `m` or without; of the rules with names a third may be refused."""
+    """So many walks of few ends under these flags, with `s` and `m` or without; of the rules with names, or under the depot profile, a third may be refused."""
     made = 0
     while made < wanted:
         rule, subject = random_rule(3, flags, named).encode(), "".join(random.choice(letters) for _ in range(random.randint(0, 6))).encode()
         both, start, budget = flags | random.randint(0, 3), random.randint(0, len(subject)), random.choice([50, 500, 2000])
         lines = told(rule, both, subject, start, budget)[0]
-        if len(lines) < 25 and not (named and " at " in lines[0] and made % 3):
+        if len(lines) < 25 and not ((named or flags & DEPOT) and " at " in lines[0] and made % 3):
             made += 1
             yield rule, both, subject, start, budget
 
@@ -132,7 +143,7 @@ def within_references():
 def main():
     asked, answers = [], []
     for rule, flags, subject, start, budget in cases():
-        asked.append("%x %d %d %s %s\n" % (flags, budget, start, rule.hex(), subject.hex()))
+        asked.append("%d %d %d %s %s\n" % (flags, budget, start, rule.hex(), subject.hex()))
         answers += told(rule, flags, subject, start, budget)[0]
     TARGET.joinpath("stdin").write_text("".join(asked))
     TARGET.joinpath("stdout").write_text("".join(line + "\n" for line in answers))

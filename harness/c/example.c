@@ -1,5 +1,5 @@
 /* A worked example of the C interface: every reading of one line, fields by their names, why a line does not match, all the quantities in one message,
- * and a day's lines at once.
+ * a day's lines at once, and a rule card.
  *
  * `1,500 L` is one thousand five hundred litres where the comma stands between thousands, and one and a half litres where it is a decimal
  * comma. The rule allows both, so the listing has two rows, and whoever gets two rows knows that the line has to be asked about.
@@ -22,6 +22,8 @@ static uint32_t rows[TERRAVISCO_ROW * ROWS];
 static uint32_t parts[TERRAVISCO_PART * LINES];
 static uint8_t names[TERRAVISCO_NAME_INDEX];
 static uint8_t marks[TERRAVISCO_LONGEST_RULE];
+static uint8_t card[TERRAVISCO_CARD];
+static uint8_t rule_bytes[TERRAVISCO_RULE_BYTES];
 
 static void print_row(const uint32_t *row, const char *line)
 {
@@ -128,6 +130,37 @@ static void print_day(const char *rule, const char *day)
     }
 }
 
+/* Reads a card and prints what it says. */
+static void print_card(size_t length)
+{
+    uint32_t answer[TERRAVISCO_CARD_ANSWER];
+
+    terravisco_card_read(card, length, rule_area, sizeof rule_area / sizeof *rule_area, rule_bytes, sizeof rule_bytes, answer);
+    if (answer[0] == 0)
+        printf("the card says `%.*s`, flags %u, budget %u, groups %u\n", (int)answer[5], (const char *)rule_bytes, (unsigned)answer[6],
+               (unsigned)answer[7], (unsigned)answer[8]);
+    else
+        printf("the card is refused, number %u at %u\n", (unsigned)answer[1], (unsigned)answer[2]);
+}
+
+/* A rule card: written where a rule is made, and read where it is used. One that was cut off or changed on its way is refused. */
+static void send_card(const char *rule, uint32_t flags)
+{
+    uint32_t answer[TERRAVISCO_ANSWER];
+
+    terravisco_card_write((const uint8_t *)rule, strlen(rule), flags, BUDGET, rule_area, sizeof rule_area / sizeof *rule_area,
+                          card, sizeof card, answer);
+    if (answer[0] != 0) {
+        printf("no card for %s, number %u at %u\n", rule, (unsigned)answer[1], (unsigned)answer[2]);
+        return;
+    }
+    printf("a card of %u bytes\n", (unsigned)answer[5]);
+    print_card(answer[5]);
+    print_card(answer[5] - 1);
+    card[4]++;
+    print_card(answer[5]);
+}
+
 int main(void)
 {
     list("^(?:(\\d{1,3},\\d{3})|(\\d+,\\d+)) L$", 0, "1,500 L");
@@ -144,5 +177,7 @@ int main(void)
     print_quantities("no delivery");
     print_day("^tank \\d+:(?: (?<litres>\\d+) L)?$", "tank 7: 820 L\ntank 8:\n\nhall 3\ntank 9: 5 L");
     print_day("^tank (", "tank 7: 820 L\n");
+    send_card("^tank (\\d+): (\\d+) L$", FLAG_I);
+    send_card("^tank (", 0);
     return 0;
 }

@@ -1,7 +1,8 @@
 //! One call with all that it is given, and how it and its answer are shown.
 
 use crate::independent::{
-    self, Answer, Ending, Explanation, Index, Inputs, Part, Row, ENTRY_LENGTH, INDEX_LENGTH, PART_LENGTH, ROW_LENGTH, RULE_AREA, UNSET, WORK_PER_STEP,
+    self, Answer, Ending, Explanation, Index, Inputs, Part, Row, ENTRY_LENGTH, INDEX_LENGTH, MOST_GROUPS, PART_LENGTH, ROW_LENGTH, RULE_AREA, UNSET,
+    WORK_PER_STEP,
 };
 use crate::raw::Call;
 use crate::text;
@@ -145,7 +146,7 @@ fn shown_names(index: &Index) -> String {
 /// A row as `start-end` and `group:start-end` for each group that is set.
 pub fn shown_row(row: &Row) -> String {
     let mut text = format!("{}-{}", row[0], row[1]);
-    for group in 1..=32 {
+    for group in 1..=MOST_GROUPS {
         if row[2 * group] != UNSET || row[2 * group + 1] != UNSET {
             text += &format!(" {group}:{}-{}", row[2 * group], row[2 * group + 1]);
         }

@@ -3,7 +3,7 @@
 
 use std::collections::BTreeMap;
 
-use crate::independent::{Refusal, Row, FLAG_X, UNSET};
+use crate::independent::{Refusal, Row, FLAG_X, LONGEST_NAME, MOST_GROUPS, UNSET};
 use crate::random::shared::Shared;
 use crate::shapes::shape;
 
@@ -61,7 +61,7 @@ pub fn name_class(rule: &[u8], refusal: Refusal, other: Other) -> Option<Class> 
     match refusal.number {
         26 => (other == Other::Perl).then_some(Class::NameTwice),
         25 if item.starts_with(b"(?<=") || item.starts_with(b"(?<!") => Some(Class::OtherForm),
-        25 if (17..=longest).contains(&name) => Some(Class::LongName),
+        25 if (LONGEST_NAME + 1..=longest).contains(&name) => Some(Class::LongName),
         12 | 25 if is_braced && other == Other::Perl && has_blank_beside(inside) => Some(Class::BlankInBraces),
         12 if item.starts_with(b"\\g<") || item.starts_with(b"\\g'") => (other == Other::Pcre2).then_some(Class::OtherForm),
         _ => None,
@@ -188,7 +188,7 @@ fn has_folded_above(subject: &[u8]) -> bool {
 /// The groups whose spans differ, and for each whether it is the other matcher that has none.
 fn differing_groups(ours: &Row, other: &Row) -> Vec<(usize, bool)> {
     let differs = |&group: &usize| ours[2 * group..][..2] != other[2 * group..][..2];
-    (1..=32).filter(differs).map(|group| (group, other[2 * group] == UNSET)).collect()
+    (1..=MOST_GROUPS).filter(differs).map(|group| (group, other[2 * group] == UNSET)).collect()
 }
 
 /// How many differences were set aside by which point of the list.

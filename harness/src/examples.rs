@@ -1,7 +1,9 @@
 //! Examples written down by hand in `data/`: what is asked and what is expected. The head of `source-examples.txt` says how they look.
 
 use crate::case::{shown_part, shown_row, Case};
-use crate::independent::{self, Answer, Attempt, Ending, Explanation, Miss, FLAG_I, FLAG_M, FLAG_S, FLAG_X};
+use crate::independent::{
+    self, Answer, Attempt, Ending, Explanation, Miss, FLAG_D, FLAG_I, FLAG_M, FLAG_S, FLAG_X, INDEX_LENGTH, LONGEST_NAME, PART_LENGTH, ROW_LENGTH,
+};
 use crate::raw::Call;
 use crate::text;
 
@@ -74,10 +76,10 @@ impl Example {
             "flags" => self.case.flags = flags(value)?,
             "call" => self.case.call = call(value)?,
             "budget" => self.case.budget = value.parse().ok()?,
-            "rows" => self.case.result_area = 66 * value.parse::<usize>().ok()?,
-            "parts" => self.case.result_area = 70 * value.parse::<usize>().ok()?,
-            "numbers" => self.case.result_area = value.parse().ok()?,
-            "index" => self.case.name_index = value.parse().ok()?,
+            "rows" => self.case.result_area = ROW_LENGTH * value.parse::<usize>().ok()?,
+            "parts" => self.case.result_area = PART_LENGTH * value.parse::<usize>().ok()?,
+            "numbers" => self.case.result_area = length(value)?,
+            "index" => self.case.name_index = length(value)?,
             "marks" => self.case.marks = value.parse().ok()?,
             "names" => self.names = Some(value.to_string()),
             "furthest" | "closest" | "marked" => self.told.set(field, &numbers(value)?)?,
@@ -175,7 +177,7 @@ impl Told {
 /// Each group that has a name with it, as `group:name`. A byte other than 00 that is no part of a name makes an entry `group:?`.
 fn shown_names(index: &independent::Index) -> String {
     let shown = |(group, entry): (usize, &[u8])| {
-        let (name, padding) = entry[1..].split_at(usize::from(entry[0]).min(16));
+        let (name, padding) = entry[1..].split_at(usize::from(entry[0]).min(LONGEST_NAME));
         match padding.iter().all(|&byte| byte == 0) {
             true if name.is_empty() => None,
             true => Some(format!("{group}:{}", text::escaped(name))),
@@ -191,18 +193,41 @@ fn call(value: &str) -> Option<Call> {
     calls.into_iter().find(|(name, _)| *name == value).map(|(_, call)| call)
 }
 
+/// A length: a number; or `row`, `part` or `index` for what one of these needs, or a number of them, and a number more or less, as in `2 part - 1`.
+pub fn length(value: &str) -> Option<usize> {
+    let mut length = 0;
+    let mut words = value.split(' ').peekable();
+    while let Some(word) = words.next() {
+        length = match word {
+            "+" => length + words.next()?.parse::<usize>().ok()?,
+            "-" => length - words.next()?.parse::<usize>().ok()?,
+            _ => {
+                let (number, unit) = word.parse().map_or((1, Some(word)), |number: usize| (number, words.next_if(|next| !"+-".contains(next))));
+                number * unit.map_or(Some(1), needed)?
+            }
+        };
+    }
+    Some(length)
+}
+
+/// What a row, a part or the name index needs.
+fn needed(what: &str) -> Option<usize> {
+    [("row", ROW_LENGTH), ("part", PART_LENGTH), ("index", INDEX_LENGTH)].into_iter().find(|(name, _)| *name == what).map(|(_, length)| length)
+}
+
 /// Numbers with a blank between two of them; none in an empty text.
 fn numbers(value: &str) -> Option<Vec<usize>> {
     value.split_terminator(' ').map(|number| number.parse().ok()).collect()
 }
 
 /// Flags as letters, each once, or as a number.
-fn flags(value: &str) -> Option<u32> {
+pub fn flags(value: &str) -> Option<u32> {
     let flag = |letter| match letter {
         's' => Some(FLAG_S),
         'm' => Some(FLAG_M),
         'i' => Some(FLAG_I),
         'x' => Some(FLAG_X),
+        'D' => Some(FLAG_D),
         _ => None,
     };
     value.parse().ok().or_else(|| value.chars().map(flag).sum())

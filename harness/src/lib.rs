@@ -2,6 +2,8 @@
 
 pub mod arguments;
 pub mod bench;
+pub mod card_examples;
+pub mod cards;
 pub mod case;
 pub mod contender;
 pub mod differences;

@@ -1,7 +1,8 @@
 //! Lookups written down by hand in `data/lookups.txt`, whose head says how they look.
 
+use crate::examples::length;
 use crate::independent::lookup::Field;
-use crate::independent::{ROW_LENGTH, UNSET};
+use crate::independent::{ENTRY_LENGTH, ROW_LENGTH, UNSET};
 use crate::raw::Lookup;
 use crate::text;
 
@@ -35,7 +36,7 @@ pub fn read(file: &str) -> Result<Vec<Example>, String> {
 }
 
 /// The blocks of lines between empty ones and comments, each with the number of its first line.
-fn blocks(file: &str) -> Vec<(usize, Vec<&str>)> {
+pub fn blocks(file: &str) -> Vec<(usize, Vec<&str>)> {
     let mut blocks: Vec<(usize, Vec<&str>)> = Vec::new();
     let mut open = false;
     for (number, line) in (1..).zip(file.lines()) {
@@ -65,7 +66,7 @@ impl Example {
             "from" => self.from = value.to_string(),
             "name" => self.name = text::unescaped(value)?,
             "entry" => self.names.extend(entry(value)?),
-            "nameless" => self.names.extend(vec![0; 17 * value.parse::<usize>().ok()?]),
+            "nameless" => self.names.extend(vec![0; ENTRY_LENGTH * value.parse::<usize>().ok()?]),
             "bytes" => self.names.extend(text::unescaped(value)?),
             "cut" => self.names.truncate(value.parse().ok()?),
             "line" => self.text = text::unescaped(value)?,
@@ -75,7 +76,7 @@ impl Example {
                 let (at, number) = value.split_once(' ')?;
                 *self.row.get_mut(at.parse::<usize>().ok()?)? = number.parse().ok()?;
             }
-            "numbers" => self.row.resize(value.parse().ok()?, 7),
+            "numbers" => self.row.resize(length(value)?, 7),
             "standing" => self.standing = text::unescaped(value)?,
             "expect" => {
                 let (part, span) = value.split_once(' ')?;
@@ -93,11 +94,11 @@ impl Example {
     }
 }
 
-/// An entry of 17 bytes as a call fills it.
+/// An entry as a call fills it.
 fn entry(name: &str) -> Option<Vec<u8>> {
     let mut entry = vec![u8::try_from(name.len()).ok()?];
     entry.extend(name.bytes());
-    entry.resize(17, 0);
+    entry.resize(ENTRY_LENGTH, 0);
     Some(entry)
 }
 

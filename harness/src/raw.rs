@@ -1,7 +1,7 @@
 //! The library's C interface as it stands, and one call of it on lent areas. Tests use this; a program uses `terravisco::Matcher`.
 //!
 //! A library from before names, which `bench --before` may be given, takes no name index and has no lookup: `build.rs` sets `before_names` for it, and
-//! `before_explanations`, `before_scans` or `before_batches` for one that has none of these.
+//! `before_explanations`, `before_scans`, `before_batches` or `before_cards` for one that has none of these.
 
 #![allow(unexpected_cfgs)]
 // A program that this is copied into need not use all of it.
@@ -18,6 +18,9 @@ pub enum Call {
     /// A day's lines: the subject is a buffer of them.
     Batch,
 }
+
+/// The most capturing groups that a rule can have. The lengths of rows, parts and name indices follow from it.
+pub const GROUPS: usize = 64;
 
 /// The most numbers that an answer has: those of an explanation. The other calls have the first six.
 pub const ANSWER_LENGTH: usize = 11;
@@ -70,6 +73,28 @@ extern "C" {
         standing: *const u8,
         standing_len: usize,
         field: *mut u64,
+    );
+    #[cfg(not(before_cards))]
+    fn terravisco_card_write(
+        rule: *const u8,
+        rule_len: usize,
+        flags: u32,
+        budget: u32,
+        rule_area: *mut u32,
+        rule_area_len: usize,
+        card: *mut u8,
+        card_len: usize,
+        answer: *mut u32,
+    );
+    #[cfg(not(before_cards))]
+    fn terravisco_card_read(
+        card: *const u8,
+        card_len: usize,
+        rule_area: *mut u32,
+        rule_area_len: usize,
+        rule_bytes: *mut u8,
+        rule_bytes_len: usize,
+        answer: *mut u32,
     );
 }
 
@@ -176,4 +201,62 @@ pub fn field(lookup: Lookup, field: &mut [u64; 3]) {
 #[cfg(before_names)]
 pub fn field(_: Lookup, _: &mut [u64; 3]) {
     panic!("this library is from before the lookup");
+}
+
+/// What is to be written on a card.
+#[derive(Clone, Copy)]
+pub struct CardText<'a> {
+    pub rule: &'a [u8],
+    pub flags: u32,
+    pub budget: u32,
+}
+
+/// The numbers of the answers when a card is written and when one is read.
+pub const WRITE_ANSWER_LENGTH: usize = 6;
+pub const READ_ANSWER_LENGTH: usize = 9;
+
+/// Writes a card to the front of the area for it. The answer's numbers are written over those handed in.
+#[cfg(not(before_cards))]
+pub fn write_card(text: CardText, rule_area: &mut [u32], card: &mut [u8], answer: &mut [u32; WRITE_ANSWER_LENGTH]) {
+    // Safety: every pointer leads to as many elements as the length beside it says, and the borrows keep the areas apart.
+    unsafe {
+        terravisco_card_write(
+            text.rule.as_ptr(),
+            text.rule.len(),
+            text.flags,
+            text.budget,
+            rule_area.as_mut_ptr(),
+            rule_area.len(),
+            card.as_mut_ptr(),
+            card.len(),
+            answer.as_mut_ptr(),
+        );
+    }
+}
+
+/// Reads a card; its rule goes to the front of the area for the rule's bytes. The answer's numbers are written over those handed in.
+#[cfg(not(before_cards))]
+pub fn read_card(card: &[u8], rule_area: &mut [u32], rule_bytes: &mut [u8], answer: &mut [u32; READ_ANSWER_LENGTH]) {
+    // Safety: every pointer leads to as many elements as the length beside it says, and the borrows keep the areas apart.
+    unsafe {
+        terravisco_card_read(
+            card.as_ptr(),
+            card.len(),
+            rule_area.as_mut_ptr(),
+            rule_area.len(),
+            rule_bytes.as_mut_ptr(),
+            rule_bytes.len(),
+            answer.as_mut_ptr(),
+        );
+    }
+}
+
+#[cfg(before_cards)]
+pub fn write_card(_: CardText, _: &mut [u32], _: &mut [u8], _: &mut [u32; WRITE_ANSWER_LENGTH]) {
+    panic!("this library is from before rule cards");
+}
+
+#[cfg(before_cards)]
+pub fn read_card(_: &[u8], _: &mut [u32], _: &mut [u8], _: &mut [u32; READ_ANSWER_LENGTH]) {
+    panic!("this library is from before rule cards");
 }

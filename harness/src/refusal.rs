@@ -5,7 +5,7 @@
 
 use std::fmt;
 
-/// The reason, and the place in the rule that it is about, counted in bytes from 0; 0 for reasons 1 to 8.
+/// The reason, and the place in the rule that it is about, counted in bytes from 0; 0 for reasons 1 to 9 and those of a rule card, from 30 on.
 #[derive(Clone, Copy, PartialEq, Eq, Debug)]
 pub struct Refusal {
     pub reason: Reason,
@@ -22,6 +22,7 @@ pub enum Reason {
     WorkAreaShort = 6,
     ResultAreaShort = 7,
     NameIndexShort = 8,
+    CardAreaShort = 9,
     LoneBackslash = 10,
     EscapeNotHeld = 11,
     EscapeIllFormed = 12,
@@ -39,18 +40,27 @@ pub enum Reason {
     TooDeep = 24,
     NameIllFormed = 25,
     NameUsedTwice = 26,
+    ReferenceInProfile = 27,
+    EmptyRoundsInProfile = 28,
+    RangeInProfile = 29,
+    UnknownRecord = 30,
+    CardCutShort = 31,
+    RecordsOutOfOrder = 32,
+    CardNotClean = 33,
+    OtherGroupNumber = 34,
 }
 
 /// Every reason with its sentence.
-const SENTENCES: [(Reason, &str); 25] = [
+const SENTENCES: [(Reason, &str); 34] = [
     (Reason::RuleTooLong, "the rule is over 1,000 bytes"),
     (Reason::SubjectTooLong, "the subject is over 65,535 bytes"),
-    (Reason::UnknownFlag, "a flag bit above 3 is set"),
+    (Reason::UnknownFlag, "an unknown flag bit is set"),
     (Reason::BudgetTooGreat, "the budget is over 100,000"),
     (Reason::RuleAreaShort, "the rule area is short"),
     (Reason::WorkAreaShort, "the work area is short"),
-    (Reason::ResultAreaShort, "the result area is under 66 numbers"),
-    (Reason::NameIndexShort, "the name index is under 544 bytes"),
+    (Reason::ResultAreaShort, "the result area is too short for a row, or for a part a line"),
+    (Reason::NameIndexShort, "the name index is short"),
+    (Reason::CardAreaShort, "the area for the card is under 1,064 bytes, or that for the rule's bytes under 1,000"),
     (Reason::LoneBackslash, "a backslash is the rule's last byte"),
     (Reason::EscapeNotHeld, "the escape is not held here"),
     (Reason::EscapeIllFormed, "the escape's number or letter is missing, of another form, unclosed or over its limit"),
@@ -64,10 +74,18 @@ const SENTENCES: [(Reason, &str); 25] = [
     (Reason::GroupNotClosed, "the group is not closed"),
     (Reason::GroupNotOpened, "a `)` without opening"),
     (Reason::UnknownOpening, "`(?` is followed by neither `:` nor `<`"),
-    (Reason::TooManyGroups, "a 33rd capturing group"),
+    (Reason::TooManyGroups, "more capturing groups than a rule can have"),
     (Reason::TooDeep, "groups nest more than 24 deep"),
     (Reason::NameIllFormed, "a name is missing, malformed or not closed"),
     (Reason::NameUsedTwice, "the name is used twice"),
+    (Reason::ReferenceInProfile, "a reference, which the depot profile has not"),
+    (Reason::EmptyRoundsInProfile, "a repeat without upper bound over what can take no bytes, which the depot profile has not"),
+    (Reason::RangeInProfile, "a range that is not of digits, of upper or of lower letters, which the depot profile has not"),
+    (Reason::UnknownRecord, "the card has a record of an unknown kind"),
+    (Reason::CardCutShort, "the card is cut short"),
+    (Reason::RecordsOutOfOrder, "the card's records are in the wrong order or number"),
+    (Reason::CardNotClean, "the card's padding is not 00, or bytes follow its last record"),
+    (Reason::OtherGroupNumber, "the card's number of groups is not the rule's"),
 ];
 
 impl Reason {

@@ -1,7 +1,7 @@
 //! Makes a case that fails smaller, so that a person can read it.
 
 use crate::case::Case;
-use crate::independent::{FLAG_I, FLAG_M, FLAG_S, FLAG_X};
+use crate::independent::{FLAG_D, FLAG_I, FLAG_M, FLAG_S, FLAG_X};
 
 /// The smallest case found that still fails, by leaving out bytes of rule and subject and lowering the budget.
 pub fn shrunk(case: &Case, mut fails: impl FnMut(&Case) -> bool) -> Case {
@@ -30,7 +30,7 @@ fn candidates(case: &Case) -> Vec<Case> {
             candidates.push(smaller);
         }
     }
-    for flag in [FLAG_S, FLAG_M, FLAG_I, FLAG_X] {
+    for flag in [FLAG_S, FLAG_M, FLAG_I, FLAG_X, FLAG_D] {
         if case.flags & flag != 0 {
             candidates.push(Case { flags: case.flags & !flag, ..case.clone() });
         }

@@ -3,7 +3,7 @@
 //! Copy this file with `refusal.rs` and `raw.rs`, and link `libterravisco.a`.
 //!
 //! ```no_run
-//! use harness::terravisco::{Explanation, Listing, Matcher};
+//! use harness::terravisco::{Cards, Explanation, Listing, Matcher};
 //!
 //! let mut matcher = Matcher::new(1_000, 10);
 //! if let Listing::Complete { readings, .. } = matcher.list_readings(br"^(?:(\d{1,3},\d{3})|(\d+,\d+)) L$", 0, b"1,500 L") {
@@ -27,6 +27,11 @@
 //! for (line, outcome) in matcher.match_lines(br"^tank \d+: (?<litres>\d+) L$", 0, b"tank 7: 820 L\ntank 8: off\n").expect("the rule is sound") {
 //!     println!("{:?}: {:?}", line, outcome.field(b"litres", line, b"600"));
 //! }
+//! // A rule card: written here, and read where the rule is used.
+//! let mut cards = Cards::default();
+//! let card = cards.write(br"^tank \d+: \d+ L$", 0, 1_000).expect("the rule is sound").to_vec();
+//! let read = cards.read(&card).expect("it was just written");
+//! assert_eq!((read.rule, read.budget), (&br"^tank \d+: \d+ L$"[..], 1_000));
 //! ```
 
 // A program that this is copied into need not use all of it.
@@ -34,7 +39,7 @@
 
 use std::ops::Range;
 
-use crate::raw::{self, Call, Lookup, ANSWER_LENGTH};
+use crate::raw::{self, Call, CardText, Lookup, ANSWER_LENGTH, GROUPS, READ_ANSWER_LENGTH, WRITE_ANSWER_LENGTH};
 pub use crate::refusal::{Reason, Refusal};
 
 /// `.` takes a newline too.
@@ -45,16 +50,20 @@ pub const FLAG_M: u32 = 2;
 pub const FLAG_I: u32 = 4;
 /// Blanks in the rule, and `#` up to the line's end, are skipped.
 pub const FLAG_X: u32 = 8;
+/// The depot profile: a narrower rule, without references, without repeats that could go round without taking bytes, and with ranges of digits, of
+/// upper or of lower letters alone. What it takes is answered as without it.
+pub const FLAG_D: u32 = 16;
 
 const RULE_AREA: usize = 16_384;
 const WORK_PER_STEP: usize = 16;
 const MOST_BUDGET: u32 = 100_000;
 const LONGEST_RULE: usize = 1_000;
-const ROW_LENGTH: usize = 66;
-const PART_LENGTH: usize = 70;
-const GROUPS: usize = 32;
-const INDEX_LENGTH: usize = 544;
+const ROW_LENGTH: usize = 2 + 2 * GROUPS;
+const PART_LENGTH: usize = ROW_LENGTH + 4;
+const NAME_ENTRY: usize = 17;
+const INDEX_LENGTH: usize = GROUPS * NAME_ENTRY;
 const UNSET: u32 = u32::MAX;
+const CARD_AREA: usize = 1_064;
 
 /// Owns the areas for calls with one budget and room for so many readings. They are made once, and each call uses them again.
 pub struct Matcher {
@@ -199,7 +208,7 @@ impl Matcher {
         }
     }
 
-    /// The first reading of the line. The flags are `FLAG_S`, `FLAG_M`, `FLAG_I` and `FLAG_X`, as many as are wanted added up, or 0.
+    /// The first reading of the line. The flags are `FLAG_S`, `FLAG_M`, `FLAG_I`, `FLAG_X` and `FLAG_D`, as many as are wanted added up, or 0.
     pub fn match_line(&mut self, rule: &[u8], flags: u32, line: &[u8]) -> Outcome<'_> {
         let Answer { kind, detail, place, steps, .. } = self.call(Call::Match, rule, flags, line);
         outcome([kind, detail], place, steps, Reading { row: &self.rows[..ROW_LENGTH], names: &self.names })
@@ -342,7 +351,7 @@ impl<'m> Reading<'m> {
         (from != UNSET).then_some(from as usize..to as usize)
     }
 
-    /// What groups 1 to 32 took.
+    /// What each group took that a rule can have, from group 1 on.
     pub fn groups(self) -> impl Iterator<Item = Option<Range<usize>>> + 'm {
         (1..=GROUPS).map(move |number| self.group(number))
     }
@@ -398,5 +407,53 @@ impl Iterator for Marks<'_> {
 
     fn next(&mut self) -> Option<usize> {
         self.marks.find(|(_, mark)| **mark != 0).map(|(item, _)| item)
+    }
+}
+
+/// Writes and reads rule cards. It owns the areas for that; they are made once, and each call uses them again.
+pub struct Cards {
+    rule_area: Vec<u32>,
+    card: Vec<u8>,
+    rule_bytes: Vec<u8>,
+}
+
+/// What a rule card says.
+#[derive(Clone, Copy, PartialEq, Eq, Debug)]
+pub struct Card<'c> {
+    pub rule: &'c [u8],
+    pub flags: u32,
+    /// Steps at each start, at most 65,535.
+    pub budget: u32,
+    /// How many capturing groups the rule has.
+    pub groups: usize,
+}
+
+impl Default for Cards {
+    fn default() -> Cards {
+        Cards { rule_area: vec![0; RULE_AREA], card: vec![0; CARD_AREA], rule_bytes: vec![0; LONGEST_RULE] }
+    }
+}
+
+impl Cards {
+    /// The card of a rule with its flags and a budget of at most 65,535, which has that one card.
+    pub fn write(&mut self, rule: &[u8], flags: u32, budget: u32) -> Result<&[u8], Refusal> {
+        let mut answer = [0; WRITE_ANSWER_LENGTH];
+        raw::write_card(CardText { rule, flags, budget }, &mut self.rule_area, &mut self.card, &mut answer);
+        match answer {
+            [0, .., length] => Ok(&self.card[..length as usize]),
+            [_, number, place, ..] => Err(refusal(number, place as usize)),
+        }
+    }
+
+    /// What a card says. Any bytes may be handed in: what is not just as `write` writes it is refused.
+    pub fn read(&mut self, card: &[u8]) -> Result<Card<'_>, Refusal> {
+        let mut answer = [0; READ_ANSWER_LENGTH];
+        raw::read_card(card, &mut self.rule_area, &mut self.rule_bytes, &mut answer);
+        match answer {
+            [0, _, _, _, _, length, flags, budget, groups] => {
+                Ok(Card { rule: &self.rule_bytes[..length as usize], flags, budget, groups: groups as usize })
+            }
+            [_, number, place, ..] => Err(refusal(number, place as usize)),
+        }
     }
 }

@@ -34,17 +34,20 @@ fn told(lender: &mut Lender, seed: u64, number: u64, case: &Case, faults: &[Stri
     format!("case {number} of seed {seed}\n{}\n{}\nsmaller: {}\n{}", case.shown(), faults.join("\n"), small.shown(), small_faults.join("\n"))
 }
 
+/// The last number by which a call that walks is refused; later ones are those of rule cards.
+const LAST_REFUSAL: usize = 29;
+
 /// How many cases had which answer: a test that meets only some of them shows little.
 pub struct Kinds {
     endings: [u64; 6],
-    refusals: [u64; 27],
+    refusals: [u64; LAST_REFUSAL + 1],
     /// Numbers that are not given.
     never: &'static [usize],
 }
 
 impl Kinds {
     pub fn new(never: &'static [usize]) -> Kinds {
-        Kinds { endings: [0; 6], refusals: [0; 27], never }
+        Kinds { endings: [0; 6], refusals: [0; LAST_REFUSAL + 1], never }
     }
 
     pub fn count(&mut self, answer: &Answer) {
@@ -63,7 +66,7 @@ impl Kinds {
         let words = ["matched", "not", "complete", "full", "exhausted", "done"];
         let walked = self.endings.iter().zip(words).filter(|(count, _)| **count > 0).map(|(count, word)| format!("{count} {word}"));
         let walked = walked.collect::<Vec<_>>().join(", ");
-        let rarest = (1..27).filter(|number| !self.never.contains(number)).map(|number| self.refusals[number]).min().unwrap_or(0);
+        let rarest = (1..=LAST_REFUSAL).filter(|number| !self.never.contains(number)).map(|number| self.refusals[number]).min().unwrap_or(0);
         match self.refusals.iter().sum::<u64>() {
             0 => walked,
             refused => format!("{walked}, {refused} refused, each refusal at least {rarest} times"),

@@ -1,11 +1,14 @@
-// Reads rules and writes what the reader says of each. A line of input is one hex digit, the flags, and then the rule's bytes in hex. A line of
+// Reads rules and writes what the reader says of each. A line of input has two words, the flags in decimal and the rule's bytes in hex. A line of
 // output is 'sound' and the number of groups, or the refusal's number, 'at' and its place.
 use libc::STDIN_FILENO;
 use libc::STDOUT_FILENO;
 use reader::Compilation;
-ghost use Prim.Native.Nat.{_≤_, _<_};
+ghost use Prim.Native.Nat.{_≤_};
 ghost use lib.ListN.{length};
 ghost use Rattle.syntax.specs.Limits.{ruleLimit, ruleAreaNeed};
+
+// Greater flags are held at this.
+const FLAGS_MOST: u32 = 1000;
 
 // One rule's verdict.
 fn tell(rule: &[u8], flags: u32, area: &mut [u32])
@@ -28,11 +31,12 @@ fn tell(rule: &[u8], flags: u32, area: &mut [u32])
 
 // The verdict on the rule of the line between two positions.
 fn line(input: &[u8], from: usize, to: usize, area: &mut [u32])
-    requires { ⌜ (from < length (now input)) × (to ≤ length (now input)) × (ruleAreaNeed ≤ length (now area)) ⌝ }
+    requires { ⌜ (from ≤ to) × (to ≤ length (now input)) × (ruleAreaNeed ≤ length (now area)) ⌝ }
 {
     let mut rule = [0u8; 1000];
-    let flags = vectors::digit(input[from]) as u32;
-    let n = vectors::decode(input, from + 1, to, &mut rule);
+    let flags_end = vectors::word_end(input, from, to);
+    let flags = vectors::number(input, from, flags_end, FLAGS_MOST);
+    let n = vectors::decode(input, vectors::next_word(flags_end, to), to, &mut rule);
     tell(&rule[..n], flags, area);
 }
 

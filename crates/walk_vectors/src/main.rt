@@ -1,6 +1,6 @@
 // Walks rules from given starts and writes each end, with its captures and the steps up to it, and how the walk stopped.
 //
-// A line of input has one hex digit, the flags, and then four words: the budget and the start in decimal, the rule and the subject in hex.
+// A line of input has five words: the flags, the budget and the start in decimal, the rule and the subject in hex.
 // It gives a line for each end, 'end', the steps, the position and each group's span, 's-e' or '-'; and last 'done' or 'spent' and the steps,
 // or, for a rule that is refused, the refusal's number, 'at' and its place.
 use libc::STDIN_FILENO;
@@ -161,14 +161,15 @@ fn line(input: &[u8], from: usize, to: usize, area: &mut [u32], work: &mut [u32]
     }
     let mut rule = [0u8; 1000];
     let mut sub = [0u8; 1000];
-    let flags = vectors::digit(input[from]) as u32;
-    let budget_at = vectors::next_word(vectors::word_end(input, from, to), to);
+    let flags_end = vectors::word_end(input, from, to);
+    let budget_at = vectors::next_word(flags_end, to);
     let budget_end = vectors::word_end(input, budget_at, to);
     let start_at = vectors::next_word(budget_end, to);
     let start_end = vectors::word_end(input, start_at, to);
     let rule_at = vectors::next_word(start_end, to);
     let rule_end = vectors::word_end(input, rule_at, to);
     let sub_at = vectors::next_word(rule_end, to);
+    let flags = vectors::number(input, from, flags_end, 1000);
     let budget = vectors::number(input, budget_at, budget_end, 20000);
     let start = vectors::number(input, start_at, start_end, 20000) as usize;
     let n = vectors::decode(input, rule_at, rule_end, &mut rule);

@@ -1,10 +1,12 @@
 //! Calls at the limits of documents 01 and 02: each of refusals 1 to 8 at its last good and first bad value, all of them together in their order,
 //! subjects of 65,535 bytes, the greatest budget, also within a reference, every flag setting, rules of 1,000 bytes that `x` mostly skips, the
-//! longest names and the most, marks of every length around a rule's, as many successive matches as there can be, lines of every length around the
-//! limit and result areas around what they need, and lookups at the edges of an index and of a row.
+//! longest names and the most, least lengths beyond what is held, marks of every length around a rule's, as many successive matches as there can be,
+//! lines of every length around the limit and result areas around what they need, and lookups at the edges of an index and of a row.
 
 use harness::case::{shown, Case};
-use harness::independent::{Ending, FLAG_I, FLAG_X, PART_LENGTH, ROW_LENGTH, UNSET};
+use harness::independent::{
+    Ending, ALL_FLAGS, ENTRY_LENGTH, FLAG_D, FLAG_I, FLAG_X, INDEX_LENGTH, LONGEST_NAME, MOST_GROUPS, PART_LENGTH, ROW_LENGTH, UNSET,
+};
 use harness::lender::Lender;
 use harness::looker::{self, Looker};
 use harness::raw::{Call, Lookup};
@@ -27,6 +29,7 @@ fn main() -> std::process::ExitCode {
         names(&mut group, &mut lender, call);
         index_lengths(&mut group, &mut lender, call);
     }
+    least_lengths(&mut group, &mut lender);
     marks(&mut group, &mut lender);
     far_attempts(&mut group, &mut lender);
     most_matches(&mut group, &mut lender);
@@ -78,13 +81,13 @@ fn with_limits_broken(call: Call, breaks: impl Fn(u32) -> usize) -> Case {
     Case {
         call,
         rule: vec![b'b'; 1_000 + breaks(1)],
-        flags: if breaks(3) == 1 { 16 } else { 15 },
+        flags: if breaks(3) == 1 { ALL_FLAGS + 1 } else { ALL_FLAGS },
         subject: vec![b'a'; 65_535 + breaks(2)],
         budget,
         rule_area: 16_384 - breaks(5),
         work_area: 16 * budget as usize - breaks(6),
         result_area: room - breaks(7),
-        name_index: 544 - breaks(8),
+        name_index: INDEX_LENGTH - breaks(8),
         marks: 1_000 * (1 - breaks(7)),
     }
 }
@@ -101,7 +104,7 @@ fn long_rules(group: &mut Group, lender: &mut Lender, call: Call) {
         "(?:|)".repeat(200),
         "\\b".repeat(500),
         "a{1,255}?".repeat(111),
-        format!("{}{}", "()".repeat(32), "\\1".repeat(468)),
+        format!("{}{}", "()".repeat(MOST_GROUPS), "\\1".repeat(500 - MOST_GROUPS)),
         format!("{}{}{}", "(".repeat(24), "x".repeat(952), ")".repeat(24)),
         format!("{}{}", (10..42).map(|number| format!("(?<abcdefghijklm_{number}>)")).collect::<String>(), "\\g{abcdefghijklm_41}".repeat(14)),
         format!("{}{}{}", "(?:".repeat(24), "|".repeat(904), ")".repeat(24)),
@@ -150,16 +153,17 @@ fn long_reference(group: &mut Group, lender: &mut Lender, call: Call) {
 
 /// Result areas around a whole number of rows; an explanation is lent none of them.
 fn rooms(group: &mut Group, lender: &mut Lender, call: Call) {
-    for numbers in [65, 66, 67, 131, 132, 133, 197, 198] {
+    let around = |rows: usize| (rows * ROW_LENGTH).saturating_sub(1)..=rows * ROW_LENGTH + 1;
+    for numbers in (0..=3).flat_map(around).chain([66, 132]) {
         for rule in ["", "a|a|(a)", "(a?)*"] {
             judge(group, lender, &Case { result_area: numbers, ..Case::new(call, rule.as_bytes(), 0, b"a", 100, 1) });
         }
     }
 }
 
-/// All sixteen flag settings on rules that tell each flag, and settings from 16 on, which are refused whatever bits lie below.
+/// All flag settings on rules that tell each flag, and settings from the first unknown bit on, which are refused whatever bits lie below.
 fn flags(group: &mut Group, lender: &mut Lender, call: Call) {
-    for flags in (0..16).chain([16, 17, 20, 24, 31, 32, 63, 64, 255, 256, 65_536, 1 << 31, (1 << 31) + 15, u32::MAX]) {
+    for flags in (0..64).chain([64, 255, 256, 65_536, 1 << 31, (1 << 31) + 15, u32::MAX]) {
         for (rule, subject) in [(&b"a.b"[..], &b"A\nB"[..]), (b"^b $", b"a\nb"), (b"[^a] #\n*", b"A a"), (b"(a) \\1", b"aA"), (b"( ?:a", b"a")] {
             judge(group, lender, &Case::new(call, rule, flags, subject, 100, 2));
         }
@@ -186,13 +190,14 @@ fn long_rules_with_blanks(group: &mut Group, lender: &mut Lender, call: Call) {
     }
 }
 
-/// Names of 16 and 17 bytes in groups and in each form of a reference, and 32 and 33 groups with names, the longest and the shortest.
+/// Names of 16 and 17 bytes in groups and in each form of a reference, and as many groups with names as there can be, one less and one more, with
+/// short names and with long ones.
 fn names(group: &mut Group, lender: &mut Lender, call: Call) {
     for length in [1, 2, 15, 16, 17, 18, 255, 256, 257, 272, 900] {
         let name = "_z9".repeat(length)[..length].to_string();
         for (opening, closing) in [("\\k<", ">"), ("\\k{", "}"), ("\\k'", "'"), ("\\g{", "}")] {
             let reference = format!("{opening}{name}{closing}");
-            for rule in [reference.clone(), format!("(?<{}>a){reference}", &name[..length.min(16)]), format!("{reference}|(?<n>a)")] {
+            for rule in [reference.clone(), format!("(?<{}>a){reference}", &name[..length.min(LONGEST_NAME)]), format!("{reference}|(?<n>a)")] {
                 judge(group, lender, &Case::new(call, rule.as_bytes(), 0, b"aa", 100, 2));
             }
         }
@@ -200,13 +205,22 @@ fn names(group: &mut Group, lender: &mut Lender, call: Call) {
             judge(group, lender, &Case::new(call, rule.as_bytes(), 0, b"aa", 100, 2));
         }
     }
-    for groups in 31..=34 {
-        for (before, behind) in [("n", ""), ("a234567890123_", ""), ("_", ")(")] {
+    // In a rule of 1,000 bytes as many as that have names of so many bytes, with two digits at the end.
+    let longest = (1_000 / (MOST_GROUPS + 3) - "(?<00>a?)".len()).min(LONGEST_NAME - 2);
+    for groups in MOST_GROUPS - 1..=MOST_GROUPS + 2 {
+        for (before, behind) in [("n", ""), (&"a23456789_bcdef"[..longest], ""), ("_", ")(")] {
             let rule: String = (0..groups).map(|number| format!("(?<{before}{number:02}>a?{behind})")).collect();
             judge(group, lender, &Case::new(call, rule.as_bytes(), 0, b"aa", 1_000, 2));
             // The last name once more: the first of all groups, or one too many.
             let twice = format!("(?<{before}{:02}>){rule}", groups - 1);
             judge(group, lender, &Case::new(call, twice.as_bytes(), 0, b"aa", 1_000, 2));
+        }
+    }
+    // The longest name for the last group, and references to that and to the groups beside it.
+    for groups in MOST_GROUPS - 1..=MOST_GROUPS + 1 {
+        for reference in ["", "\\k<a23456789_bcdefZ>", &format!("\\{MOST_GROUPS}"), &format!("\\g{{{}}}", MOST_GROUPS + 1), "\\g{-1}"] {
+            let rule = format!("{}(?<a23456789_bcdefZ>a){reference}", "(b?)".repeat(groups - 1));
+            judge(group, lender, &Case::new(call, rule.as_bytes(), 0, b"baa", 1_000, 2));
         }
     }
     for flags in [0, FLAG_I, FLAG_X, FLAG_I | FLAG_X] {
@@ -225,14 +239,30 @@ fn names(group: &mut Group, lender: &mut Lender, call: Call) {
     }
 }
 
-/// An index under 544 bytes is refused after the result area and before the rule is read; bytes behind 544 stay as they are.
+/// An index that is short is refused after the result area and before the rule is read; bytes behind what it needs stay as they are.
 fn index_lengths(group: &mut Group, lender: &mut Lender, call: Call) {
-    for name_index in [0, 1, 16, 17, 18, 543, 544, 545, 561, 1_088, 5_000] {
+    let enough = INDEX_LENGTH;
+    for name_index in [0, 1, 16, 17, 18, 543, 544, 545, enough - 1, enough, enough + 1, enough + ENTRY_LENGTH, 2 * enough, 5_000] {
         for rule in ["", "(?<n>a)", "()(?<n>a)|(?<m>b)", "(?<n>a", "(?<n>a)(?<n>b)", "b"] {
             let case = Case::new(call, rule.as_bytes(), 0, b"a", 100, 1);
-            judge(group, lender, &Case { name_index, result_area: 65, ..case.clone() });
+            judge(group, lender, &Case { name_index, result_area: ROW_LENGTH - 1, ..case.clone() });
             judge(group, lender, &Case { name_index, budget: 1, ..case.clone() });
             judge(group, lender, &Case { name_index, ..case });
+        }
+    }
+}
+
+/// Least lengths up to and beyond what is held, in repeats that nest and in parts that follow one another: none of them is 0 where a number is too small
+/// for it.
+fn least_lengths(group: &mut Group, lender: &mut Lender) {
+    for (bound, levels) in [(2, 23), (4, 16), (16, 16), (64, 11), (128, 5), (255, 23), (256, 1)] {
+        for inside in ["a", "a?", "", "ab|", "^", "[^\\d\\D]"] {
+            let nested = format!("{}{inside}{}", "(?:".repeat(levels), format!("){{{bound}}}").repeat(levels));
+            for rule in
+                [format!("(?:{nested})*"), format!("(?:{nested}{nested})+?"), format!("(?:{nested}|b){{0,}}"), format!("(?:{nested}|b?){{0,}}")]
+            {
+                judge(group, lender, &Case::new(Call::Match, rule.as_bytes(), FLAG_D, b"ab", 300, 1));
+            }
         }
     }
 }
@@ -316,7 +346,8 @@ fn line_lengths(group: &mut Group, lender: &mut Lender) {
 /// Result areas of each length around what no, one, two and three lines need: 7 exactly if lines outnumber parts.
 fn parts(group: &mut Group, lender: &mut Lender) {
     for buffer in ["", "\n", "a", "a\n", "\r\n", "\n\n", "a\nb", "\na\n", "a\n\nb", "\n\n\n"] {
-        for numbers in [0, 1, 66, 69, 70, 71, 132, 139, 140, 141, 198, 209, 210, 211, 280] {
+        let around = |parts: usize| (parts * PART_LENGTH).saturating_sub(1)..=parts * PART_LENGTH + 1;
+        for numbers in (0..=3).flat_map(around).chain([66, 70, ROW_LENGTH, 2 * ROW_LENGTH, 3 * ROW_LENGTH, 4 * PART_LENGTH]) {
             for rule in ["", "a", "(?<n>a)|(b)", "a**", "a{9}"] {
                 judge(group, lender, &Case { result_area: numbers, ..Case::new(Call::Batch, rule.as_bytes(), 0, buffer.as_bytes(), 9, 1) });
             }
@@ -335,29 +366,30 @@ fn many_lines(group: &mut Group, lender: &mut Lender) {
     }
 }
 
-/// Which entry counts, in indices of every length up to 34 entries: the last whole one among the first 32, and of two that have the name the first.
+/// Which entry counts, in indices of every length up to two entries more than count: the last whole one among those, and of two that have the name the
+/// first.
 fn lookups_by_index(group: &mut Group) {
     let looker = &mut Looker::default();
     // Every group has a span of its own.
-    let row: Vec<u32> = [0, 40].into_iter().chain((1..=32).flat_map(|number| [number, number + 1])).collect();
+    let row: Vec<u32> = [0, LINE as u32].into_iter().chain((1..=MOST_GROUPS as u32).flat_map(|number| [number, number + 1])).collect();
     let entry = |name: &[u8], padding: u8| {
-        let mut entry = vec![padding; 17];
+        let mut entry = vec![padding; ENTRY_LENGTH];
         entry[0] = name.len() as u8;
         entry[1..=name.len()].copy_from_slice(name);
         entry
     };
-    for entries in 1..=34 {
+    for entries in 1..=MOST_GROUPS + 2 {
         for padding in [0, b'n', 0xFF] {
             let mut names = entry(b"m", padding).repeat(entries - 1);
             names.extend(entry(b"n", padding));
-            for length in [names.len() - 17, names.len() - 16, names.len() - 1, names.len()] {
+            for length in [names.len() - ENTRY_LENGTH, names.len() - ENTRY_LENGTH + 1, names.len() - 1, names.len()] {
                 judge_lookup(group, looker, Lookup { names: &names[..length], ..asked(b"n", &row) });
                 judge_lookup(group, looker, Lookup { names: &[&names[..length], &entry(b"n", 0)].concat(), ..asked(b"n", &row) });
             }
         }
     }
     // A name of each length against each length byte, with the bytes that fit.
-    for byte in (0..=18).chain([31, 32, 33, 127, 128, 254, 255]) {
+    for byte in (0..=18).chain([31, 32, 33, 63, 64, 65, 127, 128, 254, 255]) {
         for length in 0..=18 {
             let names: Vec<u8> = std::iter::once(byte).chain([b'a'; 16]).chain(entry(b"a", 0)).collect();
             judge_lookup(group, looker, Lookup { names: &names, ..asked(&[b'a'; 18][..length], &row) });
@@ -365,20 +397,24 @@ fn lookups_by_index(group: &mut Group) {
     }
 }
 
-/// A line of 40 bytes that matched, and a standing text.
+/// More than the groups that a rule can have.
+const LINE: usize = MOST_GROUPS + 8;
+
+/// A line that matched, and a standing text.
 fn asked<'a>(name: &'a [u8], row: &'a [u32]) -> Lookup<'a> {
-    Lookup { name, names: b"\x01n\0\0\0\0\0\0\0\0\0\0\0\0\0\0\0", line: &[b'x'; 40], kind: 0, row, standing: b"standing" }
+    Lookup { name, names: b"\x01n\0\0\0\0\0\0\0\0\0\0\0\0\0\0\0", line: &[b'x'; LINE], kind: 0, row, standing: b"standing" }
 }
 
-/// Each number of a row at each value that tells whether a rule is broken, rows of 64 to 68 numbers, and every kind.
+/// Each number of a row at each value that tells whether a rule is broken, rows that are longer or shorter than a row, and every kind.
 fn lookups_by_row(group: &mut Group) {
     let looker = &mut Looker::default();
-    let good: Vec<u32> = [10, 30].into_iter().chain((0..32).flat_map(|pair| if pair % 2 == 0 { [12, 20] } else { [UNSET; 2] })).collect();
+    let good: Vec<u32> = [10, 30].into_iter().chain((0..MOST_GROUPS).flat_map(|pair| if pair % 2 == 0 { [12, 20] } else { [UNSET; 2] })).collect();
+    let length = LINE as u32;
     for kind in (0..=6).chain([256, 65_536, 1 << 31, u32::MAX]) {
         judge_lookup(group, looker, Lookup { kind, ..asked(b"n", &good) });
     }
-    for at in 0..66 {
-        for value in [0, 9, 10, 11, 12, 13, 19, 20, 21, 29, 30, 31, 39, 40, 41, 65_535, 1 << 31, UNSET - 1, UNSET] {
+    for at in 0..ROW_LENGTH {
+        for value in [0, 9, 10, 11, 12, 13, 19, 20, 21, 29, 30, 31, length - 1, length, length + 1, 65_535, 1 << 31, UNSET - 1, UNSET] {
             let mut row = good.clone();
             row[at] = value;
             judge_lookup(group, looker, asked(b"n", &row));
@@ -387,7 +423,7 @@ fn lookups_by_row(group: &mut Group) {
             judge_lookup(group, looker, asked(b"n", &row));
         }
     }
-    for numbers in [0, 1, 2, 3, 4, 64, 65, 66, 67, 68, 132] {
+    for numbers in (0..=4).chain([64, 65, 66, 67]).chain(ROW_LENGTH - 2..=ROW_LENGTH + 2).chain([2 * ROW_LENGTH]) {
         for more in [0, 15, UNSET] {
             let mut row = good.clone();
             row.resize(numbers, more);
@@ -395,9 +431,10 @@ fn lookups_by_row(group: &mut Group) {
         }
     }
     // On an empty line only empty spans fit, and only unset ones where there is no span.
-    for (row, line) in [(vec![0; 66], 0), (vec![0; 66], 1), (vec![UNSET; 66], 40), ([vec![0; 2], vec![UNSET; 64]].concat(), 0)] {
-        judge_lookup(group, looker, Lookup { line: &[b'x'; 40][..line], ..asked(b"n", &row) });
-        judge_lookup(group, looker, Lookup { line: &[b'x'; 40][..line], standing: b"", ..asked(b"n", &row) });
+    let (zeros, unset) = (vec![0; ROW_LENGTH], vec![UNSET; ROW_LENGTH]);
+    for (row, line) in [(zeros.clone(), 0), (zeros.clone(), 1), (unset.clone(), LINE), ([&zeros[..2], &unset[2..]].concat(), 0)] {
+        judge_lookup(group, looker, Lookup { line: &[b'x'; LINE][..line], ..asked(b"n", &row) });
+        judge_lookup(group, looker, Lookup { line: &[b'x'; LINE][..line], standing: b"", ..asked(b"n", &row) });
     }
 }
 

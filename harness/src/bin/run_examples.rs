@@ -1,9 +1,10 @@
-//! Runs the examples of `data/`: Perl's documents, documents 01 and 02 with their open points, the guide, explanations, successive matches and a
-//! day's lines. Both the library and the
-//! independent matcher have to give what was written down by hand.
+//! Runs the examples of `data/`: Perl's documents, documents 01 and 02 with their open points, the guide, explanations, successive matches, a
+//! day's lines, lookups and rule cards. Both the library and the independent matcher have to give what was written down by hand.
 
 use std::path::Path;
 
+use harness::card_examples;
+use harness::cards::CardLender;
 use harness::case::Case;
 use harness::examples::{self, Example};
 use harness::independent::lookup::field;
@@ -23,8 +24,8 @@ fn main() -> std::process::ExitCode {
         ("successive matches", "scans.txt"),
         ("a day's lines", "batches.txt"),
     ];
-    let lookups = run_lookups("lookups of fields", "lookups.txt");
-    if files.map(|(name, file)| run(name, file)).iter().all(|passed| *passed) && lookups {
+    let others = [run_lookups("lookups of fields", "lookups.txt"), run_cards("rule cards", "cards.txt")];
+    if files.map(|(name, file)| run(name, file)).iter().chain(&others).all(|passed| *passed) {
         std::process::ExitCode::SUCCESS
     } else {
         std::process::ExitCode::FAILURE
@@ -64,6 +65,27 @@ fn run_lookups(name: &'static str, file: &str) -> bool {
                     faults.push(format!("the independent matcher gives {:?}, expected {expected:?}", field(&lookup)));
                 }
                 group.judge(&format!("line {}: {}\n{}", example.line, example.from, looker::shown(&lookup)), &faults);
+            }
+        }
+    }
+    let passed = !group.has_failed();
+    group.end("");
+    passed
+}
+
+/// The same for the rule cards.
+fn run_cards(name: &'static str, file: &str) -> bool {
+    let mut group = Group::new(name);
+    match text_of(file).and_then(|text| card_examples::read(&text)) {
+        Err(error) => group.fail(&format!("{file}: {error}")),
+        Ok(examples) => {
+            let mut lender = CardLender::default();
+            for example in &examples {
+                for (case, expected) in example.calls() {
+                    let mut faults = lender.compare(&case);
+                    faults.extend(card_examples::faults(&case, &expected));
+                    group.judge(&format!("line {}: {}\n{}", example.line, example.from, case.shown()), &faults);
+                }
             }
         }
     }

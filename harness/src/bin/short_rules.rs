@@ -1,10 +1,10 @@
 //! All short rules against the independent matcher: every escape with every byte, every named set with every byte, with and without `i`, and every
 //! rule of up to four bytes over those that mean something, also over those that mean something under `x`; every beginning of a name with up to four
-//! bytes behind it, and up to four pieces with names in every order. Each is matched or listed, and explained, with marks of each length up to one
+//! bytes behind it, up to four pieces with names in every order, and up to four pieces that the depot profile takes or refuses. Each is matched or listed, and explained, with marks of each length up to one
 //! more than the rule has bytes, and scanned for successive matches. Where faults hide in the order of refusals, a short rule shows them.
 
 use harness::case::Case;
-use harness::independent::{FLAG_I, FLAG_X};
+use harness::independent::{FLAG_D, FLAG_I, FLAG_X};
 use harness::lender::Lender;
 use harness::raw::Call;
 use harness::report::Group;
@@ -16,6 +16,9 @@ const MEANT_UNDER_X: &[u8] = b" #\n\\()[]{}|*?:1ac^";
 /// What may stand in a name, close it, or come behind it.
 const MEANT_IN_NAMES: &[u8] = b"a_1Z<>{}')\\ =";
 const PIECES: [&str; 14] = ["(?<a>", "(?<b>", "(?<", "\\k<a>", "\\g{b}", "\\k'", "\\1", "(", ")", ")", "|", "*", "[", "a>"];
+/// What the depot profile takes, and what it refuses.
+const PROFILE_PIECES: [&str; 18] =
+    ["a", "[a-z]", "[Z-a]", "[0-\\x39]", "[z-a]", "\\1", "\\2", "^", "?", "*", "+", "{2,}", "{0}", "(?:", "(", ")", ")", "|"];
 
 const NAMES: [&str; 16] =
     ["alpha", "upper", "lower", "alnum", "xdigit", "blank", "cntrl", "ascii", "print", "graph", "punct", "digit", "word", "space", "h", ""];
@@ -30,7 +33,8 @@ fn main() -> std::process::ExitCode {
         tester.rules(MEANT_IN_NAMES, 0, &mut opening.to_vec(), 4);
         tester.rules(MEANT_IN_NAMES, FLAG_X, &mut opening.to_vec(), 2);
     }
-    tester.pieces(&mut Vec::new(), 4);
+    tester.pieces(&PIECES, &[0, FLAG_I, FLAG_X], &mut Vec::new(), 4);
+    tester.pieces(&PROFILE_PIECES, &[FLAG_D, FLAG_D, FLAG_D | FLAG_I, FLAG_D | FLAG_X], &mut Vec::new(), 4);
     tester.group.end("")
 }
 
@@ -105,13 +109,14 @@ impl Tester {
             }
         }
     }
-    /// Every rule that begins so and goes on with up to so many pieces, under `i`, `x` or neither.
-    fn pieces(&mut self, rule: &mut Vec<u8>, more: usize) {
-        self.judge(&Case::new(Call::Match, rule, [0, FLAG_I, FLAG_X][rule.len() % 3], b"aaa", 60, 1));
+
+    /// Every rule that begins so and goes on with up to so many of the pieces, under one of the flag settings.
+    fn pieces(&mut self, pieces: &[&str], flags: &[u32], rule: &mut Vec<u8>, more: usize) {
+        self.judge(&Case::new(Call::Match, rule, flags[rule.len() % flags.len()], b"aaa", 60, 1));
         if more > 0 {
-            for piece in PIECES {
+            for piece in pieces {
                 rule.extend(piece.bytes());
-                self.pieces(rule, more - 1);
+                self.pieces(pieces, flags, rule, more - 1);
                 rule.truncate(rule.len() - piece.len());
             }
         }

@@ -1,13 +1,14 @@
 //! The Rust interface: `Matcher` answers as the independent matcher does, on the examples that it was made for and on random calls, made from
 //! several threads at once.
 
+use harness::cards::{shown as shown_card, Asked, CardCase, Told};
 use harness::case::{shown, Case};
-use harness::independent::Answer;
-use harness::random::calls;
+use harness::independent::{self, Answer};
+use harness::random::{calls, cards as random_cards};
 use harness::raw::Call;
 use harness::report::Group;
 use harness::terravisco::{
-    Attempt, Explanation, Failure, Lines, Listing, Matcher, Outcome, Readings, Reason, Refusal, FLAG_I, FLAG_M, FLAG_S, FLAG_X,
+    Attempt, Card, Cards, Explanation, Failure, Lines, Listing, Matcher, Outcome, Readings, Reason, Refusal, FLAG_D, FLAG_I, FLAG_M, FLAG_S, FLAG_X,
 };
 
 const BUDGET: u32 = 1_000;
@@ -22,6 +23,7 @@ fn main() -> std::process::ExitCode {
     explanations(&mut group, &mut matcher);
     successive_matches(&mut group, &mut matcher);
     lines(&mut group, &mut matcher);
+    rule_cards(&mut group);
     let greedy =
         matches!(Matcher::new(u32::MAX, 1).match_line(b"a", 0, b"a"), Outcome::Refused(Refusal { reason: Reason::BudgetTooGreat, place: 0 }));
     group.judge("a budget over its limit", &if greedy { Vec::new() } else { vec!["it is not refused".to_string()] });
@@ -41,7 +43,7 @@ fn random_calls(seed: u64) -> Vec<(String, Vec<String>)> {
     let mut judged = Vec::new();
     for number in 0..2_000 {
         let random = calls::case(seed, number);
-        let flags = random.flags & (FLAG_S | FLAG_M | FLAG_I | FLAG_X);
+        let flags = random.flags & (FLAG_S | FLAG_M | FLAG_I | FLAG_X | FLAG_D);
         for call in [random.call, Call::Explain, Call::Scan, Call::Batch] {
             // The matcher has room for every line.
             let room = if call == Call::Batch { random.subject.len() + 1 } else { ROWS };
@@ -84,7 +86,14 @@ fn flags(group: &mut Group, matcher: &mut Matcher) {
         let expected = [0, FLAG_S, FLAG_M, FLAG_I, FLAG_X].map(|flags| flags == flag);
         group.judge(&format!("flag {flag}"), &if matches == expected { Vec::new() } else { vec![format!("{matches:?}")] });
     }
-    let refused = matches!(matcher.match_line(b"a", 16, b"a"), Outcome::Refused(Refusal { reason: Reason::UnknownFlag, place: 0 }));
+    let refused = matches!(matcher.match_line(b"a", 32, b"a"), Outcome::Refused(Refusal { reason: Reason::UnknownFlag, place: 0 }));
+    let narrow = [
+        matches!(matcher.match_line(br"(\d+),\d", FLAG_D, b"1,5"), Outcome::Matched { .. }),
+        matches!(matcher.match_line(br"(a)\1", FLAG_D, b"aa"), Outcome::Refused(Refusal { reason: Reason::ReferenceInProfile, place: 3 })),
+        matches!(matcher.match_line(br"(a?)*", FLAG_D, b"aa"), Outcome::Refused(Refusal { reason: Reason::EmptyRoundsInProfile, place: 4 })),
+        matches!(matcher.match_line(br"[A-z]", FLAG_D, b"aa"), Outcome::Refused(Refusal { reason: Reason::RangeInProfile, place: 1 })),
+    ];
+    group.judge("the depot profile", &if narrow == [true; 4] { Vec::new() } else { vec![format!("{narrow:?}")] });
     group.judge("an unknown flag", &if refused { Vec::new() } else { vec!["it is not refused".to_string()] });
 }
 
@@ -177,6 +186,40 @@ fn lines(group: &mut Group, matcher: &mut Matcher) {
         matches!(matcher.match_lines(b"a**", 0, b"a\nb"), Err(Refusal { reason: Reason::RepeatOnRepeat, place: 2 })),
     ];
     group.judge("other buffers", &if others == [true; 4] { Vec::new() } else { vec![format!("{others:?}")] });
+}
+
+/// A card that is written and read back, what is refused in both, and random cards.
+fn rule_cards(group: &mut Group) {
+    let cards = &mut Cards::default();
+    let rule = br"^tank (?<tank>\w+): (\d+) L$";
+    let card = cards.write(rule, FLAG_I, 1_000).map(<[u8]>::to_vec).unwrap_or_default();
+    let read = cards.read(&card);
+    let is_right = card.len() == 41 && read == Ok(Card { rule, flags: FLAG_I, budget: 1_000, groups: 2 });
+    group.judge("a card written and read", &if is_right { Vec::new() } else { vec![format!("{card:?} {read:?}")] });
+    let refused = [
+        cards.write(b"a**", 0, 1).err() == Some(Refusal { reason: Reason::RepeatOnRepeat, place: 2 }),
+        cards.write(b"a", 0, 65_536).err() == Some(Refusal { reason: Reason::BudgetTooGreat, place: 0 }),
+        cards.read(&card[..card.len() - 1]).err() == Some(Refusal { reason: Reason::CardCutShort, place: 0 }),
+        cards.read(b"\x04").is_err_and(|refusal| refusal.to_string() == "refusal 30 at 0: the card has a record of an unknown kind"),
+    ];
+    group.judge("cards that are refused", &if refused == [true; 4] { Vec::new() } else { vec![format!("{refused:?}")] });
+    for number in 0..2_000 {
+        let case = random_cards::case(95, number);
+        let (ours, case) = match &case.asked {
+            Asked::Write { rule, flags, budget } => {
+                let told = cards.write(rule, *flags, *budget).map(|card| Told::Written(card.to_vec()));
+                (told, CardCase::write(rule, *flags, *budget))
+            }
+            Asked::Read { card } => (cards.read(card).map(told_card), CardCase::read(card)),
+        };
+        let ours = ours.map_err(|refusal| independent::Refusal { number: refusal.reason.number(), place: refusal.place });
+        let (ours, expected) = (shown_card(&ours), shown_card(&case.expected()));
+        group.judge(&case.shown(), &if ours == expected { Vec::new() } else { vec![format!("{ours}, expected {expected}")] });
+    }
+}
+
+fn told_card(card: Card) -> Told {
+    Told::Read(independent::cards::Card { rule: card.rule.to_vec(), flags: card.flags, budget: card.budget, groups: card.groups })
 }
 
 fn told_line(line: &[u8], outcome: &Outcome) -> String {

@@ -8,18 +8,19 @@ use crate::raw::Call;
 use super::batch::{self, Part, PART_LENGTH};
 use super::explain::{Explanation, Log};
 use super::names::{self, Index, INDEX_LENGTH};
-use super::reader::{self, Refusal, ALL_FLAGS};
+use super::reader::{self, Refusal, ALL_FLAGS, MOST_GROUPS};
 use super::scan;
 use super::tree::Rule;
 use super::walk::{End, Event, Walk};
 
-pub const ROW_LENGTH: usize = 66;
+/// 02 j): "A row becomes 130 numbers: start, end and 64 pairs."
+pub const ROW_LENGTH: usize = 2 + 2 * MOST_GROUPS;
+pub const LONGEST_RULE: usize = 1_000;
 pub const LONGEST_SUBJECT: usize = 65_535;
 pub const UNSET: u32 = 4_294_967_295;
 pub const RULE_AREA: usize = 16_384;
 pub const WORK_PER_STEP: usize = 16;
 
-/// A row: start, end, then 32 pairs.
 pub type Row = [u32; ROW_LENGTH];
 
 /// All that a call is given. Of the lent areas only their lengths matter for the answer.
@@ -149,7 +150,7 @@ fn unacceptable(call: Call, inputs: &Inputs) -> Option<u32> {
         Call::Batch => batch::lines(inputs.subject).len() > inputs.result_area / PART_LENGTH,
     };
     let tests = [
-        inputs.rule.len() > 1_000,
+        inputs.rule.len() > LONGEST_RULE,
         call != Call::Batch && inputs.subject.len() > LONGEST_SUBJECT,
         inputs.flags > ALL_FLAGS,
         inputs.budget > 100_000,
@@ -211,7 +212,7 @@ fn list_from(start: usize, walk: &mut Walk, room: usize, rows: &mut Vec<Row>) ->
     }
 }
 
-/// "A row is 66 numbers of 32 bits: start, end, then 32 pairs; an unset or missing group is 4294967295 twice."
+/// "an unset or missing group is 4294967295 twice"
 pub fn row(start: usize, end: &End) -> Row {
     let number = |place: usize| u32::try_from(place).expect("a place in a subject fits");
     let mut row = [UNSET; ROW_LENGTH];

@@ -1,6 +1,7 @@
 //! Bracketed classes: document 01, "Bracketed classes", and what `i` does to them by document 02.
 
 use super::escapes::Escape;
+use super::profile::{is_plain_range, MIXED_RANGE};
 use super::reader::{Reader, Refusal};
 use super::sets::{self, ByteSet};
 
@@ -58,6 +59,10 @@ impl Reader<'_> {
         // "refused once both its ends have been read soundly"
         let high = self.member()?;
         match (low, high) {
+            // 02 k): "29 is met left to right, after 15 on the same byte"
+            (Member::Byte(low), Member::Byte(high)) if low <= high && self.is_narrow() && !is_plain_range(low, high) => {
+                Err(Refusal { number: MIXED_RANGE, place })
+            }
             (Member::Byte(low), Member::Byte(high)) if low <= high => {
                 marks.add_range(low, high);
                 Ok(())

@@ -1,5 +1,6 @@
 //! The field lookup: document 02, request e). It reads an index and a row of any bytes and numbers, whoever wrote them.
 
+use super::{ENTRY_LENGTH, LONGEST_NAME, MOST_GROUPS, ROW_LENGTH};
 use crate::raw::Lookup;
 
 /// A field is a part of the line or of the standing text, from one place up to another.
@@ -32,22 +33,22 @@ pub fn field(lookup: &Lookup) -> Field {
     }
 }
 
-/// "of its first 32 entries the first whole one of that name, length 1 to 16, whatever its padding, counts". Groups are counted from 1.
+/// 02 j): "64 entries, all of them counting in the lookup"; "the first whole one of that name, length 1 to 16, whatever its padding, counts". Groups are counted from 1.
 fn group_of(name: &[u8], index: &[u8]) -> Option<usize> {
-    for group in 1..=32 {
-        let entry = index.get(17 * (group - 1)..17 * group)?;
+    for group in 1..=MOST_GROUPS {
+        let entry = index.get(ENTRY_LENGTH * (group - 1)..ENTRY_LENGTH * group)?;
         let length = usize::from(entry[0]);
-        if (1..=16).contains(&length) && entry[1..][..length] == *name {
+        if (1..=LONGEST_NAME).contains(&length) && entry[1..][..length] == *name {
             return Some(group);
         }
     }
     None
 }
 
-/// "If the answer row breaks 01's row rules for the line, that counts as not matched": "A row is 66 numbers", "an unset or missing group is 4294967295
-/// twice. Start <= end <= length, and each set span lies within them." What stands behind the 66 numbers is no part of the row.
+/// "If the answer row breaks 01's row rules for the line, that counts as not matched": "A row becomes 130 numbers", "old rows are not read", "an unset or missing group is 4294967295
+/// twice. Start <= end <= length, and each set span lies within them." What stands behind these numbers is no part of the row.
 fn has_matched(lookup: &Lookup) -> bool {
-    let Some(row) = lookup.row.get(..66) else { return false };
+    let Some(row) = lookup.row.get(..ROW_LENGTH) else { return false };
     let within = |low: u32, span: &[u32], high: usize| low <= span[0] && span[0] <= span[1] && span[1] as usize <= high;
     let is_good = |span: &[u32]| span == [UNSET, UNSET] || within(row[0], span, row[1] as usize);
     lookup.kind == MATCHED && within(0, &row[..2], lookup.line.len()) && row[2..].chunks(2).all(is_good)

@@ -3,11 +3,13 @@
 
 mod batch;
 mod calls;
+pub mod cards;
 mod classes;
 mod escapes;
 mod explain;
 pub mod lookup;
 mod names;
+mod profile;
 mod reader;
 mod scan;
 mod sets;
@@ -15,10 +17,12 @@ pub mod tree;
 mod walk;
 
 pub use batch::{lines, Part, PART_LENGTH};
-pub use calls::{answer, references_at, steps_at, Answer, Ending, Inputs, Row, Walks, LONGEST_SUBJECT, ROW_LENGTH, RULE_AREA, UNSET, WORK_PER_STEP};
+pub use calls::{
+    answer, references_at, steps_at, Answer, Ending, Inputs, Row, Walks, LONGEST_RULE, LONGEST_SUBJECT, ROW_LENGTH, RULE_AREA, UNSET, WORK_PER_STEP,
+};
 pub use explain::{Attempt, Explanation};
-pub use names::{named, Index, ENTRIES, ENTRY_LENGTH, INDEX_LENGTH};
-pub use reader::{read, Refusal, ALL_FLAGS, FLAG_I, FLAG_M, FLAG_S, FLAG_X};
+pub use names::{named, Index, ENTRY_LENGTH, INDEX_LENGTH, LONGEST_NAME};
+pub use reader::{read, Refusal, ALL_FLAGS, FLAG_D, FLAG_I, FLAG_M, FLAG_S, FLAG_X, MOST_GROUPS};
 pub use scan::{Outcome, Tries};
 pub use sets::ByteSet;
 pub use walk::Miss;

@@ -1,18 +1,18 @@
 //! Names of groups: document 02, request e).
 
 use super::escapes::Escape;
-use super::reader::{Reader, Refusal};
+use super::reader::{Reader, Refusal, MOST_GROUPS};
 use super::tree::Rule;
 
-pub const ENTRIES: usize = 32;
-pub const ENTRY_LENGTH: usize = 17;
-/// "New refusal 8 ..: index under 544 bytes".
-pub const INDEX_LENGTH: usize = ENTRIES * ENTRY_LENGTH;
+pub const LONGEST_NAME: usize = 16;
+/// "17 bytes, the length (0 if none) and the name padded with 00"
+pub const ENTRY_LENGTH: usize = 1 + LONGEST_NAME;
+/// 02 j): "The name index becomes 64 entries, .. and 8 is given under 1,088 bytes."
+pub const INDEX_LENGTH: usize = MOST_GROUPS * ENTRY_LENGTH;
 
 /// The name index as a call fills it.
 pub type Index = [u8; INDEX_LENGTH];
 
-const LONGEST: usize = 16;
 /// "25 name ill-formed or unclosed". The place is that of the `(` or of the backslash.
 const ILL_FORMED: u32 = 25;
 
@@ -24,7 +24,7 @@ impl Reader<'_> {
             self.at += 1;
         }
         let name = self.bytes[from..self.at].to_vec();
-        let is_name = (1..=LONGEST).contains(&name.len()) && !name[0].is_ascii_digit();
+        let is_name = (1..=LONGEST_NAME).contains(&name.len()) && !name[0].is_ascii_digit();
         if is_name && self.skip(closing) {
             Ok(name)
         } else {
@@ -53,12 +53,12 @@ impl Reader<'_> {
 
 /// The groups that have a name by a filled index, each with it.
 pub fn named(index: &Index) -> Vec<(usize, &[u8])> {
-    let name = |entry: &'_ [u8]| usize::from(entry[0]).min(LONGEST);
+    let name = |entry: &'_ [u8]| usize::from(entry[0]).min(LONGEST_NAME);
     let entries = (1..).zip(index.chunks_exact(ENTRY_LENGTH));
     entries.filter(|(_, entry)| entry[0] != 0).map(|(group, entry)| (group, &entry[1..][..name(entry)])).collect()
 }
 
-/// "for each of 32 groups 17 bytes, the length (0 if none) and the name padded with 00".
+/// The index that a call fills.
 pub fn index(rule: &Rule) -> Index {
     let mut index = [0; INDEX_LENGTH];
     for (entry, name) in index.chunks_exact_mut(ENTRY_LENGTH).zip(&rule.names) {

@@ -1,6 +1,7 @@
-//! The rule reader: from a rule's bytes to its tree, or to the refusal (10 to 26) that is met first from left to right.
+//! The rule reader: from a rule's bytes to its tree, or to the refusal (10 to 29) that is met first from left to right.
 
 use super::escapes::Escape;
+use super::profile;
 use super::sets::ByteSet;
 use super::tree::{Alternation, Group, Item, Kind, Part, Place, Repeat, Rule};
 
@@ -15,10 +16,13 @@ pub const FLAG_S: u32 = 1;
 pub const FLAG_M: u32 = 2;
 pub const FLAG_I: u32 = 4;
 pub const FLAG_X: u32 = 8;
-/// Document 02: "Refusal 3 now starts at bit 4".
-pub const ALL_FLAGS: u32 = FLAG_S | FLAG_M | FLAG_I | FLAG_X;
+/// The depot profile.
+pub const FLAG_D: u32 = 16;
+/// Document 02 k): "refusal 3 now starts at bit 5".
+pub const ALL_FLAGS: u32 = FLAG_S | FLAG_M | FLAG_I | FLAG_X | FLAG_D;
 
-const MOST_GROUPS: usize = 32;
+/// 02 j): "Sixty-four groups", "23 at the 65th group".
+pub const MOST_GROUPS: usize = crate::raw::GROUPS;
 const MOST_DEPTH: usize = 24;
 const GREATEST_BOUND: u64 = 255;
 
@@ -67,6 +71,9 @@ pub fn read(rule: &[u8], flags: u32) -> Result<Rule, Refusal> {
     let mut reader = Reader { known: first.names, ..Reader::new(rule, 0, flags) };
     let whole = reader.whole()?;
     reader.references_are_met()?;
+    if let (true, Some(refusal)) = (reader.is_narrow(), profile::refused_by(&whole)) {
+        return Err(refusal);
+    }
     Ok(Rule { whole, groups: reader.names.len(), names: reader.names, folds: flags & FLAG_I != 0 })
 }
 
@@ -113,6 +120,11 @@ impl<'r> Reader<'r> {
                 while self.take().is_some_and(|byte| byte != 0x0A) {}
             }
         }
+    }
+
+    /// Is the rule read under the depot profile?
+    pub fn is_narrow(&self) -> bool {
+        self.flags & FLAG_D != 0
     }
 
     /// A byte item for a set: 02, on `i`: "A to Z and a to z match each other". Complements are taken of sets that were folded before.
@@ -253,6 +265,7 @@ impl<'r> Reader<'r> {
 
     /// The part with the repeat that stands here behind it, if one does, and the blanks behind that.
     fn with_repeat(&mut self, body: Part) -> Result<Part, Refusal> {
+        let at = self.at;
         let (least, most) = match self.good_bounds_here()? {
             None => return Ok(body),
             Some((least, most, length)) => {
@@ -265,7 +278,7 @@ impl<'r> Reader<'r> {
         if self.good_bounds_here()?.is_some() {
             return Err(Refusal { number: REPEATED_REPEAT, place: self.at });
         }
-        Ok(Part::Repeat(Box::new(Repeat { body, least, most, greedy })))
+        Ok(Part::Repeat(Box::new(Repeat { at, body, least, most, greedy })))
     }
 
     /// The bounds and the length of the repeat that stands here, if one does; "18: stray `{`, a bound over 255, or n > m".

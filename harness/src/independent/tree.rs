@@ -44,6 +44,8 @@ pub struct Group {
 }
 
 pub struct Repeat {
+    /// Where its own first byte stands in the rule.
+    pub at: usize,
     pub body: Part,
     pub least: u64,
     /// The most rounds, or none where they are not bounded.

@@ -19,7 +19,7 @@ pub fn case(seed: u64, number: u64) -> Case {
     let mut case = Case { call: Call::Batch, ..calls::case(seed, number) };
     let is_sound = rng.percent(60);
     if is_sound {
-        let flags = rng.below(16) as u32;
+        let flags = super::flags(rng);
         let (rule, _) = sound::rule(rng, flags, |rng| Style { alphabet, ..rules::any_style(rng, flags) }, &scans::AROUND);
         case = Case::new(Call::Batch, &rule, flags, b"", 0, 0);
     }

@@ -9,16 +9,17 @@ use crate::raw::Call;
 /// The case of this seed and number.
 pub fn case(seed: u64, number: u64) -> Case {
     let rng = &mut Rng::new(seed, number);
-    let flags = if rng.percent(1) { *rng.pick(&[16, 17, 31, 32, 1 << 20, 0x8000_0000, u32::MAX]) } else { rng.below(16) as u32 };
+    let flags = if rng.percent(1) { *rng.pick(&[32, 33, 48, 63, 64, 1 << 20, 0x8000_0000, u32::MAX]) } else { super::flags(rng) };
     let style = rules::any_style(rng, flags);
-    let rule = match rng.weighted(&[52, 16, 12, 3, 6, 7, 4]) {
+    let rule = match rng.weighted(&[49, 16, 12, 3, 6, 7, 4, 3]) {
         0 => rules::rule(rng, style),
         1 => damage::damaged(rng, style),
         2 => damage::jumble(rng),
         3 => damage::noise(rng),
         4 => damage::at_limit(rng),
         5 => damage::with_odd_blanks(rng, style),
-        _ => damage::names(rng),
+        6 => damage::names(rng),
+        _ => rules::many_groups(rng, false),
     };
     let tree = independent::read(&rule, flags).ok();
     let mut subject = subjects::subject(rng, tree.as_ref(), style.alphabet);
@@ -34,7 +35,7 @@ pub fn case(seed: u64, number: u64) -> Case {
         _ => budget(rng),
     };
     let (rule_area, work_area, result_area) = areas(rng, budget);
-    let name_index = if rng.percent(2) { *rng.pick(&[0, 1, 16, 17, 543]) } else { length(rng, INDEX_LENGTH) };
+    let name_index = if rng.percent(2) { *rng.pick(&[0, 1, 16, 17, 544, INDEX_LENGTH - 1]) } else { length(rng, INDEX_LENGTH) };
     let marks = rule.len();
     Case { call, rule, flags, subject, budget, rule_area, work_area, result_area, name_index, marks }
 }
@@ -67,10 +68,11 @@ fn areas(rng: &mut Rng, budget: u32) -> (usize, usize, usize) {
     let work = if budget > 100_000 { 16 } else { WORK_PER_STEP * budget as usize };
     let rows = 1 + rng.weighted(&[20, 15, 10, 10, 5, 5, 5, 5, 25]);
     let result = ROW_LENGTH * if rows == 9 { rng.between(9, 40) } else { rows } + rng.below(2) * rng.below(ROW_LENGTH);
-    (length(rng, RULE_AREA), length(rng, work), if rng.percent(2) { *rng.pick(&[0, 1, 64, 65]) } else { result })
+    (length(rng, RULE_AREA), length(rng, work), if rng.percent(2) { *rng.pick(&[0, 1, 66, ROW_LENGTH - 2, ROW_LENGTH - 1]) } else { result })
 }
 
-fn length(rng: &mut Rng, needed: usize) -> usize {
+/// Exactly what is needed, or a little more or less.
+pub fn length(rng: &mut Rng, needed: usize) -> usize {
     match rng.weighted(&[67, 30, 2, 1]) {
         0 => needed,
         1 => needed + rng.between(1, 20),

@@ -3,6 +3,7 @@
 
 use super::rules::{self, Style};
 use super::Rng;
+use crate::independent::{LONGEST_NAME, MOST_GROUPS};
 
 /// Bytes that mean something in a rule.
 const MEANT: &[u8] = b"\\\\\\()[]{}|*+?^$.-:,=!<>'0123456789abcdghknoswxzABDEGKLNQRSUVWXZ_# \t\n\x00\x85\xFF";
@@ -117,11 +118,12 @@ pub fn noise(rng: &mut Rng) -> Vec<u8> {
 
 /// A rule at one of the limits: groups, nesting, bounds, the length, names, or long runs of digits.
 pub fn at_limit(rng: &mut Rng) -> Vec<u8> {
-    let groups = rng.between(31, 33);
+    let groups = rng.between(MOST_GROUPS - 1, MOST_GROUPS + 2);
     let depth = rng.between(23, 26);
     let opening = *rng.pick(&["(", "(?:"]);
     let digits = "9".repeat(rng.between(1, 25));
-    let name: String = (0..rng.between(15, 18)).map(|index| char::from(if index == 0 { b'n' } else { *rng.pick(b"aZ09_") })).collect();
+    let name: String =
+        (0..rng.between(LONGEST_NAME - 1, LONGEST_NAME + 2)).map(|index| char::from(if index == 0 { b'n' } else { *rng.pick(b"aZ09_") })).collect();
     let text = match rng.below(13) {
         0 => "()".repeat(groups),
         1 => format!("{}a{}", opening.repeat(depth), ")".repeat(rng.between(depth - 1, depth))),
@@ -130,8 +132,8 @@ pub fn at_limit(rng: &mut Rng) -> Vec<u8> {
         4 => format!("a{{{},{}}}?", rng.between(0, 257), rng.between(0, 257)),
         5 => format!("()\\{digits}"),
         6 => format!("a{{{digits}}}\\x{{{digits}}}"),
-        7 => format!("{}\\g{{-{}}}", "()".repeat(rng.between(1, 32)), rng.between(0, 34)),
-        8 => format!("(?<{name}>a)\\k{{{}}}", if rng.percent(80) { &name } else { &name[..15] }),
+        7 => format!("{}\\g{{-{}}}", "()".repeat(rng.between(1, MOST_GROUPS)), rng.between(0, MOST_GROUPS + 2)),
+        8 => format!("(?<{name}>a)\\k{{{}}}", if rng.percent(80) { &name } else { &name[..LONGEST_NAME - 1] }),
         9 => format!("{}\\g{{{name}}}", if rng.percent(50) { format!("(?<{name}>a)") } else { String::new() }),
         10 => (1..=groups).map(|group| format!("(?<n{}>a?)", group - usize::from(rng.percent(1)))).collect(),
         11 => {

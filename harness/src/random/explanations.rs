@@ -40,7 +40,7 @@ fn marks(rng: &mut Rng, bytes: usize) -> usize {
 
 /// A rule and a line that nearly fits it. Of some of them the first that is not matched is taken, if there is one.
 fn nearly_fitting(rng: &mut Rng) -> Case {
-    let flags = rng.below(16) as u32;
+    let flags = super::flags(rng);
     let alphabet = rng.pick(&rules::ALPHABETS);
     let mut tries = 4;
     loop {

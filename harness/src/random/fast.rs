@@ -11,7 +11,7 @@ use super::subjects::mix_case;
 use super::Rng;
 use crate::case::Case;
 use crate::independent::tree::Rule;
-use crate::independent::{self, FLAG_I, FLAG_X, ROW_LENGTH, RULE_AREA, WORK_PER_STEP};
+use crate::independent::{self, FLAG_D, FLAG_I, FLAG_X, ROW_LENGTH, RULE_AREA, WORK_PER_STEP};
 use crate::raw::Call;
 
 /// About so many steps a call may take: a longer line is cut, so that a long one with long walks does not take the time of many cases.
@@ -31,8 +31,9 @@ enum Aim {
 /// The case of this seed and number.
 pub fn case(seed: u64, number: u64) -> Case {
     let rng = &mut Rng::new(seed ^ 0xFA57, number);
-    let flags = *rng.pick(&[0, 0, 0, 1, 2, 2, 3]) | *rng.pick(&[0, 0, 0, 0, FLAG_I, FLAG_I, FLAG_X, FLAG_I | FLAG_X]);
     let aim = [Aim::Beginnings, Aim::ManyRows, Aim::References][rng.weighted(&[74, 12, 14])];
+    let flags = *rng.pick(&[0, 0, 0, 1, 2, 2, 3]) | *rng.pick(&[0, 0, 0, 0, FLAG_I, FLAG_I, FLAG_X, FLAG_I | FLAG_X]);
+    let flags = flags | if aim != Aim::References && rng.percent(5) { FLAG_D } else { 0 };
     let call = if aim == Aim::ManyRows || rng.percent(40) { Call::List } else { Call::Match };
     let (rule, tree) = sound_rule(rng, flags, aim);
     let mut subject = match aim {
@@ -54,7 +55,7 @@ pub fn case(seed: u64, number: u64) -> Case {
     case
 }
 
-/// A rule that is refused is not walked at all, and another one is made; that is seldom, with more than 32 groups. Most of those that can take no
+/// A rule that is refused is not walked at all, and another one is made; that is seldom, with more groups than a rule can have. Most of those that can take no
 /// bytes are passed by, too, unless they are for many rows or for references: they match at the first start.
 fn sound_rule(rng: &mut Rng, flags: u32, aim: Aim) -> (Vec<u8>, Rule) {
     loop {

@@ -3,7 +3,7 @@
 
 use super::rules::GROUP_NAMES;
 use super::Rng;
-use crate::independent::{ENTRIES, ENTRY_LENGTH, ROW_LENGTH, UNSET};
+use crate::independent::{ENTRY_LENGTH, LONGEST_NAME, MOST_GROUPS, ROW_LENGTH, UNSET};
 use crate::raw::Lookup;
 
 pub struct Asked {
@@ -40,13 +40,13 @@ fn bytes(rng: &mut Rng, length: usize) -> Vec<u8> {
     (0..length).map(|_| rng.byte()).collect()
 }
 
-/// Up to 35 entries, a name more than once among them, cut off or longer at the end. Half of them have a name, so that the last entries that count are
+/// Up to three entries more than count, a name more than once among them, cut off or longer at the end. Half of them have a name, so that the last entries that count are
 /// found too.
 fn index(rng: &mut Rng) -> Vec<u8> {
     let entries = match rng.weighted(&[40, 30, 30]) {
-        0 => ENTRIES,
+        0 => MOST_GROUPS,
         1 => rng.between(0, 6),
-        _ => rng.between(7, 35),
+        _ => rng.between(7, MOST_GROUPS + 3),
     };
     let names = rng.between(1, GROUP_NAMES.len());
     let good = *rng.pick(&[100, 90, 50, 0]);
@@ -66,7 +66,7 @@ fn index(rng: &mut Rng) -> Vec<u8> {
     index
 }
 
-/// An entry as a call fills it: a name with its padding, or 17 bytes 00.
+/// An entry as a call fills it: a name with its padding, or nothing but 00.
 fn good_entry(rng: &mut Rng, names: &[&str]) -> Vec<u8> {
     let name = if rng.percent(50) { *rng.pick(names) } else { "" };
     let mut entry = [&[name.len() as u8], name.as_bytes()].concat();
@@ -82,7 +82,7 @@ fn odd_entry(rng: &mut Rng, names: &[&str]) -> Vec<u8> {
             let length = usize::from(entry[0]);
             entry[1 + length..].iter_mut().for_each(|byte| *byte = *rng.pick(b"\x00Qa_\xFF"));
         }
-        1 => entry[0] = *rng.pick(&[0, 1, 2, 15, 16, 17, 18, 32, 128, 254, 255]),
+        1 => entry[0] = *rng.pick(&[0, 1, 2, 15, 16, 17, 18, 32, 64, 128, 254, 255]),
         2 => entry = bytes(rng, ENTRY_LENGTH),
         _ => {
             let at = rng.between(0, ENTRY_LENGTH - 1);
@@ -107,7 +107,7 @@ fn name(rng: &mut Rng, index: &[u8]) -> Vec<u8> {
         1 => name.truncate(name.len() - 1),
         2 => name.push(*rng.pick(b"\x00a_1")),
         3 => name.clear(),
-        4 => name.resize(rng.between(16, 18), 0),
+        4 => name.resize(rng.between(LONGEST_NAME, LONGEST_NAME + 2), 0),
         _ => {
             let at = rng.below(name.len());
             name[at] ^= 0x20;
@@ -133,7 +133,8 @@ fn row(rng: &mut Rng, length: usize) -> Vec<u32> {
         break_rule(rng, &mut row, length as u32);
     }
     if rng.percent(15) {
-        let numbers = *rng.pick(&[0, 1, 2, 3, 64, 65, 65, 66, 67, 67, 68, 132, 133]);
+        let short = ROW_LENGTH - 1;
+        let numbers = *rng.pick(&[0, 1, 2, 3, 66, short - 1, short, short, short + 1, short + 2, short + 2, short + 3, 2 * ROW_LENGTH]);
         row.resize_with(numbers, || *rng.pick(&[0, 1, UNSET]));
     }
     row
@@ -141,7 +142,7 @@ fn row(rng: &mut Rng, length: usize) -> Vec<u32> {
 
 /// Breaks one rule of a row, or moves a number to just where none is broken.
 fn break_rule(rng: &mut Rng, row: &mut [u32], length: u32) {
-    let pair = 2 * rng.between(1, 32);
+    let pair = 2 * rng.between(1, MOST_GROUPS);
     let (start, end) = (row[0], row[1]);
     match rng.below(10) {
         0 => row[1] = length + rng.below(2) as u32,
@@ -152,7 +153,7 @@ fn break_rule(rng: &mut Rng, row: &mut [u32], length: u32) {
         5 => (row[pair], row[pair + 1]) = (start, end + rng.below(2) as u32),
         6 => (row[pair], row[pair + 1]) = (end, start),
         7 => row[pair + rng.below(2)] = *rng.pick(&[0, 1, start, end, length, UNSET - 1]),
-        8 => row[65] = 0,
+        8 => row[ROW_LENGTH - 1] = 0,
         _ => row.iter_mut().for_each(|number| *number = rng.below(length as usize + 2) as u32),
     }
 }

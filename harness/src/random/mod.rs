@@ -2,6 +2,7 @@
 
 pub mod batches;
 pub mod calls;
+pub mod cards;
 pub mod damage;
 pub mod explanations;
 pub mod fast;
@@ -11,6 +12,13 @@ pub mod scans;
 pub mod shared;
 pub mod sound;
 pub mod subjects;
+
+use crate::independent::{ALL_FLAGS, FLAG_D};
+
+/// Any of the flag settings; the depot profile, under which many rules are refused, is set in a fifth of them.
+pub fn flags(rng: &mut Rng) -> u32 {
+    (rng.number() as u32 & ALL_FLAGS & !FLAG_D) | if rng.percent(20) { FLAG_D } else { 0 }
+}
 
 /// SplitMix64: the same seed gives the same numbers on every machine.
 pub struct Rng(u64);

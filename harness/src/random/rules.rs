@@ -3,7 +3,7 @@
 //! comments.
 
 use super::Rng;
-use crate::independent::FLAG_X;
+use crate::independent::{FLAG_X, MOST_GROUPS};
 
 /// How a rule is made.
 #[derive(Clone, Copy)]
@@ -70,6 +70,93 @@ pub fn rule(rng: &mut Rng, style: Style) -> Vec<u8> {
         maker.write(comment);
     }
     maker.rule
+}
+
+/// What the depot profile takes and what it refuses, with repeats of every kind over what can take no bytes and over what cannot.
+const PROFILE_PIECES: [&str; 30] = [
+    "a",
+    "a",
+    "b",
+    "[a-z]",
+    "[A-Z]",
+    "[0-9]",
+    "[A-z]",
+    "[a-\\x7a]",
+    "[,-9]",
+    "[^\\d\\D]",
+    "^",
+    "\\b",
+    "a?",
+    "a??",
+    "a{0}",
+    "a{2}",
+    "a{1,3}",
+    "(",
+    "(",
+    "(?:",
+    "(?:",
+    ")",
+    ")",
+    ")*",
+    ")+",
+    "){2,}?",
+    "){0,2}",
+    "|",
+    "*",
+    "\\1",
+];
+
+/// A few of these pieces in any order, with the brackets that are open closed.
+pub fn for_profile(rng: &mut Rng) -> Vec<u8> {
+    let (mut rule, mut open) = (String::new(), 0);
+    let pieces = rng.between(1, 10);
+    for _ in 0..pieces {
+        let piece = *rng.pick(&PROFILE_PIECES);
+        // A bracket that closes nothing, and a reference in most rules, would hide all the rest.
+        if (piece.starts_with(')') && open == 0) || (piece == "\\1" && rng.percent(60)) {
+            continue;
+        }
+        open += usize::from(piece.starts_with('('));
+        open -= usize::from(piece.starts_with(')'));
+        rule += piece;
+    }
+    for _ in 0..open {
+        rule += *rng.pick(&[")", ")", ")*", ")+?", ")?", "){3}", "){0,}"]);
+    }
+    rule.into_bytes()
+}
+
+/// A rule of about as many groups as there can be, some of them with names, with references to any of them, before the group too; in some rules it is all
+/// repeated. Unless other matchers are to read it, it has seldom a group too many, or a reference to one.
+pub fn many_groups(rng: &mut Rng, plain: bool) -> Vec<u8> {
+    let beyond = if plain { 0 } else { rng.below(3) * rng.below(2) * rng.below(2) };
+    let groups = if beyond > 0 { MOST_GROUPS + beyond } else { rng.between(MOST_GROUPS / 2, MOST_GROUPS) };
+    let (named, referred) = (*rng.pick(&[0, 30, 100]), *rng.pick(&[0, 5, 15]));
+    let names: Vec<bool> = (0..groups).map(|_| rng.percent(named)).collect();
+    let mut rule = String::new();
+    for number in 1..=groups {
+        let opening = if names[number - 1] { format!("(?<n{number}>") } else { "(".to_string() };
+        let (inside, repeat) = (*rng.pick(&["", "a", "a?", "b?", "a|b", "[ab]", "."]), *rng.pick(&["", "", "", "?", "??", "*"]));
+        rule += &format!("{opening}{inside}){repeat}");
+        if rng.percent(referred) || (referred > 0 && number == groups) {
+            let missing = usize::from(!plain && rng.percent(2));
+            let group = rng.between(1, groups) + missing * groups;
+            rule += &reference_to(rng, group, &names, plain);
+        }
+    }
+    if rng.percent(20) {
+        rule = format!("(?:{rule}){{1,2}}");
+    }
+    rule.into_bytes()
+}
+
+/// A reference to this group, often by its name if it has one.
+fn reference_to(rng: &mut Rng, group: usize, names: &[bool], plain: bool) -> String {
+    match rng.below(4) {
+        0 | 1 if names.get(group - 1) == Some(&true) => format!("\\k<n{group}>"),
+        2 if !plain => format!("\\{group}"),
+        _ => format!("\\g{{{group}}}"),
+    }
 }
 
 /// A rule that is one class of this style.

@@ -26,7 +26,7 @@ pub fn case(seed: u64, number: u64) -> Case {
 }
 
 fn several_matches(rng: &mut Rng) -> Case {
-    let flags = rng.below(16) as u32;
+    let flags = super::flags(rng);
     let alphabet = *rng.pick(&rules::ALPHABETS);
     let (rule, tree) = sound::rule(rng, flags, |rng| Style { alphabet, ..rules::any_style(rng, flags) }, &AROUND);
     let subject = line(rng, &tree, alphabet);

@@ -2,7 +2,7 @@
 
 use super::rules::{self, Style};
 use super::{damage, scans, sound, subjects, Rng};
-use crate::independent::{self, tree::Rule, FLAG_I};
+use crate::independent::{self, tree::Rule, ALL_FLAGS, FLAG_D, FLAG_I};
 
 pub struct Shared {
     pub rule: Vec<u8>,
@@ -23,13 +23,22 @@ impl Shared {
     }
 }
 
+/// Flags that other matchers have: any but the depot profile, whose rules they know nothing of.
+fn flags(rng: &mut Rng) -> u32 {
+    rng.number() as u32 & ALL_FLAGS & !FLAG_D
+}
+
 /// The case of this seed and number, or none where the rule made is refused.
 pub fn case(seed: u64, number: u64) -> Option<Shared> {
     let rng = &mut Rng::new(seed, number);
-    let flags = rng.below(16) as u32;
+    let flags = flags(rng);
     let style = rules::plain_style(rng, flags);
     // Blanks at odd places are mostly refused; where they are not, they tell what is part of an item.
-    let rule = if style.blanks && rng.percent(10) { damage::with_odd_blanks(rng, style) } else { rules::rule(rng, style) };
+    let rule = match rng.weighted(&[if style.blanks { 10 } else { 0 }, 2, 90]) {
+        0 => damage::with_odd_blanks(rng, style),
+        1 => rules::many_groups(rng, true),
+        _ => rules::rule(rng, style),
+    };
     let tree = independent::read(&rule, flags).ok()?;
     let subject = subjects::subject(rng, Some(&tree), style.alphabet);
     Some(Shared { rule, flags, tree, subject })
@@ -41,7 +50,7 @@ pub fn scan_case(seed: u64, number: u64) -> Option<Shared> {
     if rng.percent(30) {
         return case(seed, number);
     }
-    let flags = rng.below(16) as u32;
+    let flags = flags(rng);
     let alphabet = *rng.pick(&rules::ALPHABETS);
     let (rule, tree) = sound::rule(rng, flags, |rng| Style { alphabet, ..rules::plain_style(rng, flags) }, &scans::AROUND);
     let subject = scans::line(rng, &tree, alphabet);

@@ -1,4 +1,5 @@
--- A decoded rule is no longer than the array that it is decoded into.
+-- The flags' word ends within the line, and a decoded rule is no longer than the array that it is decoded into.
+use Rattle.vectors.specs.Laws.Ends.{word-within}
 use native.Mathlib.Omega.{arith}
 use lib.ListN.{length-take}
 use Rattle.syntax.specs.Limits.{ruleLimit}
@@ -6,17 +7,14 @@ use borrow.Author.Needs.{needs}
 use Rattle.rule_vectors.proofs.line.Statement.{statement}
 use Rattle.rule_vectors.proofs.line.Tie as tie
 
-shared-slice-read-digit : tie.Need-shared-slice-read-digit
-shared-slice-read-digit c = search needs
+word-end-requires : tie.Need-word-end-requires
+word-end-requires c κs = search needs
 
-digit-requires : tie.Need-digit-requires
-digit-requires c κs = search needs
+number-requires : tie.Need-number-requires
+number-requires c κs = omega (arith, word-within _ _ (c .before .before .before .pre .1) _ _ (c .word-end .ensures) (c .before .before .before .pre .0))
 
-cast-flags : tie.Need-cast-flags
-cast-flags c = search needs
-
-add-decode : tie.Need-add-decode
-add-decode c = search needs
+next-word-requires : tie.Need-next-word-requires
+next-word-requires c κs = search needs
 
 slice-aggregate-decode : tie.Need-slice-aggregate-decode
 slice-aggregate-decode c = search needs
@@ -44,10 +42,9 @@ pub line-spec : {M : Type 1} → statement M
 line-spec =
     tie.close
     (tie.spec
-    shared-slice-read-digit
-    digit-requires
-    cast-flags
-    add-decode
+    word-end-requires
+    number-requires
+    next-word-requires
     slice-aggregate-decode
     decode-requires
     array-share-prefix-rule

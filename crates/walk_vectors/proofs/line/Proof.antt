@@ -11,15 +11,6 @@ use Rattle.walk_vectors.proofs.line.Tie as tie
 returns : tie.Need-returns
 returns c = search needs
 
-shared-slice-read-digit : tie.Need-shared-slice-read-digit
-shared-slice-read-digit c = search needs
-
-digit-requires : tie.Need-digit-requires
-digit-requires c κs = search needs
-
-cast-flags : tie.Need-cast-flags
-cast-flags c = search needs
-
 word-end-requires : tie.Need-word-end-requires
 word-end-requires c κs = search needs
 
@@ -45,10 +36,13 @@ next-word-requires-4 : tie.Need-next-word-requires-4
 next-word-requires-4 c κs = search needs
 
 number-requires : tie.Need-number-requires
-number-requires c κs = omega (arith, word-within _ _ (c .before .before .before .before .before .before .before .before .before .before .before .before .before .before .pre .1) _ _ (c .before .before .before .before .before .word-end2 .ensures) (next-within _ _ _ (c .before .before .before .before .before .before .next-word .ensures)))
+number-requires c κs = omega (arith, word-within _ _ (c .before .before .before .before .before .before .before .before .before .before .before .before .pre .1) _ _ (c .before .before .before .before .before .before .before .word-end .ensures) (c .before .before .before .before .before .before .before .before .before .before .before .before .pre .0))
 
 number-requires-2 : tie.Need-number-requires-2
-number-requires-2 c κs = omega (arith, word-within _ _ (c .before .before .before .before .before .before .before .before .before .before .before .before .before .before .before .pre .1) _ _ (c .before .before .before .before .word-end3 .ensures) (next-within _ _ _ (c .before .before .before .before .before .next-word2 .ensures)))
+number-requires-2 c κs = omega (arith, word-within _ _ (c .before .before .before .before .before .before .before .before .before .before .before .before .before .pre .1) _ _ (c .before .before .before .before .before .before .word-end2 .ensures) (next-within _ _ _ (c .before .before .before .before .before .before .before .next-word .ensures)))
+
+number-requires-3 : tie.Need-number-requires-3
+number-requires-3 c κs = omega (arith, word-within _ _ (c .before .before .before .before .before .before .before .before .before .before .before .before .before .before .pre .1) _ _ (c .before .before .before .before .before .word-end3 .ensures) (next-within _ _ _ (c .before .before .before .before .before .before .next-word2 .ensures)))
 
 cast-start : tie.Need-cast-start
 cast-start c = search needs
@@ -57,13 +51,13 @@ slice-aggregate-decode : tie.Need-slice-aggregate-decode
 slice-aggregate-decode c = search needs
 
 decode-requires : tie.Need-decode-requires
-decode-requires c κs = omega (arith, word-within _ _ (c .before .before .before .before .before .before .before .before .before .before .before .before .before .before .before .before .before .pre .1) _ _ (c .before .before .before .before .word-end4 .ensures) (next-within _ _ _ (c .before .before .before .before .before .next-word3 .ensures)))
+decode-requires c κs = omega (arith, word-within _ _ (c .before .before .before .before .before .before .before .before .before .before .before .before .before .before .before .before .pre .1) _ _ (c .before .before .before .before .before .word-end4 .ensures) (next-within _ _ _ (c .before .before .before .before .before .before .next-word3 .ensures)))
 
 slice-aggregate-decode-2 : tie.Need-slice-aggregate-decode-2
 slice-aggregate-decode-2 c = search needs
 
 decode-requires-2 : tie.Need-decode-requires-2
-decode-requires-2 c κs = c .before .before .before .before .before .before .before .before .before .before .before .before .before .before .before .before .before .before .before .before .pre .1
+decode-requires-2 c κs = c .before .before .before .before .before .before .before .before .before .before .before .before .before .before .before .before .before .before .before .pre .1
 
 array-share-prefix-rule : tie.Need-array-share-prefix-rule
 array-share-prefix-rule c = search needs
@@ -79,7 +73,7 @@ slice-aggregate-tell-2 c = search needs
 
 tell-requires : tie.Need-tell-requires
 unfolding ruleLimit
-tell-requires c κs = (simp length-take (omega (arith, c .before .before .before .before .before .before .before .before .decode .ensures .counts .0)), c .before .before .before .before .before .before .before .before .before .before .before .before .before .before .before .before .before .before .before .before .before .before .before .before .before .before .pre .2, simp length-take (omega (arith, c .before .before .before .before .before .decode2 .ensures .counts .0)), omega (arith, number-most _ _ _ _ _ (c .before .before .before .before .before .before .before .before .before .before .before .number .ensures), c .before .before .before .before .before .before .before .before .before .before .before .before .before .before .before .before .before .before .before .before .before .before .before .before .before .before .pre .3))
+tell-requires c κs = (simp length-take (omega (arith, c .before .before .before .before .before .before .before .before .decode .ensures .counts .0)), c .before .before .before .before .before .before .before .before .before .before .before .before .before .before .before .before .before .before .before .before .before .before .before .before .before .pre .2, simp length-take (omega (arith, c .before .before .before .before .before .decode2 .ensures .counts .0)), omega (arith, number-most _ _ _ _ _ (c .before .before .before .before .before .before .before .before .before .before .before .number2 .ensures), c .before .before .before .before .before .before .before .before .before .before .before .before .before .before .before .before .before .before .before .before .before .before .before .before .before .pre .3))
 
 same-length : tie.Need-same-length
 same-length c = search needs
@@ -95,9 +89,6 @@ line-spec =
     tie.close
     (tie.spec
     returns
-    shared-slice-read-digit
-    digit-requires
-    cast-flags
     word-end-requires
     next-word-requires
     word-end-requires-2
@@ -108,6 +99,7 @@ line-spec =
     next-word-requires-4
     number-requires
     number-requires-2
+    number-requires-3
     cast-start
     slice-aggregate-decode
     decode-requires
