@@ -22,7 +22,7 @@ LITRES = rb"^(?:(?<thousands>\d{1,3},\d{3})|(?<decimal>\d+,\d+)) L$"
 
 # bit 0 first
 FLAGS = (("s", "a dot takes every byte"), ("m", "^ and $ hold at every newline"), ("i", "A to Z and a to z match each other"),
-         ("x", "blanks, and # up to the line's end, are skipped"))
+         ("x", "blanks, and # up to the line's end, are skipped"), ("D", "the narrower rules of the depot profile"))
 
 USAGE = """\
 usage: card write RULE-FILE CARD-FILE [FLAGS [BUDGET]]
@@ -33,15 +33,17 @@ can be kept and sent. Shows what a card says, or why it is none.
 
 RULE-FILE   the rule is what stands before its first line end
 CARD-FILE   a card has at most 1064 bytes. It is written into a new file: no file is written over
-FLAGS       0 to 15, or letters: s (a dot in the rule takes every byte), m (^ and $ at each 0A),
+FLAGS       0 to 31, or letters: s (a dot in the rule takes every byte), m (^ and $ at each 0A),
             i (A to Z and a to z match each other), x (blanks in the rule, and # up to the line's
-            end, are skipped); - for none, as without it
+            end, are skipped), D (the depot profile, which refuses some rules: no references, no
+            repeat without upper bound of what may take no bytes, and no range but of digits, of
+            upper or of lower letters); - for none, as without it
 BUDGET      the steps that each start in a line may take, 0 to 65535; without it 65535
 
 What is written is shown, too. A byte of the rule outside 20 to 7E (hex) is shown as \\xHH, with ^
 under it.
 """
-NO_FLAGS = "card: FLAGS are a number from 0 to 15, letters out of s, m, i and x, or - for none\n"
+NO_FLAGS = "card: FLAGS are a number from 0 to 31, letters out of s, m, i, x and D, or - for none\n"
 NO_BUDGET = "card: BUDGET is a number from 0 to 65535\n"
 
 OF_CARD = {
@@ -207,7 +209,7 @@ def mistakes(t):
     for words_ in ([], ["write"], ["write", "rule"], ["show"], ["show", "rule", "x"], ["write", "rule", "card", "0", "5", "x"], ["read", "rule"], ["Show", "rule"], ["", "rule"], ["shows", "rule"], ["sho", "rule"],
                    ["write rule"], ["w" * 5000, "rule"]):
         t.leaves("arguments %r" % [w[:20] for w in words_], words_, "", USAGE)
-    for flags in ("16", "00016", "", "a", "I", "sax", "--", "-1", "x8", "D" * 5000):
+    for flags in ("%d" % (1 << len(FLAGS)), "000%d" % (1 << len(FLAGS)), "", "a", "I", "sax", "--", "-1", "x8", "d" * 5000):
         t.leaves("flags %r" % flags[:20], ["write", "rule", "card", flags], "", NO_FLAGS)
         t.leaves("flags %r and a budget" % flags[:20], ["write", "rule", "card", flags, "70000"], "", NO_FLAGS)
     for budget in ("65536", "65537", "70000", "100000", "100001", "4294967296", "99999999999999999999", "", "-", "-1", "1k", "0x10", "7" * 5000):
@@ -266,7 +268,7 @@ def shown(t):
         ("no kind behind kind 3", zero + b"\4"), ("kind 3 twice", zero + length(0)), ("kind 3 first, then no kind", length(0) + b"\4"),
         ("no kind 2", settings() + length(1)), ("a kind 2 too many", settings() + pieces(b"a") + length(0)), ("kind 2 first", pieces(b"a") + settings() + length(1)), ("a length that no card has", settings() + length(59651)),
         ("1001 bytes", settings() + pieces(b"a" * 1001) + length(1001)), ("1024 bytes", settings() + pieces(b"a" * 1024) + length(1024)), ("1025 bytes in 32 pieces", settings() + pieces(b"a" * 1024) + length(1025)),
-        ("padding and 1001 bytes", settings() + pieces(b"a" * 1024) + length(1001)), ("a byte behind", card(b"a") + b"\0"), ("a flag and a byte behind", settings(16) + length(0) + b"\0"),
+        ("padding and 1001 bytes", settings() + pieces(b"a" * 1024) + length(1001)), ("a byte behind", card(b"a") + b"\0"), ("a flag and a byte behind", settings(1 << len(FLAGS)) + length(0) + b"\0"),
         ("a flag", settings(1 << len(FLAGS)) + length(0)), ("all bits", settings(255) + length(0)), ("padding", card(b"(a)").replace(b"(a)\0", b"(a)a")), ("padding that is a rule", settings() + pieces(b"(a)") + length(1)),
         ("a refused rule", card(b"a(b", groups=1)), ("a refused rule in windows", card(b"a" * 100 + b"(" + b"b" * 90, groups=1)), ("a refused rule, odd bytes", card(b"\n(\xff", groups=1)), ("too many groups", card(b"a", groups=1)),
         ("too few groups", card(b"(a)", groups=0)), ("255 groups", card(b"(a)", groups=255)), ("a rule that ends in 00", card(b"a\0")), ("a rule of 00", card(b"\0")),
@@ -298,7 +300,7 @@ def changed(t, seed):
             t.shows("byte %d is %d" % (at, byte), whole[:at] + bytes([byte]) + whole[at + 1:])
     for _ in range(300):
         rule = b"".join(chance.choice([b"a", b"(", b")", b"(b)", b"\\d", b"[a-z]", b"*", b"|", b"\xa0", b"\0"]) for _ in range(chance.randrange(40)))
-        parts = [settings(chance.choice([0, 1, 8, 15, 16]), chance.randrange(65536), chance.randrange(4)), pieces(rule), length(len(rule))]
+        parts = [settings(chance.choice([0, 1, 8, 15, 16, 31, 32]), chance.randrange(65536), chance.randrange(4)), pieces(rule), length(len(rule))]
         if chance.random() < 0.3:
             chance.shuffle(parts)
         if chance.random() < 0.2:

@@ -4,7 +4,7 @@ use mathlib.Core.Bool.{Bool, true, false}
 use Prim.Native.Nat.{ℕ}
 use lib.Dec.{eqb}
 use Rattle.syntax.specs.Read.{if_then_else_, bytes}
-use Rattle.syntax.specs.Flags.{dotAll, multiline, ignoreCase, extended}
+use Rattle.syntax.specs.Flags.{dotAll, multiline, ignoreCase, extended, depot}
 use Rattle.text.specs.Lines.{newline}
 use Rattle.text.specs.Numbers.{decimal}
 use Rattle.report.specs.Text.{isPrinted, isOdd}
@@ -52,6 +52,7 @@ setLines flags =
     ++ flagLine (multiline flags) (bytes "m: ^ and $ hold at every newline")
     ++ flagLine (ignoreCase flags) (bytes "i: A to Z and a to z match each other")
     ++ flagLine (extended flags) (bytes "x: blanks, and # up to the line's end, are skipped")
+    ++ flagLine (depot flags) (bytes "D: the narrower rules of the depot profile")
 
 unfoldable pub flagLines : (flags : ℕ) → List ℕ
 flagLines flags = if eqb flags 0 then line (bytes "flags   ") (bytes "none") else setLines flags

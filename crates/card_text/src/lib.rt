@@ -112,11 +112,17 @@ fn write_flags(flags: u32, out: &mut [u8], at: usize) -> usize
         out,
         m,
     );
-    write_flag(
+    let x = write_flag(
         flags / 8 % 2 == 1,
         b"x: blanks, and # up to the line's end, are skipped",
         out,
         i,
+    );
+    write_flag(
+        flags / 16 % 2 == 1,
+        b"D: the narrower rules of the depot profile",
+        out,
+        x,
     )
 }
 

@@ -16,6 +16,9 @@ ghost use Rattle.syntax.specs.Limits.{groupLimit};
 // The room for all names, in the layout of a name index.
 pub const COLUMNS: usize = NAME_INDEX_NEED;
 
+// How many there can be, as a message says it.
+const MOST: u64 = COLUMN_LIMIT as u64;
+
 // How many columns there are where they cannot be had.
 const NONE: usize = COLUMN_LIMIT + 1;
 
@@ -32,13 +35,10 @@ fn is_named(name: &[u8], names: &[u8; NAME_INDEX_NEED]) -> bool {
 }
 
 // Says that the rule has no such name.
-fn say_unknown(name: &[u8]) -> usize
-    ensures { λ r. ⌜ r ≤ groupLimit + 1 ⌝ }
-{
+fn say_unknown(name: &[u8]) {
     say(b"fields: the rule has no name ");
     say(name);
     say(b"\n");
-    NONE
 }
 
 // The name that an argument asks for, put behind so many others. Where that cannot be, it is said why.
@@ -54,13 +54,15 @@ fn ask_for(
     let mut text = io::buffer();
     let n = os::arg(argument, &mut text);
     if NAME_LIMIT < n {
-        return say_unknown(&text[..n]);
+        say_unknown(&text[..n]);
+        return NONE;
     }
     if !is_named(&text[..n], names) {
-        return say_unknown(&text[..n]);
+        say_unknown(&text[..n]);
+        return NONE;
     }
     if count == COLUMN_LIMIT {
-        say_number(b"fields: more than ", COLUMN_LIMIT as u64, b" names\n");
+        say_number(b"fields: more than ", MOST, b" names\n");
         return NONE;
     }
     add_column(&text[..n], columns, count)

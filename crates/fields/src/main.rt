@@ -88,7 +88,8 @@ fn look_on(
 {
     let mut columns = [0u8; COLUMNS];
     let count = collect(o.at + 2, names, &mut columns);
-    if fields_columns::COLUMN_LIMIT < count {
+    let most = syntax::group_limit() as usize;
+    if most < count {
         return;
     }
     let fd = open(b"fields", o.at + 1);

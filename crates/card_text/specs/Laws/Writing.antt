@@ -10,8 +10,8 @@ use lib.Dec.{eqb}
 use lib.ListN.{length, getD, take}
 use lib.Seq.{take-suc, take-all}
 use Rattle.syntax.specs.Read.{bytes}
-use Rattle.syntax.specs.Limits.{dotAllBit, multilineBit, ignoreCaseBit, extendedBit}
-use Rattle.syntax.specs.Flags.{dotAll, multiline, ignoreCase, extended}
+use Rattle.syntax.specs.Limits.{dotAllBit, multilineBit, ignoreCaseBit, extendedBit, depotBit}
+use Rattle.syntax.specs.Flags.{dotAll, multiline, ignoreCase, extended, depot}
 use Rattle.text.specs.Lines.{newline}
 use Rattle.text.specs.Numbers.{decimal}
 use Rattle.text.specs.Writing.{Wrote}
@@ -125,6 +125,10 @@ module _ (flags : ℕ) where
   pub extended-is : eqb (flags / 8 % 2) 1 ≡ extended flags
   unfolding extended extendedBit
   extended-is = refl
+
+  pub depot-is : eqb (flags / 16 % 2) 1 ≡ depot flags
+  unfolding depot depotBit
+  depot-is = refl
 
   pub none-lined : {out new : List ℕ} {at e : ℕ} → flags ≡ 0 → Wrote out at (bytes "flags   none\n") new e → WroteUpTo flagsRoom out at (flagLines flags) new e
   unfolding flagLines line newline flagsRoom

@@ -25,6 +25,7 @@ say-unknown-requires : tie.Need-say-unknown-requires
 say-unknown-requires c κs = search needs
 
 returns : tie.Need-returns
+unfolding groupLimit
 returns c = search needs
 
 array-share-prefix-text-2 : tie.Need-array-share-prefix-text-2
@@ -46,13 +47,17 @@ say-unknown-requires-2 : tie.Need-say-unknown-requires-2
 say-unknown-requires-2 c κs = search needs
 
 returns-2 : tie.Need-returns-2
+unfolding groupLimit
 returns-2 c = search needs
 
-slice-aggregate-say : tie.Need-slice-aggregate-say
-slice-aggregate-say c = search needs
+slice-aggregate-say-number : tie.Need-slice-aggregate-say-number
+slice-aggregate-say-number c = search needs
 
-say-requires : tie.Need-say-requires
-say-requires c κs = search needs
+slice-aggregate-say-number-2 : tie.Need-slice-aggregate-say-number-2
+slice-aggregate-say-number-2 c = search needs
+
+say-number-requires : tie.Need-say-number-requires
+say-number-requires c κs = search needs
 
 returns-3 : tie.Need-returns-3
 unfolding groupLimit
@@ -89,8 +94,9 @@ ask-for-spec =
     slice-aggregate-say-unknown-2
     say-unknown-requires-2
     returns-2
-    slice-aggregate-say
-    say-requires
+    slice-aggregate-say-number
+    slice-aggregate-say-number-2
+    say-number-requires
     returns-3
     array-share-prefix-text-4
     slice-aggregate-add-column

@@ -1,95 +1,86 @@
+-- `compile_into` meets its contract: each answer is a law of Compilations, at what the two passes and the profile ensure.
+use Rattle.reader.proofs.Compilations.{linkable, measurable, entered, barred, dangling, parse-refused}
 use borrow.Author.Needs.{needs}
 use Rattle.reader.proofs.compiling.compile_into.Statement.{statement}
 use Rattle.reader.proofs.compiling.compile_into.Tie as tie
-use Rattle.reader.proofs.compiling.compile_into.Reads as reads
-use Rattle.reader.proofs.compiling.compile_into.Lts as lts
-use Rattle.linker.proofs.link.Reads as link-reads
-use Rattle.reader.proofs.compiling.judged.Reads as judged-reads
-use Rattle.reader.proofs.read_rule.Reads as read-rule-reads
 
--- src/compiling.rt:52:9
 read-rule-requires : tie.Need-read-rule-requires
 read-rule-requires c κs = search needs
 
--- src/compiling.rt:54:25
 enum-known-r : tie.Need-enum-known-r
 enum-known-r c = search needs
 
--- src/compiling.rt:55:23
 enum-known-r-2 : tie.Need-enum-known-r-2
 enum-known-r-2 c = search needs
 
--- src/compiling.rt:57:17
 judged-requires : tie.Need-judged-requires
-judged-requires c κs = ?
+judged-requires c κs =
+    let a = c .before .before .before .before .before .before .before .before .before .before .before .before .before .before .args in
+    let read = c .before .before .before .before .before .before .before .before .read-rule in
+    measurable (a .rule .now) (a .flags) (read .last .1 .1 .0) (read .last .1 .1 .1 .0) _ _ (rw (c .before .before .r2 .given .1) at (read .ensures))
 
--- src/compiling.rt:58:17
 link-requires : tie.Need-link-requires
-link-requires c κs = ?
+link-requires c κs =
+    let a = c .before .before .before .before .before .before .before .before .before .before .before .before .before .before .before .before .before .args in
+    let read = c .before .before .before .before .before .before .before .before .before .before .before .read-rule in
+    linkable (a .rule .now) (a .flags) (read .last .1 .1 .0) (read .last .1 .1 .1 .0) _ _ (rw (c .before .before .before .before .before .r2 .given .1) at (read .ensures))
 
--- src/compiling.rt:60:34
 enum-known-l : tie.Need-enum-known-l
 enum-known-l c = search needs
 
--- src/compiling.rt:64:32
 enum-known-l-2 : tie.Need-enum-known-l-2
 enum-known-l-2 c = search needs
 
--- src/compiling.rt:65:42
 enum-told : tie.Need-enum-told
 enum-told c = search needs
 
--- src/compiling.rt:66:39
 enum-known-profile : tie.Need-enum-known-profile
 enum-known-profile c = search needs
 
--- src/compiling.rt:48:1
 same-length : tie.Need-same-length
 same-length c = search needs
 
--- src/compiling.rt:48:1
 same-length-2 : tie.Need-same-length-2
 same-length-2 c = search needs
 
--- src/compiling.rt:48:1
 returns : tie.Need-returns
-returns c = ?
+returns c = parse-refused _ _ _ _ (rw (c .before .r .given .1) at (c .before .before .before .before .before .before .before .read-rule .ensures))
 
--- src/compiling.rt:48:1
 same-length-3 : tie.Need-same-length-3
 same-length-3 c = search needs
 
--- src/compiling.rt:48:1
 same-length-4 : tie.Need-same-length-4
 same-length-4 c = search needs
 
--- src/compiling.rt:48:1
 returns-2 : tie.Need-returns-2
-returns-2 c = ?
+returns-2 c =
+    let a = c .before .before .before .before .before .before .before .before .before .before .before .before .before .before .before .before .before .before .before .before .before .before .before .args in
+    let read = c .before .before .before .before .before .before .before .before .before .before .before .before .before .before .before .before .before .read-rule in
+    dangling (a .rule .now) (a .flags) (read .last .1 .1 .0) (read .last .1 .1 .1 .0) _ _ (rw (c .before .before .before .before .before .before .before .before .before .before .before .r2 .given .1) at (read .ensures)) _ _ (c .before .before .before .before .before .link .ensures) _ (c .before .l .given .1)
 
--- src/compiling.rt:48:1
 same-length-5 : tie.Need-same-length-5
 same-length-5 c = search needs
 
--- src/compiling.rt:48:1
 same-length-6 : tie.Need-same-length-6
 same-length-6 c = search needs
 
--- src/compiling.rt:48:1
 returns-3 : tie.Need-returns-3
-returns-3 c = ?
+returns-3 c =
+    let a = c .before .before .before .before .before .before .before .before .before .before .before .before .before .before .before .before .before .before .before .before .before .before .before .before .before .args in
+    let read = c .before .before .before .before .before .before .before .before .before .before .before .before .before .before .before .before .before .before .before .read-rule in
+    entered (a .rule .now) (a .flags) (read .last .1 .1 .0) (read .last .1 .1 .1 .0) _ _ (rw (c .before .before .before .before .before .before .before .before .before .before .before .before .before .r2 .given .1) at (read .ensures)) _ _ (c .before .before .before .before .before .before .before .link .ensures) _ (c .before .before .before .l2 .given .1) (c .before .before .before .before .before .before .before .before .before .before .judged .result) (c .enum-told .given .1) (c .before .before .before .before .before .before .before .before .before .before .judged .ensures)
 
--- src/compiling.rt:48:1
 same-length-7 : tie.Need-same-length-7
 same-length-7 c = search needs
 
--- src/compiling.rt:48:1
 same-length-8 : tie.Need-same-length-8
 same-length-8 c = search needs
 
--- src/compiling.rt:48:1
 returns-4 : tie.Need-returns-4
-returns-4 c = ?
+returns-4 c =
+    let a = c .before .before .before .before .before .before .before .before .before .before .before .before .before .before .before .before .before .before .before .before .before .before .before .before .before .before .args in
+    let read = c .before .before .before .before .before .before .before .before .before .before .before .before .before .before .before .before .before .before .before .before .read-rule in
+    barred (a .rule .now) (a .flags) (read .last .1 .1 .0) (read .last .1 .1 .1 .0) _ _ (rw (c .before .before .before .before .before .before .before .before .before .before .before .before .before .before .r2 .given .1) at (read .ensures)) _ _ (c .before .before .before .before .before .before .before .before .link .ensures) _ (c .before .before .before .before .l2 .given .1) (c .before .before .before .before .before .before .before .before .before .before .before .judged .result) _ (c .before .profile .given .1) (c .before .before .before .before .before .before .before .before .before .before .before .judged .ensures)
 
 pub compile-into-spec : {M : Type 1} → statement M
 compile-into-spec =
