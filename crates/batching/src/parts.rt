@@ -11,8 +11,8 @@ use syntax::Reason;
 use syntax::Refusal;
 ghost use mathlib.Core.Path.{_≡_};
 ghost use mathlib.Core.List.{_∷_, []};
-ghost use Prim.Native.Nat.{_≤_};
-ghost use lib.ListN.{length, drop};
+ghost use Prim.Native.Nat.{_≤_, _<_};
+ghost use lib.ListN.{length, drop, set};
 ghost use Rattle.syntax.specs.Limits.{rowLength, partLength};
 ghost use Rattle.semantics.specs.Calls.{workAreaNeed};
 ghost use Rattle.semantics.specs.Batches.{low, high, outcomeNumbers};
@@ -24,15 +24,27 @@ ghost use Rattle.batching.specs.Parts.{Answers, Tells};
 // all numbers of a part
 pub const PART_LENGTH: usize = ROW_LENGTH + 4;
 
+// Writes a number, unless it stands there. It is read first because the processor foresees what is read at even distances, and has the next part near by
+// when it comes to be written; what is only written waits for the memory, line after line.
+fn change(numbers: &mut [u32], i: usize, value: u32)
+    requires { ⌜ i < length (now numbers) ⌝ }
+    ensures { λ _. ⌜ now (numbers .exit) ≡ set (now (numbers .entry)) i value ⌝ }
+{
+    if numbers[i] == value {
+        return;
+    }
+    numbers[i] = value;
+}
+
 // Writes the four numbers behind a row: the kind, the start or the reason, and the steps in two halves.
 fn put(numbers: &mut [u32], kind: u32, which: u32, steps: u64)
     requires { ⌜ length (now numbers) ≡ 4 ⌝ }
     ensures { λ _. ⌜ now (numbers .exit) ≡ kind ∷ which ∷ low steps ∷ high steps ∷ [] ⌝ }
 {
-    numbers[0] = kind;
-    numbers[1] = which;
-    numbers[2] = low_half(steps);
-    numbers[3] = high_half(steps);
+    change(numbers, 0, kind);
+    change(numbers, 1, which);
+    change(numbers, 2, low_half(steps));
+    change(numbers, 3, high_half(steps));
 }
 
 // Writes an outcome in four numbers.

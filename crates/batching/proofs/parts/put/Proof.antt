@@ -17,41 +17,42 @@ all-four (p ∷ q ∷ r ∷ []) a b x y h = absurd (omega arith)
 all-four (p ∷ q ∷ r ∷ s ∷ []) a b x y h = refl
 all-four (p ∷ q ∷ r ∷ s ∷ t ∷ l) a b x y h = absurd (omega arith)
 
-slice-write-numbers : tie.Need-slice-write-numbers
-slice-write-numbers c = search needs
+change-requires : tie.Need-change-requires
+change-requires c κs = search needs
 
-slice-write-numbers-2 : tie.Need-slice-write-numbers-2
-slice-write-numbers-2 c = search needs
+change-requires-2 : tie.Need-change-requires-2
+change-requires-2 c κs = search needs
 
 low-half-requires : tie.Need-low-half-requires
 low-half-requires c κs = search needs
 
-slice-write-numbers-3 : tie.Need-slice-write-numbers-3
-slice-write-numbers-3 c = search needs
+change-requires-3 : tie.Need-change-requires-3
+change-requires-3 c κs = search needs
 
 high-half-requires : tie.Need-high-half-requires
 high-half-requires c κs = search needs
 
-slice-write-numbers-4 : tie.Need-slice-write-numbers-4
-slice-write-numbers-4 c = search needs
+change-requires-4 : tie.Need-change-requires-4
+change-requires-4 c κs = search needs
 
 same-length : tie.Need-same-length
 same-length c = search needs
 
 returns : tie.Need-returns
 returns c =
-    let s = c .before .before .before in
-    all-four (now (s .args .numbers)) (s .args .kind) (s .args .which) (c .before .low-half .result) (c .high-half .result) (s .pre) ∙ cc (c .before .low-half .ensures, c .high-half .ensures)
+    let s = c .before .before .before .before .before .before .before .before .before .before .before .before .before .before .before .before .before .before .before in
+    rw (c .before .before .change4 .ensures, c .before .before .before .before .before .before .before .change3 .ensures, c .before .before .before .before .before .before .before .before .before .before .before .before .change2 .ensures, c .before .before .before .before .before .before .before .before .before .before .before .before .before .before .before .before .change .ensures)
+    (all-four (now (s .args .numbers)) (s .args .kind) (s .args .which) (c .before .before .before .before .before .before .before .before .low-half .result) (c .before .before .before .high-half .result) (s .pre) ∙ cc (c .before .before .before .before .before .before .before .before .low-half .ensures, c .before .before .before .high-half .ensures))
 
 pub put-spec : {M : Type 1} → statement M
 put-spec =
     tie.close
     (tie.spec
-    slice-write-numbers
-    slice-write-numbers-2
+    change-requires
+    change-requires-2
     low-half-requires
-    slice-write-numbers-3
+    change-requires-3
     high-half-requires
-    slice-write-numbers-4
+    change-requires-4
     same-length
     returns)
