@@ -20,7 +20,8 @@ use Rattle.card_format.specs.CardDemands.{Bytes, Unsound, itself, itsOwn, Write
 use Rattle.card_format.specs.CardDemandsHold.{write-meets-demands, read-meets-demands}
 use Rattle.card_format.specs.Laws.Ruling.{faultless-fitting}
 use Rattle.cards.specs.Answers.{writtenOf, readOf}
-use Rattle.terravisco.specs.Answers.{low, high, numbers, refusalNumbers}
+use Rattle.semantics.specs.Batches.{low, high}
+use Rattle.terravisco.specs.Answers.{numbers, refusalNumbers}
 use Rattle.terravisco.specs.Cards.{writeNumbers, readNumbers}
 
 -- Places ------------------------------------------------------------------------
