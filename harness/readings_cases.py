@@ -260,7 +260,7 @@ def refusals(t):
              14: (b"[a", "this class is not closed by ]"), 16: (b"[[:no:]]", "no set has this name"),
              17: (b"*", "a repeat with nothing before it that it could repeat"),
              18: (b"a{256}", "a { that begins no repeat, or a repeat over 255 or with its bounds the wrong way round"),
-             22: (b"(?a)", "(? is followed by neither : nor <"), 23: (b"()" * (GROUPS + 1), "the %s group; a rule has at most %d" % ({32: "33rd", 64: "65th"}[GROUPS], GROUPS)),
+             22: (b"(?a)", "(? is followed by neither : nor <"), 23: (b"()" * (GROUPS + 1), "one group too many; a rule has at most %d" % GROUPS),
              24: (b"(" * 25, "the 25th bracket inside another; they nest at most 24 deep"), 25: (b"\\k<", "a name is missing, malformed or not closed"),
              26: (b"(?<n>)(?<n>)", "this name is used twice")}
     for number, (rule, meaning) in rules.items():
