@@ -156,7 +156,7 @@ fn missed_ends(class: &[u32], sub: &[u8], high: usize, most: usize) -> usize
 }
 
 // A run's own steps are made, and it goes on at `next` from each end from `high` down to `low`. Those where `next` fails at once are passed over
-// here, before a frame is written for the ends that are left; no further than the steps that are left pay for.
+// here, before a frame is written for the ends that are left; no further than the steps that are left pay for. A single end is not looked at: `next` does that.
 fn leave_run(
     code: &[u32],
     sub: &[u8],
@@ -175,6 +175,10 @@ fn leave_run(
     ensures { λ r. ⌜ ((here : Now) → Leads (now (code .entry)) (now (sub .entry)) here steps (go next high (now (regs .entry)) (below next high low (stackOf (now (work .entry)) height)))
         → RanBy (now (code .entry)) (now (sub .entry)) here left (now (regs .exit)) (now (work .exit)) r) ⌝ }
 {
+    if high == low {
+        let only = go_down(work, next, high, low, height);
+        return Ran::Made(steps, only);
+    }
     let gate = gate_of(code, next as usize);
     let cost = gate.cost;
     if cost == 0 {

@@ -95,11 +95,15 @@ fn look(code: &[u32], sub: &[u8], pc: u32, at: u32) -> Seen
     Seen::Unknown
 }
 
-// The steps after which the start at `begin` fails on its straight way, within the budget; 0 where it is not seen to.
+// The steps after which the start at `begin` fails on its straight way, within the budget; 0 where it is not seen to. The first start of a line is not looked
+// at: many rules match there or nowhere, and a look would be for nothing.
 pub fn straight(code: &[u32], sub: &[u8], entry: u32, begin: u32, budget: u32) -> u32
     requires { ⌜ length (now sub) < 2 ^ 32 ⌝ }
     ensures { λ r. ⌜ (1 ≤ r → (r ≤ budget) × Fails (now (code .entry)) (now (sub .entry)) begin entry r) ⌝ }
 {
+    if begin == 0 {
+        return 0;
+    }
     let mut pc = entry;
     let mut at = begin;
     let mut left = budget;

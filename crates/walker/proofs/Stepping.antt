@@ -38,6 +38,10 @@ abbrev at-work : Now → Bool
 at-work (idle regs) = false
 at-work (busy c) = true
 
+abbrev node-of : Now → ℕ
+node-of (idle regs) = 0
+node-of (busy c) = c .pc
+
 picked : (b : Bool) (c : Configuration) (regs : List ℕ) → b ≡ at-work (pickNow b (busy c) (idle regs))
 picked true c regs = refl
 picked false c regs = refl
@@ -56,6 +60,11 @@ module _ (p sub regs work regs′ work′ : List ℕ) (m m′ : Machine) where
   pub live-closed : nowOf regs′ work′ m′ ≡ carried 4 p sub regs work m → m′ .live ≡ true
   unfolding carryOut
   live-closed e = live-as e
+
+  -- the node behind it
+  pub pc-closed : m′ .live ≡ true → nowOf regs′ work′ m′ ≡ carried 4 p sub regs work m → m′ .pc ≡ getD p (m .pc + 1) 0
+  unfolding carryOut
+  pc-closed live e = rw live at (ap node-of e)
 
   pub live-ended : nowOf regs′ work′ m′ ≡ carried 8 p sub regs work m → m′ .live ≡ true
   unfolding carryOut decides

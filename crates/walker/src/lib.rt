@@ -29,9 +29,9 @@ ghost use lib.ListN.{length, getD};
 ghost use Rattle.syntax.specs.Limits.{registers};
 ghost use Rattle.semantics.specs.Walk.{Trace};
 ghost use Rattle.machine.specs.Code.{Fits};
-ghost use Rattle.machine.specs.Moves.{Stack, go, fall};
 ghost use Rattle.machine.specs.Words.{stackOf, nowOf, movedOn};
 ghost use Rattle.machine.specs.Ready.{until, Several, Leads, RanBy, StackFits, Ready, Agrees};
+ghost use Rattle.walker.specs.Behind.{Told};
 
 // The kinds of a group's opening and of the end of a round.
 const OPEN: u32 = 3;
@@ -120,31 +120,38 @@ fn leave_group(
     }
 }
 
-// Whether a group closes in vain: behind it stands a byte item whose byte is not there. What is read is tested here, since nothing is known of a node that
-// stands behind another.
-fn closes_in_vain(code: &[u32], sub: &[u8], m: Machine) -> bool
+// What stands behind a group's end: a byte item whose byte is not there, so that the group closes in vain; one whose byte is; or no byte item.
+enum Behind {
+    Missing,
+    There,
+    NoByte,
+}
+
+// Looks behind a group's end. What is read is tested here, since nothing is known of a node that stands behind another.
+fn look_behind(code: &[u32], sub: &[u8], m: Machine) -> Behind
     requires { ⌜ (m .pc + 4 ≤ length (now code)) × (getD (now code) (m .pc) 0 ≡ 4) × (length (now sub) < 2 ^ 32) × (length (now code) < 2 ^ 32) ⌝ }
-    ensures { λ r. ⌜ (r ≡ true → (regs : List ℕ) (st : Stack) → Leads (now (code .entry)) (now (sub .entry)) (go (m .pc) (m .at) regs st) 2 (fall (now (code .entry)) regs st)) ⌝ }
+    ensures { λ r. ⌜ Told (now (code .entry)) (now (sub .entry)) m r ⌝ }
 {
     let pc = m.pc as usize;
     let behind = code[pc + 1] as usize;
     if code.len() < behind + NODE_LENGTH {
-        return false;
+        return Behind::NoByte;
     }
     if code[behind] != BYTE {
-        return false;
+        return Behind::NoByte;
     }
     let at = m.at as usize;
     if sub.len() <= at {
-        return true;
+        return Behind::Missing;
     }
     if charset::contains(code, behind + 3, sub[at]) {
-        return false;
+        return Behind::There;
     }
-    true
+    Behind::Missing
 }
 
-// A group's end. Where it closes in vain nothing is written only to be undone: a run before it comes here once for each of its ends.
+// A group's end. Where it closes in vain nothing is written only to be undone: a run before it comes here once for each of its ends. Where the byte behind
+// it is there, that is taken in the same turn.
 fn end_group(
     code: &[u32],
     sub: &[u8],
@@ -157,19 +164,30 @@ fn end_group(
     requires { ⌜ ((first : List ℕ) × (t : Trace) × Ready (now code) (now sub) (length (now work)) left first (nowOf (now regs) (now work) m) t) ⌝ }
     ensures { λ r. ⌜ (r .rest < left) × Leads (now (code .entry)) (now (sub .entry)) (nowOf (now (regs .entry)) (now (work .entry)) m) (left - r .rest) (nowOf (now (regs .exit)) (now (work .exit)) (r .head)) ⌝ }
 {
-    if 1 < left {
-        if closes_in_vain(code, sub, m) {
+    if left == 1 {
+        return leave_group(code, sub, regs, work, m, left);
+    }
+    match look_behind(code, sub, m) {
+        Behind::Missing => {
             let fallen = fall_back(code, regs, work, m.height);
             let two_less = left - 2;
-            return Standing {
+            Standing {
                 rest: two_less,
                 head: fallen,
-            };
+            }
         }
+        Behind::There => {
+            let closed = close_group(code, regs, work, m);
+            let taken = take_byte(code, sub, regs, work, closed);
+            let two_less = left - 2;
+            Standing {
+                rest: two_less,
+                head: taken,
+            }
+        }
+        Behind::NoByte => leave_group(code, sub, regs, work, m, left),
     }
-    leave_group(code, sub, regs, work, m, left)
 }
-
 // Byte items one after the other: those whose bytes are there, and those that are fallen back to. They need no jump of the kind.
 fn take_bytes(
     code: &[u32],

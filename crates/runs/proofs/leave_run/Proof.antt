@@ -12,9 +12,6 @@ use borrow.Author.Needs.{needs}
 use Rattle.runs.proofs.leave_run.Statement.{statement}
 use Rattle.runs.proofs.leave_run.Tie as tie
 
-gate-of-requires : tie.Need-gate-of-requires
-gate-of-requires c κs = search needs
-
 go-down-requires : tie.Need-go-down-requires
 go-down-requires c κs = search needs
 
@@ -22,7 +19,19 @@ same-length : tie.Need-same-length
 same-length c = search needs
 
 returns : tie.Need-returns
-returns c = λ here l. (c .before .before .before .before .before .before .before .before .before .before .pre .0 .1, c .before .before .before .before .before .before .before .before .before .before .pre .0 .2, rw (c .before .before .go-down .ensures (now (c .before .before .before .before .before .before .before .before .before .before .args .regs))) l)
+returns c = λ here l. (c .before .before .before .before .before .before .before .before .before .pre .0 .1, c .before .before .before .before .before .before .before .before .before .pre .0 .2, rw (c .before .before .go-down .ensures (now (c .before .before .before .before .before .before .before .before .before .args .regs))) l)
+
+gate-of-requires : tie.Need-gate-of-requires
+gate-of-requires c κs = search needs
+
+go-down-requires-2 : tie.Need-go-down-requires-2
+go-down-requires-2 c κs = search needs
+
+same-length-2 : tie.Need-same-length-2
+same-length-2 c = search needs
+
+returns-2 : tie.Need-returns-2
+returns-2 c = λ here l. (c .before .before .before .before .before .before .before .before .before .before .before .pre .0 .1, c .before .before .before .before .before .before .before .before .before .before .before .pre .0 .2, rw (c .before .before .go-down2 .ensures (now (c .before .before .before .before .before .before .before .before .before .before .before .args .regs))) l)
 
 sub-ends : tie.Need-sub-ends
 sub-ends c = search needs
@@ -46,21 +55,21 @@ nearer-requires : tie.Need-nearer-requires
 nearer-requires c κs = search needs
 
 mul-missed-ends : tie.Need-mul-missed-ends
-mul-missed-ends c = omega (arith, (c .before .before .gate-of .ensures .1 (omega (arith, c .before .if1 .left))) .0, c .before .before .before .before .before .before .before .pre .0 .3)
+mul-missed-ends c = omega (arith, (c .before .before .gate-of .ensures .1 (omega (arith, c .before .if2 .left))) .0, c .before .before .before .before .before .before .before .before .pre .0 .3)
 
 sub-missed-ends : tie.Need-sub-missed-ends
-sub-missed-ends c = omega (arith, (c .before .before .gate-of .ensures .1 (omega (arith, c .before .if1 .left))) .0)
+sub-missed-ends c = omega (arith, (c .before .before .gate-of .ensures .1 (omega (arith, c .before .if2 .left))) .0)
 
 part-missed-ends-start : tie.Need-part-missed-ends-start
-part-missed-ends-start c = omega (arith, (c .before .before .gate-of .ensures .1 (omega (arith, c .before .if1 .left))) .0)
+part-missed-ends-start c = omega (arith, (c .before .before .gate-of .ensures .1 (omega (arith, c .before .if2 .left))) .0)
 
 part-missed-ends-end : tie.Need-part-missed-ends-end
-part-missed-ends-end c = omega (arith, (c .before .before .gate-of .ensures .1 (omega (arith, c .before .if1 .left))) .0)
+part-missed-ends-end c = omega (arith, (c .before .before .gate-of .ensures .1 (omega (arith, c .before .if2 .left))) .0)
 
 missed-ends-requires : tie.Need-missed-ends-requires
 missed-ends-requires c κs =
-    let s = c .before .before .before .before .before .before .before .before in
-    (rw (rest-whole (now (s .args .code)) (c .before .before .before .gate-of .result .base)) (simp length-drop (omega (arith, (c .before .before .before .gate-of .ensures .1 (omega (arith, c .before .before .if1 .left))) .0))), omega (arith, c .before .nearer .ensures))
+    let s = c .before .before .before .before .before .before .before .before .before in
+    (rw (rest-whole (now (s .args .code)) (c .before .before .before .gate-of .result .base)) (simp length-drop (omega (arith, (c .before .before .before .gate-of .ensures .1 (omega (arith, c .before .before .if2 .left))) .0))), omega (arith, c .before .nearer .ensures))
 
 cast-all : tie.Need-cast-all
 cast-all c = search needs
@@ -71,13 +80,13 @@ mul-all c = omega (arith, mul-le-mul-left (c .missed-ends .result) (c .before .b
 add-all : tie.Need-add-all
 add-all c = omega (arith, mul-le-mul-left (c .missed-ends .result) (c .before .before .before .before .gate-of .ensures .0), c .missed-ends .ensures .0, c .before .before .nearer .ensures)
 
-returns-2 : tie.Need-returns-2
-returns-2 c =
-    let s = c .before .before .before .before .before .before .before .before .before .before in
+returns-3 : tie.Need-returns-3
+returns-3 c =
+    let s = c .before .before .before .before .before .before .before .before .before .before .before in
     let f = has (drop (c .before .before .before .before .before .gate-of .result .base) (now (s .args .code))) in
-    let asks = (c .before .before .before .before .before .gate-of .ensures .1 (omega (arith, c .before .before .before .before .if1 .left))) .1 (now (s .args .sub)) in
+    let asks = (c .before .before .before .before .before .gate-of .ensures .1 (omega (arith, c .before .before .before .before .if2 .left))) .1 (now (s .args .sub)) in
     let missed = rw (rest-whole (now (s .args .code)) (c .before .before .before .before .before .gate-of .result .base)) at (c .before .missed-ends .ensures .1) in
-    λ here l. left-long f asks (s .args .high) (s .args .low) (now (s .args .regs)) (stackOf (now (s .args .work)) (s .args .height)) (s .pre .0 .0) (c .before .missed-ends .result) missed here (s .args .steps) l (omega (arith, c .before .missed-ends .ensures .0, c .before .before .before .nearer .ensures)) (omega (arith, c .if2 .taken))
+    λ here l. left-long f asks (s .args .high) (s .args .low) (now (s .args .regs)) (stackOf (now (s .args .work)) (s .args .height)) (s .pre .0 .0) (c .before .missed-ends .result) missed here (s .args .steps) l (omega (arith, c .before .missed-ends .ensures .0, c .before .before .before .nearer .ensures)) (omega (arith, c .if3 .taken))
 
 cast-go-down : tie.Need-cast-go-down
 cast-go-down c = search needs
@@ -85,51 +94,54 @@ cast-go-down c = search needs
 sub-go-down : tie.Need-sub-go-down
 sub-go-down c = search needs
 
-go-down-requires-2 : tie.Need-go-down-requires-2
-go-down-requires-2 c κs = search needs
+go-down-requires-3 : tie.Need-go-down-requires-3
+go-down-requires-3 c κs = search needs
 
-cast-t37 : tie.Need-cast-t37
-cast-t37 c = search needs
-
-same-length-2 : tie.Need-same-length-2
-same-length-2 c = search needs
-
-returns-3 : tie.Need-returns-3
-returns-3 c =
-    let s = c .before .before .before .before .before .before .before .before .before .before .before .before .before .before .before in
-    let f = has (drop (c .before .before .before .before .before .before .before .before .before .before .gate-of .result .base) (now (s .args .code))) in
-    let asks = (c .before .before .before .before .before .before .before .before .before .before .gate-of .ensures .1 (omega (arith, c .before .before .before .before .before .before .before .before .before .if1 .left))) .1 (now (s .args .sub)) in
-    let missed = rw (rest-whole (now (s .args .code)) (c .before .before .before .before .before .before .before .before .before .before .gate-of .result .base)) at (c .before .before .before .before .before .before .missed-ends .ensures .1) in
-    λ here l. (omega (arith, s .pre .0 .1), c .before .before .before .before .before .if2 .left, rw (c .before .before .go-down2 .ensures (now (s .args .regs))) (left-some f asks (s .args .high) (s .args .low) (now (s .args .regs)) (stackOf (now (s .args .work)) (s .args .height)) (s .pre .0 .0) (c .before .before .before .before .before .before .missed-ends .result) missed here (s .args .steps) l (omega (arith, c .before .before .before .before .if3 .taken))))
-
-fall-back-requires : tie.Need-fall-back-requires
-fall-back-requires c κs = search needs
-
-cast-t25 : tie.Need-cast-t25
-cast-t25 c = search needs
+cast-t40 : tie.Need-cast-t40
+cast-t40 c = search needs
 
 same-length-3 : tie.Need-same-length-3
 same-length-3 c = search needs
 
+returns-4 : tie.Need-returns-4
+returns-4 c =
+    let s = c .before .before .before .before .before .before .before .before .before .before .before .before .before .before .before .before in
+    let f = has (drop (c .before .before .before .before .before .before .before .before .before .before .gate-of .result .base) (now (s .args .code))) in
+    let asks = (c .before .before .before .before .before .before .before .before .before .before .gate-of .ensures .1 (omega (arith, c .before .before .before .before .before .before .before .before .before .if2 .left))) .1 (now (s .args .sub)) in
+    let missed = rw (rest-whole (now (s .args .code)) (c .before .before .before .before .before .before .before .before .before .before .gate-of .result .base)) at (c .before .before .before .before .before .before .missed-ends .ensures .1) in
+    λ here l. (omega (arith, s .pre .0 .1), c .before .before .before .before .before .if3 .left, rw (c .before .before .go-down3 .ensures (now (s .args .regs))) (left-some f asks (s .args .high) (s .args .low) (now (s .args .regs)) (stackOf (now (s .args .work)) (s .args .height)) (s .pre .0 .0) (c .before .before .before .before .before .before .missed-ends .result) missed here (s .args .steps) l (omega (arith, c .before .before .before .before .if4 .taken))))
+
+fall-back-requires : tie.Need-fall-back-requires
+fall-back-requires c κs = search needs
+
+cast-t28 : tie.Need-cast-t28
+cast-t28 c = search needs
+
 same-length-4 : tie.Need-same-length-4
 same-length-4 c = search needs
 
-returns-4 : tie.Need-returns-4
-returns-4 c =
-    let s = c .before .before .before .before .before .before .before .before .before .before .before .before .before .before .before .before .before .before in
+same-length-5 : tie.Need-same-length-5
+same-length-5 c = search needs
+
+returns-5 : tie.Need-returns-5
+returns-5 c =
+    let s = c .before .before .before .before .before .before .before .before .before .before .before .before .before .before .before .before .before .before .before in
     let f = has (drop (c .before .before .before .before .before .before .before .before .before .before .before .before .before .gate-of .result .base) (now (s .args .code))) in
-    let asks = (c .before .before .before .before .before .before .before .before .before .before .before .before .before .gate-of .ensures .1 (omega (arith, c .before .before .before .before .before .before .before .before .before .before .before .before .if1 .left))) .1 (now (s .args .sub)) in
+    let asks = (c .before .before .before .before .before .before .before .before .before .before .before .before .before .gate-of .ensures .1 (omega (arith, c .before .before .before .before .before .before .before .before .before .before .before .before .if2 .left))) .1 (now (s .args .sub)) in
     let missed = rw (rest-whole (now (s .args .code)) (c .before .before .before .before .before .before .before .before .before .before .before .before .before .gate-of .result .base)) at (c .before .before .before .before .before .before .before .before .before .missed-ends .ensures .1) in
-    λ here l. (omega (arith, s .pre .0 .1), c .before .before .before .before .before .before .before .before .if2 .left, rw (c .before .before .before .before .fall-back .ensures) (left-none f asks (s .args .high) (s .args .low) (now (s .args .regs)) (stackOf (now (s .args .work)) (s .args .height)) (s .pre .0 .0) (c .before .before .before .before .before .before .before .before .before .missed-ends .result) missed here (s .args .steps) l (omega (arith, c .before .before .before .before .before .before .before .if3 .left, c .before .before .before .before .before .before .before .before .before .missed-ends .ensures .0, c .before .before .before .before .before .before .before .before .before .before .before .nearer .ensures))))
+    λ here l. (omega (arith, s .pre .0 .1), c .before .before .before .before .before .before .before .before .if3 .left, rw (c .before .before .before .before .fall-back .ensures) (left-none f asks (s .args .high) (s .args .low) (now (s .args .regs)) (stackOf (now (s .args .work)) (s .args .height)) (s .pre .0 .0) (c .before .before .before .before .before .before .before .before .before .missed-ends .result) missed here (s .args .steps) l (omega (arith, c .before .before .before .before .before .before .before .if4 .left, c .before .before .before .before .before .before .before .before .before .missed-ends .ensures .0, c .before .before .before .before .before .before .before .before .before .before .before .nearer .ensures))))
 
 pub leave-run-spec : {M : Type 1} → statement M
 leave-run-spec =
     tie.close
     (tie.spec
-    gate-of-requires
     go-down-requires
     same-length
     returns
+    gate-of-requires
+    go-down-requires-2
+    same-length-2
+    returns-2
     sub-ends
     cast-ends
     add-ends
@@ -145,15 +157,15 @@ leave-run-spec =
     cast-all
     mul-all
     add-all
-    returns-2
+    returns-3
     cast-go-down
     sub-go-down
-    go-down-requires-2
-    cast-t37
-    same-length-2
-    returns-3
-    fall-back-requires
-    cast-t25
+    go-down-requires-3
+    cast-t40
     same-length-3
+    returns-4
+    fall-back-requires
+    cast-t28
     same-length-4
-    returns-4)
+    same-length-5
+    returns-5)

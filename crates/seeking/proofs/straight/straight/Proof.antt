@@ -15,28 +15,31 @@ Inv-loop code sub entry begin budget pc₀ at₀ left₀ pc at left = (left ≤ 
 abbrev μ-loop : tie.MeasureT-loop
 μ-loop code sub entry begin budget pc₀ at₀ left₀ pc at left = left
 
+returns : tie.Need-returns Inv-loop μ-loop
+returns c = λ h. absurd (omega arith)
+
 loop-holds : tie.Need-loop-holds Inv-loop μ-loop
-loop-holds c = (omega arith, λ n f. let z : c .before .before .args .budget - c .before .before .args .budget + n ≡ n = omega arith in rw z f)
+loop-holds c = (omega arith, λ n f. let z : c .before .before .before .args .budget - c .before .before .before .args .budget + n ≡ n = omega arith in rw z f)
 
 look-requires : tie.Need-look-requires Inv-loop μ-loop
-look-requires c κs = c .before .before .before .before .pre
+look-requires c κs = c .before .before .before .before .before .pre
 
 enum-known-steps : tie.Need-enum-known-steps Inv-loop μ-loop
 enum-known-steps c = search needs
 
-returns : tie.Need-returns Inv-loop μ-loop
-returns c = λ h. absurd (omega arith)
+returns-2 : tie.Need-returns-2 Inv-loop μ-loop
+returns-2 c = λ h. absurd (omega arith)
 
 sub-result : tie.Need-sub-result Inv-loop μ-loop
 sub-result c = c .before .before .before .before .before .before .loop .inv .0
 
 add-result : tie.Need-add-result Inv-loop μ-loop
-add-result c = omega (arith, c .before .before .before .before .before .before .loop .inv .0, c .if1 .left)
+add-result c = omega (arith, c .before .before .before .before .before .before .loop .inv .0, c .if2 .left)
 
-returns-2 : tie.Need-returns-2 Inv-loop μ-loop
-returns-2 c =
+returns-3 : tie.Need-returns-3 Inv-loop μ-loop
+returns-3 c =
     let seen = rw (c .before .before .steps .given .1) at (c .before .before .before .before .look .ensures) in
-    λ h. (omega (arith, c .before .before .before .before .before .before .loop .inv .0, c .if1 .left), c .before .before .before .before .before .before .loop .inv .1 _ (seen .1))
+    λ h. (omega (arith, c .before .before .before .before .before .before .loop .inv .0, c .if2 .left), c .before .before .before .before .before .before .loop .inv .1 _ (seen .1))
 
 enum-known-next : tie.Need-enum-known-next Inv-loop μ-loop
 enum-known-next c = search needs
@@ -50,16 +53,16 @@ loop-less c = omega arith
 loop-again : tie.Need-loop-again Inv-loop μ-loop
 loop-again c =
     let seen = rw (c .before .next .given .1) at (c .before .before .before .look .ensures) in
-    (omega (arith, c .before .before .before .before .before .loop .inv .0), λ n f. let z : c .before .before .before .before .before .before .before .before .args .budget - (c .before .before .before .before .before .loop .left - 1) + n ≡ c .before .before .before .before .before .before .before .before .args .budget - c .before .before .before .before .before .loop .left + suc n = omega (arith, c .before .before .before .before .before .loop .inv .0) in rw z (c .before .before .before .before .before .loop .inv .1 (suc n) (seen n f)))
+    (omega (arith, c .before .before .before .before .before .loop .inv .0), λ n f. let z : c .before .before .before .before .before .before .before .before .before .args .budget - (c .before .before .before .before .before .loop .left - 1) + n ≡ c .before .before .before .before .before .before .before .before .before .args .budget - c .before .before .before .before .before .loop .left + suc n = omega (arith, c .before .before .before .before .before .loop .inv .0) in rw z (c .before .before .before .before .before .loop .inv .1 (suc n) (seen n f)))
 
 enum-told : tie.Need-enum-told Inv-loop μ-loop
 enum-told c = search needs
 
-returns-3 : tie.Need-returns-3 Inv-loop μ-loop
-returns-3 c = λ h. absurd (omega arith)
-
 returns-4 : tie.Need-returns-4 Inv-loop μ-loop
 returns-4 c = λ h. absurd (omega arith)
+
+returns-5 : tie.Need-returns-5 Inv-loop μ-loop
+returns-5 c = λ h. absurd (omega arith)
 
 pub straight-spec : {M : Type 1} → statement M
 straight-spec =
@@ -67,17 +70,18 @@ straight-spec =
     (tie.spec
     Inv-loop
     μ-loop
+    returns
     loop-holds
     look-requires
     enum-known-steps
-    returns
+    returns-2
     sub-result
     add-result
-    returns-2
+    returns-3
     enum-known-next
     sub-left
     loop-less
     loop-again
     enum-told
-    returns-3
-    returns-4)
+    returns-4
+    returns-5)

@@ -1,6 +1,6 @@
--- `closes_in_vain` meets its contract: where the byte behind the group is not there, the two nodes fail one after the other.
-use mathlib.Core.Path.{_≡_, sym, _∙_}
-use Prim.Native.Nat.{ℕ, _+_}
+-- `look_behind` meets its contract: where the byte behind the group is not there, the two nodes fail one after the other.
+use mathlib.Core.Path.{sym, _∙_}
+use Prim.Native.Nat.{_+_}
 use native.Mathlib.Omega.{arith}
 use lib.ListN.{getD, drop}
 use denote.Ref.{now}
@@ -8,8 +8,8 @@ use Rattle.charset.specs.Class.{has}
 use Rattle.machine.specs.Laws.Ends.{asks-byte, asks-close}
 use Rattle.machine.specs.Laws.Extent.{takes-here, takes-past}
 use borrow.Author.Needs.{needs}
-use Rattle.walker.proofs.closes_in_vain.Statement.{statement}
-use Rattle.walker.proofs.closes_in_vain.Tie as tie
+use Rattle.walker.proofs.look_behind.Statement.{statement}
+use Rattle.walker.proofs.look_behind.Tie as tie
 
 cast-pc : tie.Need-cast-pc
 cast-pc c = search needs
@@ -30,7 +30,7 @@ add-if1 : tie.Need-add-if1
 add-if1 c = omega (arith, c .shared-slice-known3 .given (c .before .before .before .before .args .m .pc + 1))
 
 returns : tie.Need-returns
-returns c = λ e. let z : _≡_ {A = ℕ} 0 1 = cc in absurd (omega arith)
+returns c = tt
 
 mul-if2 : tie.Need-mul-if2
 mul-if2 c = search needs
@@ -39,7 +39,7 @@ shared-slice-read-if2 : tie.Need-shared-slice-read-if2
 shared-slice-read-if2 c = search needs
 
 returns-2 : tie.Need-returns-2
-returns-2 c = λ e. let z : _≡_ {A = ℕ} 0 1 = cc in absurd (omega arith)
+returns-2 c = tt
 
 cast-at : tie.Need-cast-at
 cast-at c = search needs
@@ -52,7 +52,7 @@ returns-3 c =
     let at = c .before .before .before .before .before .before .before .before .before .args .m .at in
     let behind = getD p (pc + 1) 0 in
     let f = has (drop (behind + 3) p) in
-    λ _ regs st. asks-close p sub pc 1 f (c .before .before .before .before .before .before .before .before .before .pre .1) (asks-byte p sub behind (c .before .before .if2 .left)) at regs st (takes-past sub f at (c .if3 .taken))
+    λ regs st. asks-close p sub pc 1 f (c .before .before .before .before .before .before .before .before .before .pre .1) (asks-byte p sub behind (c .before .before .if2 .left)) at regs st (takes-past sub f at (c .if3 .taken))
 
 add-contains : tie.Need-add-contains
 add-contains c = search needs
@@ -64,7 +64,7 @@ contains-requires : tie.Need-contains-requires
 contains-requires c κs = search needs
 
 returns-4 : tie.Need-returns-4
-returns-4 c = λ e. let z : _≡_ {A = ℕ} 0 1 = cc in absurd (omega arith)
+returns-4 c = c .before .before .before .before .before .if2 .left
 
 returns-5 : tie.Need-returns-5
 returns-5 c =
@@ -74,10 +74,10 @@ returns-5 c =
     let at = c .before .before .before .before .before .before .before .before .before .before .before .before .args .m .at in
     let behind = getD p (pc + 1) 0 in
     let f = has (drop (behind + 3) p) in
-    λ _ regs st. asks-close p sub pc 1 f (c .before .before .before .before .before .before .before .before .before .before .before .before .pre .1) (asks-byte p sub behind (c .before .before .before .before .before .if2 .left)) at regs st (takes-here sub f at (omega (arith, c .before .before .before .if3 .left)) ∙ sym (c .before .contains .ensures) ∙ c .if4 .left)
+    λ regs st. asks-close p sub pc 1 f (c .before .before .before .before .before .before .before .before .before .before .before .before .pre .1) (asks-byte p sub behind (c .before .before .before .before .before .if2 .left)) at regs st (takes-here sub f at (omega (arith, c .before .before .before .if3 .left)) ∙ sym (c .before .contains .ensures) ∙ c .if4 .left)
 
-pub closes-in-vain-spec : {M : Type 1} → statement M
-closes-in-vain-spec =
+pub look-behind-spec : {M : Type 1} → statement M
+look-behind-spec =
     tie.close
     (tie.spec
     cast-pc
