@@ -17,7 +17,7 @@ TARGET = Path(__file__).resolve().parent.parent / "crates" / "call_vectors"
 RESULTS = 100 * ROW  # the numbers of the largest result area that the program lends, and the whole parts in it
 PARTS = RESULTS // PART
 MOST = 100000  # the largest budget
-ROOM = 131072  # what the program reads of its input
+ROOM = 262144  # what the program reads of its input
 MATCH, LIST, EXPLAIN, SCAN, BATCH = range(5)
 ENDINGS = {"M": "matched", "N": "not matched", "C": "complete", "F": "full"}
 # Classes of every kind of member, complemented and not.

@@ -13,7 +13,7 @@ from reference import DEPOT, FLAGS, GROUPS, I, X
 
 ROOT = Path(__file__).resolve().parent.parent
 TARGET = ROOT / "crates" / "rule_vectors"
-ROOM = 131072  # what the program reads of its input
+ROOM = 262144  # what the program reads of its input
 
 # As many groups as a rule can have, and a reference to the last of them.
 MOST, LAST = b"()" * GROUPS, b"\\%d" % GROUPS
