@@ -96,8 +96,9 @@ void terravisco_match_lines(const uint8_t *rule, size_t rule_len, uint32_t flags
                             uint32_t *result, size_t result_len, uint8_t *names, size_t names_len, uint32_t answer[TERRAVISCO_ANSWER]);
 
 /* Tells why a line does not match: which items of the rule failed, and where. An item is what takes one byte (a byte, `.`, a class, an escape for a
-   byte or a set), a place (`^`, `$`, `\b` and the like) or a reference. It is tried at a place in the line, a reference where it begins, and has
-   its own place in the rule, that of its first byte, also under a repeat.
+   byte or a set), a place (`^`, `$`, `\b` and the like), a reference or a `(?!`, which fails where what it forbids is there. It is tried at a place in the
+   line, a reference where it begins and a `(?!` where it is entered, and has its own place in the rule, that of its first byte, also under a repeat.
+   Items inside `(?>`, `(?=` and `(?!` count too; those of `\R` have its place.
    marks     of any length, 0 too; TERRAVISCO_LONGEST_RULE bytes are enough for every rule
    answer    [0] to [4] those of a match, [5] 0, and if the line is not matched:
              [6] the greatest place in the line at which an item failed, [7] the place in the rule of the first that failed there, in the order in
@@ -119,7 +120,7 @@ void terravisco_explain(const uint8_t *rule, size_t rule_len, uint32_t flags,
    kind      of the answer: 0 matched; every other number is not. For a row of a listing or of successive matches hand in 0, for a line of a buffer
              the first of its four numbers.
    row       the answer's row, TERRAVISCO_ROW numbers; what follows them is not looked at. Fewer, or numbers that are no row for that line (start <= end
-             <= line_len; each pair TERRAVISCO_UNSET twice or a span from start to end), count as not matched.
+             <= line_len; each pair TERRAVISCO_UNSET twice or a span within the line), count as not matched.
    standing  the text that stands for a group that is not set
    field     [0] 0 a part of the line or 1 of the standing text, [1] from, [2] to: the field is the bytes from [1] up to, not including, [2].
              The part of the line that the group took, which may be empty; the whole standing text where the group is not set; 1, 0, 0

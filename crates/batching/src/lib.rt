@@ -1,7 +1,7 @@
 // A day's lines in one call (02, request h): one rule, a buffer of lines split at 0A, and for each line its part of the result area, a row and then
 // four numbers that tell its outcome. `match_lines` is the call, and `match_lines_held` its inside, for a rule that stands compiled.
 //
-// The rule is compiled once, its opening is found once, and what was lent is cleared once. Beyond that a line costs the search for its end, its match
+// The rule is compiled once, its opening is found once, the registers are written once, and what was lent is cleared once. Beyond that a line costs the search for its end, its match
 // and four stores, and its row only if it is matched: whatever stands before it, so that the whole grows in proportion to the buffer.
 //
 // Before each line the parts of those before it stand, everything behind them is as it was lent, and what is left of the buffer has the lines that are
@@ -53,10 +53,11 @@ pub fn match_lines(
     // no line counts for the call itself: one that is too long is told in its own part
     match prepare(rule, flags, 0, budget, rule_area, work_area, short, names) {
         Preparation::Refused(f) => Batch::Refused(f),
-        Preparation::Ready(entry, _groups) => {
+        Preparation::Ready(entry, groups) => {
             match_lines_held(
                 &rule_area[..RULE_AREA_NEED],
                 entry,
+                groups,
                 buffer,
                 budget,
                 work_area,

@@ -2,31 +2,41 @@
 // the buffer has the lines that are left.
 use crate::parts::PART_LENGTH;
 use crate::parts::match_part;
+use frame::REGISTERS;
+use index::UNSET;
 use openings::find_opening;
 use text::line_end;
 ghost use mathlib.Core.Path.{_≡_};
 ghost use mathlib.Core.List.{[]};
 ghost use Prim.Native.Nat.{_≤_};
 ghost use lib.ListN.{length, drop};
+ghost use Rattle.syntax.specs.Limits.{groupLimit};
+ghost use Rattle.syntax.specs.Tree.{Rule};
+ghost use Rattle.syntax.specs.WellFormed.{Proper};
 ghost use Rattle.semantics.specs.Calls.{workAreaNeed};
 ghost use Rattle.semantics.specs.Batches.{linesOf, partsNeed};
+ghost use Rattle.machine.specs.Theorem.{Stands};
 ghost use Rattle.frame.specs.Inputs.{Held};
 ghost use Rattle.batching.specs.Parts.{Fills};
 
-// Writes the parts of all lines of a buffer, by a rule that stands compiled.
+// Writes the parts of all lines of a buffer, by a rule that stands compiled and has so many groups. The registers are written once, and then only those of
+// the rule's groups for each line.
 pub fn match_lines_held(
     code: &[u32],
     entry: u32,
+    groups: u32,
     buffer: &[u8],
     budget: u32,
     work: &mut [u32],
     results: &mut [u32],
 )
-    requires { ⌜ Held (now code) [] (now work) entry budget × (partsNeed (linesOf (now buffer)) ≤ length (now results)) ⌝ }
+    requires { ⌜ Held (now code) [] (now work) entry budget × (partsNeed (linesOf (now buffer)) ≤ length (now results)) × (groups ≤ groupLimit) ⌝ }
+    requires { ⌜ ((x : Rule) × Stands (now code) x entry × Proper groups x) ⌝ }
     ensures { λ _. ⌜ Fills (now (code .entry)) (linesOf (now (buffer .entry))) (now (results .entry)) (now (results .exit)) entry budget ⌝ }
     ensures { λ _. ⌜ drop (workAreaNeed budget) (now (work .exit)) ≡ drop (workAreaNeed budget) (now (work .entry)) ⌝ }
 {
     let opening = find_opening(code, entry, budget, buffer.len());
+    let mut regs = [UNSET; REGISTERS];
     let mut from: usize = 0;
     let mut at: usize = 0;
     while from < buffer.len() {
@@ -35,11 +45,13 @@ pub fn match_lines_held(
         match_part(
             code,
             entry,
+            groups,
             opening,
             buffer,
             from,
             to,
             budget,
+            &mut regs,
             work,
             &mut results[at..behind],
         );

@@ -13,12 +13,13 @@ ghost use mathlib.Core.Path.{_≡_};
 ghost use mathlib.Core.List.{_∷_, []};
 ghost use Prim.Native.Nat.{_≤_, _<_};
 ghost use lib.ListN.{length, drop, set};
-ghost use Rattle.syntax.specs.Limits.{rowLength, partLength};
+ghost use Rattle.syntax.specs.Limits.{groupLimit, rowLength, partLength};
 ghost use Rattle.semantics.specs.Calls.{workAreaNeed};
 ghost use Rattle.semantics.specs.Batches.{low, high, outcomeNumbers};
 ghost use Rattle.openings.specs.Openings.{Opens};
 ghost use Rattle.frame.specs.Inputs.{between, Held};
 ghost use Rattle.matching.specs.Outcomes.{outcomeOf};
+ghost use Rattle.matching.specs.Registers.{Fresh, Keeps};
 ghost use Rattle.batching.specs.Parts.{Answers, Tells};
 
 // all numbers of a part
@@ -67,17 +68,20 @@ fn tell(numbers: &mut [u32], outcome: Outcome)
 fn match_one(
     code: &[u32],
     entry: u32,
+    groups: u32,
     opening: Opening,
     buffer: &[u8],
     from: usize,
     to: usize,
     budget: u32,
+    regs: &mut [u32],
     work: &mut [u32],
     row: &mut [u32],
 ) -> Outcome
-    requires { ⌜ Held (now code) [] (now work) entry budget × Opens (now code) entry budget opening × (from ≤ to) × (to ≤ length (now buffer)) × (length (now row) ≡ rowLength) ⌝ }
+    requires { ⌜ Held (now code) [] (now work) entry budget × Opens (now code) entry budget opening × (from ≤ to) × (to ≤ length (now buffer)) × (length (now row) ≡ rowLength) × (groups ≤ groupLimit) × Fresh groups (now regs) ⌝ }
     ensures { λ r. ⌜ Answers (now (code .entry)) (between (now (buffer .entry)) from to) (now (row .entry)) (now (row .exit)) entry budget r ⌝ }
     ensures { λ _. ⌜ drop (workAreaNeed budget) (now (work .exit)) ≡ drop (workAreaNeed budget) (now (work .entry)) ⌝ }
+    ensures { λ _. ⌜ Keeps (now (code .entry)) entry groups (now (regs .exit)) ⌝ }
 {
     if SUBJECT_LIMIT < to - from {
         return Outcome::Refused(Refusal {
@@ -85,33 +89,50 @@ fn match_one(
             reason: Reason::SubjectTooLong,
         });
     }
-    match_opened(code, entry, opening, buffer, from, to, budget, work, row)
+    match_opened(
+        code,
+        entry,
+        groups,
+        opening,
+        buffer,
+        from,
+        to,
+        budget,
+        regs,
+        work,
+        row,
+    )
 }
 
 // The part of one line.
 pub fn match_part(
     code: &[u32],
     entry: u32,
+    groups: u32,
     opening: Opening,
     buffer: &[u8],
     from: usize,
     to: usize,
     budget: u32,
+    regs: &mut [u32],
     work: &mut [u32],
     part: &mut [u32],
 )
-    requires { ⌜ Held (now code) [] (now work) entry budget × Opens (now code) entry budget opening × (from ≤ to) × (to ≤ length (now buffer)) × (length (now part) ≡ partLength) ⌝ }
+    requires { ⌜ Held (now code) [] (now work) entry budget × Opens (now code) entry budget opening × (from ≤ to) × (to ≤ length (now buffer)) × (length (now part) ≡ partLength) × (groups ≤ groupLimit) × Fresh groups (now regs) ⌝ }
     ensures { λ _. ⌜ Tells (now (code .entry)) (between (now (buffer .entry)) from to) (now (part .entry)) (now (part .exit)) entry budget ⌝ }
     ensures { λ _. ⌜ drop (workAreaNeed budget) (now (work .exit)) ≡ drop (workAreaNeed budget) (now (work .entry)) ⌝ }
+    ensures { λ _. ⌜ Keeps (now (code .entry)) entry groups (now (regs .exit)) ⌝ }
 {
     let outcome = match_one(
         code,
         entry,
+        groups,
         opening,
         buffer,
         from,
         to,
         budget,
+        regs,
         work,
         &mut part[..ROW_LENGTH],
     );

@@ -1,4 +1,7 @@
--- What is kept of the failures of a line that is not matched (Best), and the walks in which they are found (Walks).
+-- What is kept of the failures of a line that is not matched, over one walk (Accounts, Leading) and over all (Best), and the walks in which they are found
+-- (Walks).
+pub mod Accounts
+pub mod Leading
 pub mod Best
 pub mod Walks
 pub mod Laws

@@ -1,15 +1,15 @@
 // The two failures that are told, as a walk finds them: of all failures so far the first with the greatest position, and the first with the greatest
 // distance from its start. A later one takes its place only if it is strictly greater, which keeps the first of those that are equal.
+use crate::leading::Kept;
 use nodes::span_length;
-use plain::Missed;
 ghost use mathlib.Core.Path.{_≡_};
 ghost use mathlib.Core.Bool.{true};
 ghost use mathlib.Core.List.{_∷_, []};
 ghost use mathlib.Core.Option.{some};
 ghost use Prim.Native.Nat.{ℕ};
 ghost use Rattle.semantics.specs.Explanations.{Failure, greater, reach};
-ghost use Rattle.plain.specs.Misses.{missedOf};
 ghost use Rattle.failures.specs.Best.{failureOf, kept, Blank, Keeps};
+ghost use Rattle.failures.specs.Leading.{keptOf, listed};
 
 // An item that failed: the start of the attempt, where in the subject it was tried, and its place in the rule.
 pub struct Failed {
@@ -81,17 +81,17 @@ fn keep(b: Best, x: Failed) -> Best
     }
 }
 
-// The best after a move of the walk from `start`.
-pub fn consider(b: Best, start: u32, missed: Missed) -> Best
-    ensures { λ r. ⌜ Keeps b (missedOf start missed) r ⌝ }
+// The best after the walk from `start`, by what was kept of it.
+pub fn consider(b: Best, start: u32, kept: Kept) -> Best
+    ensures { λ r. ⌜ Keeps b (listed (keptOf start kept)) r ⌝ }
 {
-    if !missed.any {
+    if !kept.any {
         return b;
     }
     let x = Failed {
         start: start,
-        at: missed.at,
-        place: missed.place,
+        at: kept.at,
+        place: kept.place,
     };
     keep(b, x)
 }

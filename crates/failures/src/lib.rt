@@ -3,6 +3,7 @@
 // All starts are walked plainly once, and the closest attempt's start once more. The walks are those of a match, which has shown that they reach no end
 // and that the budget and the work area are enough for them.
 mod greatest;
+mod leading;
 mod marking;
 mod walking;
 

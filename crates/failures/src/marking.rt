@@ -13,10 +13,10 @@ ghost use lib.ListN.{length, replicate};
 ghost use Rattle.syntax.specs.Limits.{registers};
 ghost use Rattle.syntax.specs.Tree.{Rule};
 ghost use Rattle.semantics.specs.Walk.{Trace};
-ghost use Rattle.semantics.specs.Explanations.{failed, failures, placesAt, marked, marks as marksOf};
+ghost use Rattle.semantics.specs.Explanations.{failures, marks as marksOf};
 ghost use Rattle.machine.specs.Moves.{go};
 ghost use Rattle.machine.specs.Theorem.{Stands, Clear};
-ghost use Rattle.plain.specs.Misses.{missedOf};
+ghost use Rattle.failures.specs.Accounts.{markedBy, marking};
 ghost use Rattle.failures.specs.Best.{failureOf, Finds};
 ghost use Rattle.failures.specs.Walks.{Plain, Fruitless, Sized};
 
@@ -34,7 +34,7 @@ fn clear_marks(marks: &mut [u8])
 
 // Marks what failed in a move, if it failed at the position `at` and there is room for its place.
 fn mark(marks: &mut [u8], at: u32, missed: Missed)
-    ensures { λ _. ⌜ ((start : ℕ) → now (marks .exit) ≡ marked (placesAt at (missedOf start missed)) (now (marks .entry))) ⌝ }
+    ensures { λ _. ⌜ now (marks .exit) ≡ markedBy (missed .any) at (now (marks .entry)) (missed .place) (missed .at) ⌝ }
 {
     if !missed.any {
         return;
@@ -63,14 +63,14 @@ fn mark_start(
     marks: &mut [u8],
 )
     requires { ⌜ (length (now regs) ≡ registers) × (length (now sub) < 2 ^ 31) × (length (now code) < 2 ^ 32) ⌝ }
-    requires { ⌜ ((first : List ℕ) × (t : Trace) × Plain (now code) (now sub) (length (now work)) budget first (go entry begin (now regs) []) t) ⌝ }
-    ensures { λ _. ⌜ ((first : List ℕ) (t : Trace) → Plain (now (code .entry)) (now (sub .entry)) (length (now (work .entry))) budget first (go entry begin (now (regs .entry)) []) t
-        → now (marks .exit) ≡ marked (placesAt at (failed begin t)) (now (marks .entry))) ⌝ }
+    requires { ⌜ ((first : List ℕ) × (t : Trace) × (final : List ℕ) × Plain (now code) (now sub) (marking at) final (length (now work)) budget first (now marks) (go entry begin (now regs) []) t) ⌝ }
+    ensures { λ _. ⌜ ((first : List ℕ) (t : Trace) (final : List ℕ) → Plain (now (code .entry)) (now (sub .entry)) (marking at) final (length (now (work .entry))) budget first (now (marks .entry)) (go entry begin (now (regs .entry)) []) t
+        → now (marks .exit) ≡ final) ⌝ }
 {
     let mut rest = budget;
     let mut head = start(entry, begin);
     while head.live {
-        let turn = try_next(code, sub, regs, work, head);
+        let turn = try_next(code, sub, regs, work, head, head.at);
         mark(marks, at, turn.missed);
         head = turn.head;
         rest -= 1;

@@ -19,4 +19,4 @@ readied-holds {need} {c} {area = area} h long = record { tree = h .tree; stands 
 -- the work area is long enough for the largest budget
 pub holds-lent : {area : List ℕ} {entry budget : ℕ} (work : List ℕ) → Holds area entry budget → length area ≡ ruleAreaNeed → workPerStep * budgetLimit ≤ length work → Lent area entry budget work
 unfolding workAreaNeed workPerStep
-holds-lent work h size room = record { tree = h .tree; stands = h .stands; code-size = size; work-area-fits = omega (arith, h .budget-fits) }
+holds-lent work h size room = record { tree = h .tree; stands = h .stands; code-size = size; work-area-fits = omega (arith, h .budget-fits); budget-fits = h .budget-fits }

@@ -5,7 +5,7 @@ use mathlib.Core.List.{List}
 use Prim.Native.Nat.{ℕ, _≤_}
 use lib.Dec.{eqb}
 use lib.ListN.{length, getD}
-use Rattle.syntax.specs.Limits.{ruleAreaNeed}
+use Rattle.syntax.specs.Limits.{budgetLimit, ruleAreaNeed}
 use Rattle.syntax.specs.Read.{if_then_else_}
 use Rattle.syntax.specs.Tree.{Rule}
 use Rattle.syntax.specs.WellFormed.{WellFormed}
@@ -41,6 +41,7 @@ pub record Lent (code : List ℕ) (entry budget : ℕ) (workArea : List ℕ) : T
   pub stands : Stands code tree entry
   pub code-size : length code ≡ ruleAreaNeed
   pub work-area-fits : workAreaNeed budget ≤ length workArea
+  pub budget-fits : budget ≤ budgetLimit
 
 -- the word is that of the line, and the fields looked up with the row that is left are the line's
 pub record Answers (t : Table) (line : List ℕ) (w : Word) (x : List ℕ) : Type 0 where

@@ -4,7 +4,7 @@ use mathlib.Core.Path.{_≡_}
 use mathlib.Core.List.{List}
 use Prim.Native.Nat.{ℕ, _-_, _≤_}
 use lib.ListN.{length, take, drop}
-use Rattle.syntax.specs.Limits.{subjectLimit, ruleAreaNeed}
+use Rattle.syntax.specs.Limits.{subjectLimit, budgetLimit, ruleAreaNeed}
 use Rattle.syntax.specs.Tree.{Rule}
 use Rattle.semantics.specs.Calls.{Call, Return, workAreaNeed}
 use Rattle.machine.specs.Theorem.{Stands}
@@ -45,3 +45,4 @@ pub record Held (code subject work : List ℕ) (entry budget : ℕ) : Type 0 whe
   pub code-size : length code ≡ ruleAreaNeed
   pub subject-fits : length subject ≤ subjectLimit
   pub work-fits : workAreaNeed budget ≤ length work
+  pub budget-fits : budget ≤ budgetLimit

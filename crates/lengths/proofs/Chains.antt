@@ -1,13 +1,12 @@
 -- A sequence's loop: at every turn some parts are left, which stand no deeper, and what was found so far is found of the parts behind them.
-use mathlib.Core.Path.{_≡_, refl, sym, ap, _∙_}
+use mathlib.Core.Path.{_≡_, sym, ap, _∙_}
 use mathlib.Core.List.{List}
-use Prim.Native.Nat.{ℕ, suc, _+_, _-_, _≤_, _<_}
+use Prim.Native.Nat.{ℕ, _+_, _-_, _≤_, _<_}
 use native.Mathlib.Omega.{arith}
-use lib.ListN.{length}
 use Rattle.syntax.specs.Limits.{lengthLimit}
 use Rattle.syntax.specs.Names.{Names}
-use Rattle.syntax.specs.Tree.{Rule, empty, seq}
-use Rattle.syntax.specs.Lengths.{held, leastLength}
+use Rattle.syntax.specs.Tree.{Rule, seq}
+use Rattle.syntax.specs.Lengths.{capped, leastLength}
 use Rattle.syntax.specs.Reading.{unresolved, idle}
 use Rattle.syntax.specs.WellFormed.{Proper, levels}
 use Rattle.linker.specs.Nodes.{beforeOf, Sequence, Part, Chain}
@@ -15,15 +14,15 @@ use Rattle.linker.proofs.Regions.{part-here, chain-below}
 use Rattle.linker.proofs.Chains.{for-some, for-none}
 use Rattle.lengths.specs.declared.Measured.{Measured}
 use Rattle.lengths.specs.Measures.{marked, sooner, Standing, IsNothing, Joined, Deep, Of, Finds}
-use Rattle.lengths.proofs.Numbers.{held-within, held-both, held-bounded, least-bounded, sooner-none, sooner-both, marked-first}
+use Rattle.lengths.proofs.Numbers.{capped-within, capped-both, capped-bounded, least-bounded, sooner-none, sooner-both, marked-first}
 
--- what is found is held
+-- what is found is capped
 pub found-bounded : (Stands : Standing) (a : List ℕ) (p depth : ℕ) (m : Measured) → Deep Stands a p depth → Finds Stands a p m → m .least ≤ lengthLimit
 unfolding Finds
 found-bounded Stands a p depth m d f = omega (arith, f (d .rule) (d .known) (d .groups) (d .tree) (d .lo) (d .top) (d .proper) (d .holds) .least, least-bounded (d .tree))
 
 pub joined-bounded : (x y m : Measured) → Joined x y m → m .least ≤ lengthLimit
-joined-bounded x y m w = omega (arith, w .least, held-bounded (x .least + y .least))
+joined-bounded x y m w = omega (arith, w .least, capped-bounded (x .least + y .least))
 
 add-none : (x : ℕ) → x + 0 ≡ x
 add-none x = omega arith
@@ -62,7 +61,7 @@ module _ (a : List ℕ) where
     mid : ℕ
     stands : Chain rule known a rest lo mid p
     proper : Proper groups rest
-    least : leastLength t ≡ held (leastLength rest + m .least)
+    least : leastLength t ≡ capped (leastLength rest + m .least)
     first : marked (unresolved 0 t) ≡ sooner (marked (unresolved 0 rest)) (m .reference)
     second : marked (idle t) ≡ sooner (marked (idle rest)) (m .idle)
 
@@ -78,7 +77,7 @@ module _ (a : List ℕ) where
         mid = top;
         stands = h;
         proper = q;
-        least = rw (n .least) (sym (ap held (add-none (leastLength t)) ∙ held-within (leastLength t) (least-bounded t)));
+        least = rw (n .least) (sym (ap capped (add-none (leastLength t)) ∙ capped-within (leastLength t) (least-bounded t)));
         first = rw (n .reference) (sym (sooner-none (marked (unresolved 0 t))));
         second = rw (n .idle) (sym (sooner-none (marked (idle t))));
       }
@@ -87,14 +86,14 @@ module _ (a : List ℕ) where
   unfolding Going Finds
   going-step last p before m found more l is f w g rule known groups t lo top q h =
       let k = g rule known groups t lo top q h in
-      for-some rule known a lo (k .mid) p (λ x. Proper groups x → leastLength t ≡ held (leastLength x + m .least) → marked (unresolved 0 t) ≡ sooner (marked (unresolved 0 x)) (m .reference) → marked (idle t) ≡ sooner (marked (idle x)) (m .idle) → Left rule known groups t lo before more)
+      for-some rule known a lo (k .mid) p (λ x. Proper groups x → leastLength t ≡ capped (leastLength x + m .least) → marked (unresolved 0 t) ≡ sooner (marked (unresolved 0 x)) (m .reference) → marked (idle t) ≡ sooner (marked (idle x)) (m .idle) → Left rule known groups t lo before more)
       (λ x y h q c₁ c₂ c₃. let o = f rule known groups y (h .mid) (k .mid) (q .1) (h .right) in
       record {
         rest = x;
         mid = h .mid;
         stands = rw (is ∙ h .link) (h .left);
         proper = q .0;
-        least = c₁ ∙ unfold leastLength in held-both (leastLength x) (leastLength y) (m .least) ∙ rw (w .least, o .least);
+        least = c₁ ∙ unfold leastLength in capped-both (leastLength x) (leastLength y) (m .least) ∙ rw (w .least, o .least);
         first = c₂ ∙ unfold unresolved in ap (λ (n : ℕ). sooner n (m .reference)) (marked-first (unresolved 0 x) (unresolved 0 y)) ∙ sooner-both (marked (unresolved 0 x)) (marked (unresolved 0 y)) (m .reference) ∙ rw (w .reference, o .reference);
         second = c₃ ∙ unfold idle in ap (λ (n : ℕ). sooner n (m .idle)) (marked-first (idle x) (idle y)) ∙ sooner-both (marked (idle x)) (marked (idle y)) (m .idle) ∙ rw (w .idle, o .idle);
       }) l (k .rest) (k .stands) (k .proper) (k .least) (k .first) (k .second)
@@ -103,5 +102,5 @@ module _ (a : List ℕ) where
   unfolding Going Finds
   going-end last p m e l g rule known groups t lo top q h =
       let k = g rule known groups t lo top q h in
-      for-none rule known a lo (k .mid) p (λ x. leastLength t ≡ held (leastLength x + m .least) → marked (unresolved 0 t) ≡ sooner (marked (unresolved 0 x)) (m .reference) → marked (idle t) ≡ sooner (marked (idle x)) (m .idle) → Of t m)
-      (λ c₁ c₂ c₃. unfold leastLength unresolved idle marked sooner in record { least = sym (c₁ ∙ ap held (none-add (m .least)) ∙ held-within (m .least) l); reference = sym c₂; idle = sym c₃ }) e (k .rest) (k .stands) (k .least) (k .first) (k .second)
+      for-none rule known a lo (k .mid) p (λ x. leastLength t ≡ capped (leastLength x + m .least) → marked (unresolved 0 t) ≡ sooner (marked (unresolved 0 x)) (m .reference) → marked (idle t) ≡ sooner (marked (idle x)) (m .idle) → Of t m)
+      (λ c₁ c₂ c₃. unfold leastLength unresolved idle marked sooner in record { least = sym (c₁ ∙ ap capped (none-add (m .least)) ∙ capped-within (m .least) l); reference = sym c₂; idle = sym c₃ }) e (k .rest) (k .stands) (k .least) (k .first) (k .second)

@@ -1,26 +1,24 @@
 -- The inside of a group, or of the whole rule: nothing, an alternation, which its last branch's kind tells, or else a sequence. And what the whole rule is
 -- judged by.
-use mathlib.Core.Path.{_≡_, refl, sym, ap, _∙_}
+use mathlib.Core.Path.{_≡_, refl, sym, _∙_}
 use mathlib.Core.Bool.{Bool, true, false}
 use mathlib.Core.List.{List}
 use mathlib.Core.Option.{Option, none, some}
-use Prim.Native.Nat.{ℕ, min, _+_, _-_, _≤_, _<_}
+use Prim.Native.Nat.{ℕ, _+_, _-_, _≤_, _<_}
 use native.Mathlib.Omega.{arith}
 use lib.ListN.{getD, length}
 use Rattle.syntax.specs.declared.Reason.the-variants.{BarredReference, IdleRepeat}
-use Rattle.syntax.specs.Names.{Names}
-use Rattle.syntax.specs.Tree.{Rule, empty, item, seq, alt, group, repeat, Branches}
-use Rattle.syntax.specs.Lengths.{leastLength, shortest}
+use Rattle.syntax.specs.Tree.{Rule, empty, item, seq, alt, group, repeat, held, look, Branches}
+use Rattle.syntax.specs.Lengths.{leastLength}
 use Rattle.syntax.specs.Reading.{unresolved, unresolvedIn, idle, idleIn, unless, profiled}
-use Rattle.syntax.specs.WellFormed.{Proper, levels, levelsIn}
+use Rattle.syntax.specs.WellFormed.{Proper, levels}
 use Rattle.linker.specs.Nodes.{Branch, Chain, Inside, Several}
-use Rattle.linker.proofs.Regions.{part-here, chain-order, several-node}
+use Rattle.linker.proofs.Regions.{part-here, chain-order}
 use Rattle.linker.proofs.Insides.{is-chain, for-alt}
 use Rattle.lengths.specs.declared.Measured.{Measured}
 use Rattle.lengths.specs.declared.Judgement.the-variants.{Passes, Barred}
-use Rattle.lengths.specs.Measures.{marked, sooner, IsNothing, Deep, DeepBranches, Of, Finds, FindsBranches, Judges}
+use Rattle.lengths.specs.Measures.{marked, IsNothing, Deep, DeepBranches, Of, Finds, FindsBranches, Judges}
 use Rattle.lengths.proofs.Numbers.{marked-first}
-use Rattle.lengths.proofs.Alternatives.{Rest}
 
 module _ (a : List ℕ) (p : ℕ) where
   -- Nothing ---------------------------------------------------------------------------------
@@ -33,6 +31,8 @@ module _ (a : List ℕ) (p : ℕ) where
   none-found m e n rule known groups (item place i) lo top q h = absurd h
   none-found m e n rule known groups (group k t) lo top q h = absurd h
   none-found m e n rule known groups (repeat place least most g t) lo top q h = absurd h
+  none-found m e n rule known groups (held place t) lo top q h = absurd h
+  none-found m e n rule known groups (look place negative t) lo top q h = absurd h
 
   -- the position lies within the area
   pub inside-fits : (depth : ℕ) → (p ≡ 0 → ⊥) → Deep Inside a p depth → p < length a
@@ -46,6 +46,8 @@ module _ (a : List ℕ) (p : ℕ) where
       go (item place i) h = absurd h
       go (group n t) h = absurd h
       go (repeat place least most g t) h = absurd h
+      go (held place t) h = absurd h
+      go (look place negative t) h = absurd h
 
   -- A sequence --------------------------------------------------------------------------------
 

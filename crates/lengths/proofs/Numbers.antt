@@ -1,32 +1,31 @@
--- The numbers that are found: lengths that are held, and places.
-use mathlib.Core.Path.{_≡_, refl, ap, _∙_}
-use mathlib.Core.Bool.{Bool, true, false, _||_, not}
+-- The numbers that are found: lengths that are capped, and places.
+use mathlib.Core.Path.{_≡_, refl}
+use mathlib.Core.Bool.{Bool, false}
 use mathlib.Core.Option.{Option, none, some}
-use Prim.Native.Nat.{ℕ, zero, suc, min, _+_, _*_, _≤_}
+use Prim.Native.Nat.{ℕ, zero, suc, _+_, _*_, _≤_}
 use native.Mathlib.Omega.{arith}
-use lib.Dec.{eqb, leb}
+use lib.Dec.{eqb}
 use borrow.Author.Tests.{ne-eqb, lt-leb}
 use Rattle.syntax.specs.Limits.{lengthLimit}
-use Rattle.syntax.specs.Read.{if_then_else_}
-use Rattle.syntax.specs.Tree.{Item, byteIn, assert, reference, Rule, empty, item, seq, alt, group, repeat, Branches, one, also}
-use Rattle.syntax.specs.Lengths.{held, itemLength, leastLength, shortest}
+use Rattle.syntax.specs.Tree.{Item, byteIn, assert, reference, Rule, empty, item, seq, alt, group, repeat, held, look}
+use Rattle.syntax.specs.Lengths.{capped, itemLength, leastLength, shortest}
 use Rattle.syntax.specs.Reading.{firstOf, dangling}
 use Rattle.lengths.specs.Measures.{marked, sooner}
 
 -- Lengths ---------------------------------------------------------------------------
 
-pub held-bounded : (n : ℕ) → held n ≤ lengthLimit
-unfolding held
-held-bounded n = omega arith
+pub capped-bounded : (n : ℕ) → capped n ≤ lengthLimit
+unfolding capped
+capped-bounded n = omega arith
 
-pub held-within : (n : ℕ) → n ≤ lengthLimit → held n ≡ n
-unfolding held
-held-within n h = omega arith
+pub capped-within : (n : ℕ) → n ≤ lengthLimit → capped n ≡ n
+unfolding capped
+capped-within n h = omega arith
 
--- held on the way or at the end
-pub held-both : (x y z : ℕ) → held (held (x + y) + z) ≡ held (x + held (y + z))
-unfolding held lengthLimit
-held-both x y z = omega arith
+-- capped on the way or at the end
+pub capped-both : (x y z : ℕ) → capped (capped (x + y) + z) ≡ capped (x + capped (y + z))
+unfolding capped lengthLimit
+capped-both x y z = omega arith
 
 item-bounded : (i : Item) → itemLength i ≤ lengthLimit
 unfolding itemLength lengthLimit
@@ -40,10 +39,12 @@ mutual
   pub least-bounded : (t : Rule) → leastLength t ≤ lengthLimit
   least-bounded empty = omega arith
   least-bounded (item place i) = item-bounded i
-  least-bounded (seq a b) = held-bounded (leastLength a + leastLength b)
+  least-bounded (seq a b) = capped-bounded (leastLength a + leastLength b)
   least-bounded (alt bs b) = let x = least-bounded b in omega arith
   least-bounded (group n a) = least-bounded a
-  least-bounded (repeat place n m g a) = held-bounded (n * leastLength a)
+  least-bounded (repeat place n m g a) = capped-bounded (n * leastLength a)
+  least-bounded (held place a) = least-bounded a
+  least-bounded (look place negative a) = omega arith
 
 -- Places ------------------------------------------------------------------------------
 

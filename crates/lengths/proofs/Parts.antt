@@ -1,30 +1,30 @@
 -- A part, by its kind: where what it holds stands, that this is no deeper, and what is found of the part from what was found of that.
-use mathlib.Core.Path.{_≡_, refl, sym, ap, _∙_}
+use mathlib.Core.Path.{_≡_, refl, sym, _∙_}
 use mathlib.Core.Bool.{Bool, true, false, _&&_}
 use mathlib.Core.List.{List}
 use mathlib.Core.Logic.{inl, inr}
 use mathlib.Core.Option.{Option, none, some}
-use Prim.Native.Nat.{ℕ, suc, _+_, _-_, _*_, _≤_, _<_}
+use Prim.Native.Nat.{ℕ, _+_, _-_, _≤_}
 use native.Mathlib.Omega.{arith}
-use lib.Dec.{eqb, ltb}
+use lib.Dec.{eqb}
 use lib.ListN.{getD, length}
 use borrow.Author.Tests.{ne-eqb}
 use Rattle.syntax.specs.declared.Greed.{Greed}
 use Rattle.syntax.specs.declared.Most.{Most}
 use Rattle.syntax.specs.declared.Most.the-variants.{AtMost, Unlimited}
-use Rattle.syntax.specs.Limits.{unset, boundLimit}
+use Rattle.syntax.specs.Limits.{unset, boundLimit, lengthLimit}
 use Rattle.syntax.specs.Read.{if_then_else_}
-use Rattle.syntax.specs.Names.{Names}
-use Rattle.syntax.specs.Tree.{Item, byteIn, assert, reference, Rule, empty, item, seq, alt, group, repeat}
+use Rattle.syntax.specs.Tree.{Item, byteIn, assert, reference, Rule, item, repeat, held, lineBreak}
 use Rattle.syntax.specs.Compiled.{mostWord}
-use Rattle.syntax.specs.Lengths.{held, itemLength, leastLength, unbounded}
-use Rattle.syntax.specs.Reading.{firstOf, dangling, unresolved, idle}
+use Rattle.syntax.specs.Lengths.{capped, itemLength, leastLength, shortest, unbounded}
+use Rattle.syntax.specs.Reading.{firstOf, dangling, unresolved, unresolvedIn, idle, idleIn}
 use Rattle.syntax.specs.WellFormed.{BoundsFit, Proper, levels}
-use Rattle.linker.specs.Nodes.{Plain, Part, Inside}
+use Rattle.linker.specs.Nodes.{Breaking, Part, Inside}
+use Rattle.linker.specs.Stores.{Bracketed}
 use Rattle.linker.proofs.Regions.{part-here}
-use Rattle.linker.proofs.Trees.{ItemKind, for-group, for-repeat, for-plain, for-item}
+use Rattle.linker.proofs.Trees.{ItemKind, for-bracketed, for-repeat, for-plain, for-item}
 use Rattle.lengths.specs.declared.Measured.{Measured}
-use Rattle.lengths.specs.Measures.{marked, sooner, idleAt, Repeated, Singled, Deep, Of, Finds}
+use Rattle.lengths.specs.Measures.{marked, sooner, idleAt, Repeated, Enclosed, Singled, Deep, Of, Finds}
 use Rattle.lengths.proofs.Numbers.{marked-first, dangles}
 
 -- whether a repeat has an upper bound is told by its maximum's number
@@ -46,24 +46,30 @@ module _ (a : List ℕ) (p : ℕ) where
       let n = part-here (d .rule) (d .known) a (d .tree) (d .lo) (d .top) p (d .holds) in
       (n .some, omega (arith, n .high, d .within), λ e. let w = n .longer e in omega (arith, d .within))
 
-  -- Groups that capture ---------------------------------------------------------------
+  -- Groups that capture, held parts and looking ahead ----------------------------------
 
-  pub record GroupAt (depth : ℕ) : Type 0 where
+  pub record BracketAt (depth : ℕ) : Type 0 where
     pub fits : p + 7 ≤ length a
     pub inner : Deep Inside a (getD a (p + 5) 0) depth
 
-  pub group-at : (depth : ℕ) → getD a p 0 ≡ 4 → Deep Part a p depth → GroupAt depth
+  pub bracket-at : (depth : ℕ) → Bracketed (getD a p 0) → Deep Part a p depth → BracketAt depth
   unfolding Part
-  group-at depth e d = for-group (d .rule) (d .known) a (d .lo) (d .top) p (λ t. Proper (d .groups) t → levels t ≤ depth → GroupAt depth)
-      (λ n t h q l. record {
-        fits = omega (arith, h .node .high, d .within);
-        inner = rw (h .is) (record { rule = d .rule; known = d .known; tree = t; lo = d .lo; top = p; holds = h .holds; within = omega (arith, h .node .high, d .within); groups = d .groups; proper = q .2; deep = l });
-      }) e (d .tree) (d .holds) (d .proper) (d .deep)
+  bracket-at depth e d = for-bracketed (d .rule) (d .known) a (d .lo) (d .top) p (λ t. Proper (d .groups) t → levels t ≤ depth → BracketAt depth) (λ n t h q l. within t (h .inside) (h .is) (h .holds) (q .2) l (omega (arith, h .node .high))) (λ place t h q l. within t (h .inside) (h .is) (h .holds) q l (omega (arith, h .node .high)))
+      (λ place t h q l. within t (h .inside) (h .is) (h .holds) q l (omega (arith, h .node .high))) (λ place t h q l. within t (h .inside) (h .is) (h .holds) q l (omega (arith, h .node .high))) e (d .tree) (d .holds) (d .proper) (d .deep)
+    where
+      within : (t : Rule) (inside : ℕ) → getD a (p + 5) 0 ≡ inside → Inside (d .rule) (d .known) a t (d .lo) p inside → Proper (d .groups) t → levels t ≤ depth → p + 7 ≤ d .top → BracketAt depth
+      within t inside is h q l u = record {
+        fits = omega (arith, d .within);
+        inner = rw is (record { rule = d .rule; known = d .known; tree = t; lo = d .lo; top = p; holds = h; within = omega (arith, u, d .within); groups = d .groups; proper = q; deep = l });
+      }
 
-  pub group-found : (m : Measured) → getD a p 0 ≡ 4 → Finds Inside a (getD a (p + 5) 0) m → Finds Part a p m
+  pub bracket-found : (within m : Measured) → Bracketed (getD a p 0) → Finds Inside a (getD a (p + 5) 0) within → Enclosed (getD a p 0) within m → Finds Part a p m
   unfolding Finds Part leastLength unresolved idle
-  group-found m e f rule known groups t lo top proper h = for-group rule known a lo top p (λ t. Proper groups t → Of t m)
-      (λ n t h q. let o = f rule known groups t lo p (q .2) (rw (h .is) (h .holds)) in record { least = o .least; reference = o .reference; idle = o .idle }) e t h proper
+  bracket-found within m e f w rule known groups t lo top proper h = for-bracketed rule known a lo top p (λ t. Proper groups t → Of t m)
+      (λ n t h q. let o = f rule known groups t lo p (q .2) (rw (h .is) (h .holds)) in record { least = w .least ∙ rw (h .node .is) (o .least); reference = w .reference ∙ o .reference; idle = w .idle ∙ o .idle })
+      (λ place t h q. let o = f rule known groups t lo p q (rw (h .is) (h .holds)) in record { least = w .least ∙ rw (h .node .is) (o .least); reference = w .reference ∙ o .reference; idle = w .idle ∙ o .idle })
+      (λ place t h q. let o = f rule known groups t lo p q (rw (h .is) (h .holds)) in record { least = w .least ∙ rw (h .node .is) refl; reference = w .reference ∙ o .reference; idle = w .idle ∙ o .idle })
+      (λ place t h q. let o = f rule known groups t lo p q (rw (h .is) (h .holds)) in record { least = w .least ∙ rw (h .node .is) refl; reference = w .reference ∙ o .reference; idle = w .idle ∙ o .idle }) e t h proper
 
   -- Groups that do not ------------------------------------------------------------------
 
@@ -113,9 +119,9 @@ module _ (a : List ℕ) (p : ℕ) where
 
   -- Items ---------------------------------------------------------------------------------
 
-  pub item-found : (m : Measured) → (getD a p 0 ≡ 4 → ⊥) → (getD a p 0 ≡ 7 → ⊥) → (getD a p 0 ≡ 10 → ⊥) → Singled a p (getD a p 0) m → Finds Part a p m
-  unfolding Finds Part leastLength itemLength unresolved dangling idle marked
-  item-found m e₄ e₇ e₁₀ w rule known groups t lo top proper h = for-item rule known a lo top p (λ t. Of t m) go e₄ e₇ e₁₀ t h
+  pub item-found : (m : Measured) → (Bracketed (getD a p 0) → ⊥) → (getD a p 0 ≡ 7 → ⊥) → (getD a p 0 ≡ 10 → ⊥) → Singled a p (getD a p 0) m → Finds Part a p m
+  unfolding Finds Part lineBreak leastLength itemLength shortest capped lengthLimit unresolved unresolvedIn firstOf dangling idle idleIn marked
+  item-found m b e₇ e₁₀ w rule known groups t lo top proper h = for-item rule known a lo top p (λ t. Of t m) go broken b e₇ e₁₀ t h
     where
       go : (place : ℕ) (i : Item) → ItemKind i (getD a p 0) → Part rule known a (item place i) lo top p → Of (item place i) m
       go place (byteIn folded c) k h = record { least = w .least ∙ rw k; reference = w .reference ∙ rw k; idle = w .idle }
@@ -124,3 +130,7 @@ module _ (a : List ℕ) (p : ℕ) where
       go place (reference folded n) (inl k) (inr h) = absurd (omega (arith, k, h .node .is))
       go place (reference folded n) (inr k) (inl h) = absurd (omega (arith, k, h .node .is))
       go place (reference folded n) (inr k) (inr h) = record { least = w .least ∙ rw k; reference = w .reference ∙ rw (k, h .origin, dangles place folded n); idle = w .idle }
+
+      -- `\R` takes one byte or two
+      broken : (place : ℕ) (s : Rule) → held place s ≡ lineBreak place → Breaking a place lo top p → Of (held place s) m
+      broken place s e h = rw e (record { least = w .least ∙ rw (h .node .is); reference = w .reference ∙ rw (h .node .is); idle = w .idle })

@@ -1,17 +1,17 @@
 -- What measuring promises: whatever tree stands at a position, the least length that was found is the tree's, and the two places are those of its first
 -- reference and its first idle repeat.
 use mathlib.Core.Path.{_≡_}
-use mathlib.Core.Bool.{Bool, _&&_}
+use mathlib.Core.Bool.{Bool, _&&_, _||_}
 use mathlib.Core.List.{List}
 use mathlib.Core.Option.{Option, none, some}
-use Prim.Native.Nat.{ℕ, min, _+_, _*_, _≤_, _<_}
+use Prim.Native.Nat.{ℕ, min, _+_, _*_, _≤_}
 use lib.Dec.{eqb, ltb}
 use lib.ListN.{getD, length}
-use Rattle.syntax.specs.Limits.{lengthLimit, unset}
+use Rattle.syntax.specs.Limits.{unset}
 use Rattle.syntax.specs.Read.{if_then_else_, Read, refused}
 use Rattle.syntax.specs.Names.{Names}
 use Rattle.syntax.specs.Tree.{Rule, Branches}
-use Rattle.syntax.specs.Lengths.{held, leastLength, shortest}
+use Rattle.syntax.specs.Lengths.{capped, leastLength, shortest}
 use Rattle.syntax.specs.Reading.{unresolved, unresolvedIn, idle, idleIn, profiled}
 use Rattle.syntax.specs.WellFormed.{Proper, Propers, levels, levelsIn}
 use Rattle.linker.specs.Nodes.{Region, Inside, Several}
@@ -39,7 +39,7 @@ pub record IsNothing (m : Measured) : Type 0 where
 
 -- one part and what follows it
 pub record Joined (a b m : Measured) : Type 0 where
-  pub least : m .least ≡ held (a .least + b .least)
+  pub least : m .least ≡ capped (a .least + b .least)
   pub reference : m .reference ≡ sooner (a .reference) (b .reference)
   pub idle : m .idle ≡ sooner (a .idle) (b .idle)
 
@@ -54,14 +54,27 @@ unfoldable pub idleAt : List ℕ → (p body : ℕ) → ℕ
 idleAt a p body = if eqb (getD a (p + 3) 0) unset && eqb body 0 then getD a (p + 5) 0 + 1 else 0
 
 pub record Repeated (a : List ℕ) (p : ℕ) (body m : Measured) : Type 0 where
-  pub least : m .least ≡ held (getD a (p + 2) 0 * body .least)
+  pub least : m .least ≡ capped (getD a (p + 2) 0 * body .least)
   pub reference : m .reference ≡ body .reference
   pub idle : m .idle ≡ sooner (body .idle) (idleAt a p (body .least))
 
--- an item, by its kind
+-- what stands between an end and an opening, by its kind and by what was found of its inside: looking ahead takes no bytes
+pub record Enclosed (kind : ℕ) (within m : Measured) : Type 0 where
+  pub least : m .least ≡ (if ltb kind 15 then within .least else 0)
+  pub reference : m .reference ≡ within .reference
+  pub idle : m .idle ≡ within .idle
+
+-- the kinds of items that take bytes, `\R` among them, and of references
+abbrev pub takesBytes : ℕ → Bool
+takesBytes kind = eqb kind 0 || eqb kind 12
+
+abbrev pub refersBack : ℕ → Bool
+refersBack kind = eqb kind 11 || eqb kind 2
+
+-- an item or `\R`, by its kind
 pub record Singled (a : List ℕ) (p kind : ℕ) (m : Measured) : Type 0 where
-  pub least : m .least ≡ (if eqb kind 0 then 1 else 0)
-  pub reference : m .reference ≡ (if ltb kind 11 then 0 else getD a (p + 2) 0 + 1)
+  pub least : m .least ≡ (if takesBytes kind then 1 else 0)
+  pub reference : m .reference ≡ (if takesBytes kind then 0 else if refersBack kind then getD a (p + 2) 0 + 1 else 0)
   pub idle : m .idle ≡ 0
 
 -- What is asked ------------------------------------------------------------------------

@@ -2,6 +2,7 @@
 // which the levels that are left fall at each part. It goes over the nodes as the first pass left them in the rule area, and looks at each once. It has
 // to come before linking, since the linked rule does not tell where an alternation ends, and a repeat's place there gives way to its register.
 use linker::before_of;
+use linker::is_bracketed;
 use linker::word;
 use syntax::Reason;
 use syntax::Refusal;
@@ -11,12 +12,12 @@ ghost use Prim.Native.Nat.{min, _+_, _≤_};
 ghost use lib.ListN.{length};
 ghost use Rattle.syntax.specs.Limits.{lengthLimit, levelLimit};
 ghost use Rattle.linker.specs.Nodes.{Part, Chain, Inside};
-ghost use Rattle.lengths.specs.Measures.{sooner, IsNothing, Joined, Shorter, idleAt, Repeated, Singled, Deep, DeepBranches, Finds, FindsBranches, Judges};
+ghost use Rattle.lengths.specs.Measures.{sooner, IsNothing, Joined, Shorter, idleAt, Repeated, Enclosed, takesBytes, refersBack, Singled, Deep, DeepBranches, Finds, FindsBranches, Judges};
 
 // The kinds of nodes, as the linker's specs/Nodes.antt lists them.
 const BYTE: usize = 0;
 
-const GROUP: usize = 4;
+const NAMED: usize = 2;
 
 const LAST: usize = 6;
 
@@ -26,6 +27,10 @@ const PLAIN: usize = 10;
 
 const REFERENCE: usize = 11;
 
+const BREAK: usize = 12;
+
+const AHEAD: usize = 15;
+
 // The maximum of a repeat that has none.
 const UNLIMITED: usize = 4294967295;
 
@@ -33,7 +38,7 @@ const UNLIMITED: usize = 4294967295;
 const LENGTH_LIMIT: usize = 65536;
 
 // How many levels of sequences and repeats a rule can have, one inside another.
-const LEVEL_LIMIT: u32 = 50;
+const LEVEL_LIMIT: u32 = 150;
 
 // Whether a rule keeps to the profile, or why it does not.
 pub enum Judgement {
@@ -144,27 +149,63 @@ fn repeated(area: &[u32], p: usize, body: Measured) -> Measured
     }
 }
 
-// The item at p, of a kind.
+// A group that captures, a held part or looking ahead, of whose inside this was found. Looking ahead takes no bytes.
+fn enclosed(kind: usize, within: Measured) -> Measured
+    ensures { λ m. ⌜ Enclosed kind within m ⌝ }
+{
+    if kind < AHEAD {
+        return within;
+    }
+    let reference = within.reference;
+    let idle = within.idle;
+    Measured {
+        least: 0,
+        reference,
+        idle,
+    }
+}
+
+// Whether an item of a kind takes a byte, or more.
+fn takes(kind: usize) -> bool
+    ensures { λ r. ⌜ r ≡ takesBytes kind ⌝ }
+{
+    if kind == BYTE {
+        return true;
+    }
+    kind == BREAK
+}
+
+// Whether an item of a kind is a reference, by number or by name.
+fn refers(kind: usize) -> bool
+    ensures { λ r. ⌜ r ≡ refersBack kind ⌝ }
+{
+    if kind == REFERENCE {
+        return true;
+    }
+    kind == NAMED
+}
+
+// The item at p, of a kind, or `\R`.
 fn single(area: &[u32], p: usize, kind: usize) -> Measured
     requires { ⌜ p + 3 ≤ length (now area) ⌝ }
     ensures { λ m. ⌜ Singled (now (area .entry)) p kind m ⌝ }
 {
-    if kind == BYTE {
+    if takes(kind) {
         return Measured {
             least: 1,
             reference: 0,
             idle: 0,
         };
     }
-    if kind < REFERENCE {
-        return nothing();
+    if refers(kind) {
+        let place = word(area, p + 2);
+        return Measured {
+            least: 0,
+            reference: place + 1,
+            idle: 0,
+        };
     }
-    let place = word(area, p + 2);
-    Measured {
-        least: 0,
-        reference: place + 1,
-        idle: 0,
-    }
+    nothing()
 }
 
 // The part at p, in which so many levels may stand.
@@ -173,8 +214,9 @@ fn part(area: &[u32], p: usize, depth: u32) -> Measured
     ensures { λ m. ⌜ Finds Part (now (area .entry)) p m ⌝ }
 {
     let kind = word(area, p);
-    if kind == GROUP {
-        return inside(area, word(area, p + 5), depth);
+    if is_bracketed(kind) {
+        let within = inside(area, word(area, p + 5), depth);
+        return enclosed(kind, within);
     }
     if kind == PLAIN {
         return inside(area, word(area, p + 2), depth);

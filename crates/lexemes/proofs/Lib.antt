@@ -4,5 +4,6 @@ pub mod Capped
 pub mod Digits
 pub mod Runs
 pub mod BlankCases
+pub mod BreakCases
 pub mod Repeats
 pub mod CalledCases

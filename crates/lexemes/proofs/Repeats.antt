@@ -24,13 +24,17 @@ use Rattle.lexemes.proofs.Digits.{counted-none, counted-some}
 -- By the byte behind a repeat, and by its bounds ----------------------------------
 
 module _ (s : List ℕ) (least : ℕ) (most : Most) (at b : ℕ) (p : b ≡ byte s at) where
-  pub greed-lazy : b ≡ 63 → Times least most Lazy (at + 1) ≡ withGreed s least most at
+  pub greed-lazy : b ≡ 63 → Times least most Lazy false (at + 1) ≡ withGreed s least most at
   unfolding withGreed
   greed-lazy e = rw (← p, e)
 
-  pub greed-greedy : (b ≡ 63 → ⊥) → Times least most Greedy at ≡ withGreed s least most at
+  pub greed-possessive : b ≡ 43 → Times least most Greedy true (at + 1) ≡ withGreed s least most at
   unfolding withGreed
-  greed-greedy n = rw (← p) (simp (ne-eqb b 63 n))
+  greed-possessive e = rw (← p, e)
+
+  pub greed-greedy : (b ≡ 63 → ⊥) → (b ≡ 43 → ⊥) → Times least most Greedy false at ≡ withGreed s least most at
+  unfolding withGreed
+  greed-greedy n m = rw (← p) (simp (ne-eqb b 63 n, ne-eqb b 43 m))
 
 module _ (s : List ℕ) (n at : ℕ) where
   pub atLeast-over : 255 < n → Unfit ≡ atLeast s n at

@@ -1,9 +1,10 @@
-// Reads what a rule has below its items: bytes, numbers, quantifiers, names of groups, and the blanks that the flag `x` has skipped; and the flag of the
-// depot profile.
+// Reads what a rule has below its items: bytes, numbers, quantifiers, names of groups, `\R`, and the blanks that the flag `x` has skipped; and the flag
+// of the depot profile.
 use syntax::Refusal;
 
 mod ascii;
 mod blanks;
+mod breaks;
 mod called;
 mod numbers;
 mod profile;
@@ -18,6 +19,7 @@ pub use ascii::LESS;
 pub use ascii::MINUS;
 pub use ascii::OPENING_BRACE;
 pub use blanks::behind_blanks;
+pub use breaks::breaks_line;
 pub use called::called_at;
 pub use called::calls_by_name;
 pub use called::name_at;

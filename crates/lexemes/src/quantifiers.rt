@@ -9,16 +9,22 @@ ghost use Prim.Native.Nat.{_≤_};
 ghost use lib.ListN.{length};
 ghost use Rattle.syntax.specs.Quantifiers.{withGreed, atLeast, fromTo, upper, braces, quantifier};
 
-// A repeat, which a `?` behind it makes lazy.
+// A repeat, which a `?` behind it makes lazy, and a `+` possessive.
 fn with_greed(rule: &[u8], least: u32, most: Most, at: usize) -> Quantifier
     ensures { λ r. ⌜ r ≡ withGreed (now (rule .entry)) least most at ⌝ }
 {
+    let b = peek(rule, at);
     // `?`
-    if peek(rule, at) == 63 {
+    if b == 63 {
         let next = at + 1;
-        return Quantifier::Times(least, most, Greed::Lazy, next);
+        return Quantifier::Times(least, most, Greed::Lazy, false, next);
     }
-    Quantifier::Times(least, most, Greed::Greedy, at)
+    // `+`
+    if b == 43 {
+        let next = at + 1;
+        return Quantifier::Times(least, most, Greed::Greedy, true, next);
+    }
+    Quantifier::Times(least, most, Greed::Greedy, false, at)
 }
 
 // A repeat with no upper bound, in braces.

@@ -6,7 +6,7 @@ use native.Mathlib.Omega.{arith}
 use lib.ListN.{length}
 use Rattle.syntax.specs.Limits.{ruleAreaNeed}
 use Rattle.syntax.specs.Names.{Names}
-use Rattle.syntax.specs.Tree.{Rule, empty, item, seq, alt, group, repeat}
+use Rattle.syntax.specs.Tree.{Rule, empty, item, seq, alt, group, repeat, held, look}
 use Rattle.linker.specs.Nodes.{beforeOf, Sequence, Part, Chain}
 use Rattle.linker.specs.Linking.{Fits, Stands, Made, Links}
 use Rattle.linker.proofs.Regions.{part-here, chain-order, chain-below, chain-same}
@@ -43,6 +43,8 @@ module _ (rule : List ℕ) (known : Names) where
   for-some a lo top p Q f l (alt bs t) h = absurd h
   for-some a lo top p Q f l (group n t) h = absurd h
   for-some a lo top p Q f l (repeat place least most g t) h = absurd h
+  for-some a lo top p Q f l (held place t) h = absurd h
+  for-some a lo top p Q f l (look place negative t) h = absurd h
 
   pub for-none : (a : List ℕ) (lo top p : ℕ) (Q : Rule → Type 0) → Q empty → p ≡ 0 → (t : Rule) → Chain rule known a t lo top p → Q t
   unfolding Chain
@@ -52,6 +54,8 @@ module _ (rule : List ℕ) (known : Names) where
   for-none a lo top p Q q e (alt bs t) h = absurd h
   for-none a lo top p Q q e (group n t) h = absurd h
   for-none a lo top p Q q e (repeat place least most g t) h = absurd h
+  for-none a lo top p Q q e (held place t) h = absurd h
+  for-none a lo top p Q q e (look place negative t) h = absurd h
 
   pub going-start : (groups r : ℕ) (a : List ℕ) (first next sofar : ℕ) → Going groups r a a first next sofar first next sofar
   unfolding Going

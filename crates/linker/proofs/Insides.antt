@@ -8,7 +8,7 @@ use lib.ListN.{getD, length}
 use Rattle.syntax.specs.Limits.{spansLength}
 use Rattle.syntax.specs.Reading.{unresolved}
 use Rattle.syntax.specs.Names.{Names}
-use Rattle.syntax.specs.Tree.{Rule, empty, item, seq, alt, group, repeat, Branches, also}
+use Rattle.syntax.specs.Tree.{Rule, empty, item, seq, alt, group, repeat, held, look, Branches, also}
 use Rattle.linker.specs.declared.Linkage.the-variants.{Entry, NoGroup}
 use Rattle.linker.specs.Table.{Spelled, namesIn, NamesFit, names-are, names-fit}
 use Rattle.linker.specs.Nodes.{Branch, Chain, Inside, Several}
@@ -29,6 +29,8 @@ module _ (rule : List ℕ) (known : Names) where
   none-links groups r a p next sofar e (item place i) lo top h f = absurd h
   none-links groups r a p next sofar e (group n t) lo top h f = absurd h
   none-links groups r a p next sofar e (repeat place least most g t) lo top h f = absurd h
+  none-links groups r a p next sofar e (held place t) lo top h f = absurd h
+  none-links groups r a p next sofar e (look place negative t) lo top h f = absurd h
 
   -- a sequence: what is no last branch
   pub is-chain : (a : List ℕ) (p : ℕ) → (getD a p 0 ≡ 6 → ⊥) → (t : Rule) (lo top : ℕ) → Inside rule known a t lo top p → Chain rule known a t lo top p
@@ -39,6 +41,8 @@ module _ (rule : List ℕ) (known : Names) where
   is-chain a p e (item place i) lo top h = absurd h
   is-chain a p e (group n t) lo top h = absurd h
   is-chain a p e (repeat place least most g t) lo top h = absurd h
+  is-chain a p e (held place t) lo top h = absurd h
+  is-chain a p e (look place negative t) lo top h = absurd h
 
   pub chain-stands : (groups r : ℕ) (a : List ℕ) (p : ℕ) → (getD a p 0 ≡ 6 → ⊥) → Stands (Inside rule known a) groups r a p → Stands (Chain rule known a) groups r a p
   chain-stands groups r a p e s = record { tree = s .tree; lo = s .lo; top = s .top; holds = is-chain a p e (s .tree) (s .lo) (s .top) (s .holds); fits = s .fits; within = s .within; small = s .small }
@@ -59,6 +63,8 @@ module _ (rule : List ℕ) (known : Names) where
       go (item place i) h = absurd h
       go (group n t) h = absurd h
       go (repeat place least most g t) h = absurd h
+      go (held place t) h = absurd h
+      go (look place negative t) h = absurd h
 
   -- An alternation ----------------------------------------------------------------------
 
@@ -70,6 +76,8 @@ module _ (rule : List ℕ) (known : Names) where
   for-alt a lo top p Q f l e (item place i) h = absurd h
   for-alt a lo top p Q f l e (group n t) h = absurd h
   for-alt a lo top p Q f l e (repeat place least most g t) h = absurd h
+  for-alt a lo top p Q f l e (held place t) h = absurd h
+  for-alt a lo top p Q f l e (look place negative t) h = absurd h
 
   fits-branches : (groups r : ℕ) (bs : Branches) (t : Rule) → Fits groups r (alt bs t) → FitAll groups r (also bs t)
   fits-branches groups r bs t f = record { few = f .few; proper = f .proper; room = f .room }

@@ -4,17 +4,18 @@ use mathlib.Core.Path.{_≡_, refl, sym, ap, _∙_}
 use mathlib.Core.Bool.{Bool, false}
 use mathlib.Core.List.{List}
 use mathlib.Core.Logic.{inl, inr}
+use mathlib.Core.Option.{none}
 use Prim.Native.Nat.{ℕ, _+_, _≤_}
 use native.Mathlib.Omega.{arith}
 use lib.ListN.{getD, length}
 use Rattle.syntax.specs.Limits.{slot, groupLimit, ruleAreaNeed}
-use Rattle.syntax.specs.Reading.{dangling, unresolved}
+use Rattle.syntax.specs.Reading.{firstOf, dangling, unresolved}
 use Rattle.syntax.specs.Names.{Names}
-use Rattle.syntax.specs.Tree.{Item, byteIn, assert, reference, item}
+use Rattle.syntax.specs.Tree.{Item, byteIn, assert, reference, Rule, item, held, lineBreak}
 use Rattle.syntax.specs.Compiled.{Compiled}
-use Rattle.linker.specs.Nodes.{ByNumber, ByName, Part}
+use Rattle.linker.specs.Nodes.{Breaking, ByNumber, ByName, Part}
 use Rattle.linker.specs.Linking.{Fits, Stands, noted, Made, Links}
-use Rattle.linker.specs.Stores.{Put, Referred, NameLinked}
+use Rattle.linker.specs.Stores.{Bracketed, Put, Referred, NameLinked}
 use Rattle.linker.specs.Laws.{slot-fits}
 use Rattle.linker.proofs.Regions.{part-here, same-class}
 use Rattle.linker.proofs.Made.{outside-wider, outside-then}
@@ -38,7 +39,7 @@ module _ (rule : List ℕ) (known : Names) where
   reference-fits groups r a p s e =
       (for-reference rule known a (s .lo) (s .top) p (λ t. p + 4 ≤ length a) (λ place folded n h. omega (arith, h .node .high, s .within)) e (s .tree) (s .holds), s .fits .few)
 
-  pub named-fits : (groups r : ℕ) (a : List ℕ) (p : ℕ) → Stands (Part rule known a) groups r a p → getD a p 0 ≡ 12 → (p + 6 ≤ length a) × (groups ≤ groupLimit) × (getD a (p + 3) 0 + getD a (p + 5) 0 ≤ length rule)
+  pub named-fits : (groups r : ℕ) (a : List ℕ) (p : ℕ) → Stands (Part rule known a) groups r a p → getD a p 0 ≡ 2 → (p + 6 ≤ length a) × (groups ≤ groupLimit) × (getD a (p + 3) 0 + getD a (p + 5) 0 ≤ length rule)
   named-fits groups r a p s e =
       let k : (p + 6 ≤ length a) × (getD a (p + 3) 0 + getD a (p + 5) 0 ≤ length rule) = for-named rule known a (s .lo) (s .top) p (λ t. (p + 6 ≤ length a) × (getD a (p + 3) 0 + getD a (p + 5) 0 ≤ length rule)) (λ place folded n h. (omega (arith, h .node .high, s .within), rw (h .begins, h .long) (h .within))) e (s .tree) (s .holds) in
       (k .0, s .fits .few, k .1)
@@ -68,7 +69,7 @@ module _ (rule : List ℕ) (known : Names) where
             }
 
   -- a reference by name, which first became one by number
-  pub named-links : (groups r : ℕ) (a b : List ℕ) (p next sofar pc found : ℕ) → getD a p 0 ≡ 12 → NameLinked rule known groups a b p next sofar pc found → Links (Part rule known a) groups r a b p next sofar pc found
+  pub named-links : (groups r : ℕ) (a b : List ℕ) (p next sofar pc found : ℕ) → getD a p 0 ≡ 2 → NameLinked rule known groups a b p next sofar pc found → Links (Part rule known a) groups r a b p next sofar pc found
   unfolding Links Part
   named-links groups r a b p next sofar pc found e w t lo top h f = rw (w .entered) (for-named rule known a lo top p (λ t. Fits groups r t → Made groups r t lo top a b next sofar p found) go e t h f)
     where
@@ -95,9 +96,9 @@ module _ (rule : List ℕ) (known : Names) where
           }
 
   module _ (groups r : ℕ) (a b : List ℕ) (p next sofar : ℕ) where
-    pub item-links : (getD a p 0 ≡ 4 → ⊥) → (getD a p 0 ≡ 7 → ⊥) → (getD a p 0 ≡ 10 → ⊥) → (getD a p 0 ≡ 11 → ⊥) → (getD a p 0 ≡ 12 → ⊥) → Put a b (p + 1) next → Links (Part rule known a) groups r a b p next sofar p sofar
-    unfolding Links Part unresolved dangling Compiled noted
-    item-links e₄ e₇ e₁₀ e₁₁ e₁₂ w t lo top h f = for-item rule known a lo top p (λ t. Made groups r t lo top a b next sofar p sofar) go e₄ e₇ e₁₀ t h
+    pub item-links : (Bracketed (getD a p 0) → ⊥) → (getD a p 0 ≡ 7 → ⊥) → (getD a p 0 ≡ 10 → ⊥) → (getD a p 0 ≡ 11 → ⊥) → (getD a p 0 ≡ 2 → ⊥) → Put a b (p + 1) next → Links (Part rule known a) groups r a b p next sofar p sofar
+    unfolding Links Part unresolved dangling Compiled noted lineBreak firstOf
+    item-links b′ e₇ e₁₀ e₁₁ e₂ w t lo top h f = for-item rule known a lo top p (λ t. Made groups r t lo top a b next sofar p sofar) go break b′ e₇ e₁₀ t h
       where
         go : (place : ℕ) (i : Item) → ItemKind i (getD a p 0) → Part rule known a (item place i) lo top p → Made groups r (item place i) lo top a b next sofar p sofar
         go place (byteIn folded c) l k =
@@ -125,4 +126,24 @@ module _ (rule : List ℕ) (known : Names) where
               first = refl;
             }
         go place (reference folded n) (inl l) k = absurd (e₁₁ l)
-        go place (reference folded n) (inr l) k = absurd (e₁₂ l)
+        go place (reference folded n) (inr l) k = absurd (e₂ l)
+
+        -- `\R` refers to no group
+        none-in : (place : ℕ) → unresolved groups (lineBreak place) ≡ none
+        none-in place = refl
+
+        break : (place : ℕ) (s : Rule) → held place s ≡ lineBreak place → Breaking a place lo top p → Made groups r (held place s) lo top a b next sofar p sofar
+        break place s e k =
+            record {
+              outside = outside-wider (p + 1) (p + 1 + 1) lo top a b (omega (arith, k .node .low)) (omega (arith, k .node .high)) (w .rest);
+              near = omega (arith, k .node .high);
+              stands = λ u. inl (
+                e,
+                record {
+                  node = record { low = k .node .low; high = k .node .high; is = w .rest .below p (omega arith) ∙ k .node .is };
+                  goes = w .is;
+                  origin = w .rest .above (p + 2) (omega arith) ∙ k .origin;
+                },
+              );
+              first = sym (ap (λ o. noted o sofar) (ap (unresolved groups) e ∙ none-in place));
+            }

@@ -12,8 +12,8 @@ use lib.Seq.{getD-drop}
 use Rattle.charset.specs.Class.{has}
 use Rattle.syntax.specs.Read.{if_then_else_}
 use Rattle.syntax.specs.Names.{Names}
-use Rattle.syntax.specs.Tree.{Item, byteIn, assert, reference, Rule, empty, item, seq, alt, group, repeat, Branches, one, also}
-use Rattle.linker.specs.Nodes.{beforeOf, Last, Region, Nothing, Sequence, Branch, Plain, ItemPart, Part, Chain, Inside, Several}
+use Rattle.syntax.specs.Tree.{Item, byteIn, assert, reference, Rule, empty, item, seq, alt, group, repeat, held, look, Branches, one, also}
+use Rattle.linker.specs.Nodes.{beforeOf, Last, Region, Nothing, Sequence, Branch, Plain, Marked, ItemPart, Part, Chain, Inside, Several}
 
 -- equal numbers in a region
 abbrev pub Same : ℕ → ℕ → List ℕ → List ℕ → Type 0
@@ -42,13 +42,17 @@ module _ (rule : List ℕ) (known : Names) where
   item-here a (byteIn folded c) lo top p place h = here a lo top p 11 0 (omega arith) (λ e. omega arith) (h .node)
   item-here a (assert k) lo top p place h = here a lo top p 4 1 (omega arith) (λ e. omega arith) (h .node)
   item-here a (reference folded n) lo top p place (inl h) = here a lo top p 5 11 (omega arith) (λ e. omega arith) (h .node)
-  item-here a (reference folded n) lo top p place (inr h) = here a lo top p 6 12 (omega arith) (λ e. omega arith) (h .node)
+  item-here a (reference folded n) lo top p place (inr h) = here a lo top p 6 2 (omega arith) (λ e. omega arith) (h .node)
 
   pub part-here : (a : List ℕ) (t : Rule) (lo top p : ℕ) → Part rule known a t lo top p → Here a lo top p
   unfolding Part
   part-here a (item place i) lo top p h = item-here a i lo top p place h
   part-here a (group n t) lo top p h = here a lo top p 7 4 (omega arith) (λ e. omega arith) (h .node)
   part-here a (repeat place least most g t) lo top p h = here a lo top p 8 7 (omega arith) (λ e. omega arith) (h .node)
+  part-here a (held place t) lo top p (inl h) = here a lo top p 3 12 (omega arith) (λ e. omega arith) (h .1 .node)
+  part-here a (held place t) lo top p (inr h) = here a lo top p 7 14 (omega arith) (λ e. omega arith) (h .node)
+  part-here a (look place false t) lo top p h = here a lo top p 7 15 (omega arith) (λ e. omega arith) (h .node)
+  part-here a (look place true t) lo top p h = here a lo top p 8 17 (omega arith) (λ e. omega arith) (h .node)
   part-here a empty lo top p h = here a lo top p 3 10 (omega arith) (λ e. omega arith) (h .node)
   part-here a (seq x y) lo top p h = here a lo top p 3 10 (omega arith) (λ e. omega arith) (h .node)
   part-here a (alt bs t) lo top p h = here a lo top p 3 10 (omega arith) (λ e. omega arith) (h .node)
@@ -64,6 +68,8 @@ module _ (rule : List ℕ) (known : Names) where
   chain-order a (alt bs t) lo top p h = absurd h
   chain-order a (group n t) lo top p h = absurd h
   chain-order a (repeat place least most g t) lo top p h = absurd h
+  chain-order a (held place t) lo top p h = absurd h
+  chain-order a (look place negative t) lo top p h = absurd h
 
   -- the position of a chain or an inside, which may be none, lies below every bound of its region
   pub chain-below : (a : List ℕ) (t : Rule) (lo top p n : ℕ) → top ≤ n → 1 ≤ n → Chain rule known a t lo top p → p < n
@@ -74,6 +80,8 @@ module _ (rule : List ℕ) (known : Names) where
   chain-below a (alt bs t) lo top p n l u h = absurd h
   chain-below a (group k t) lo top p n l u h = absurd h
   chain-below a (repeat place least most g t) lo top p n l u h = absurd h
+  chain-below a (held place t) lo top p n l u h = absurd h
+  chain-below a (look place negative t) lo top p n l u h = absurd h
 
   pub inside-below : (a : List ℕ) (t : Rule) (lo top p n : ℕ) → top ≤ n → 1 ≤ n → Inside rule known a t lo top p → p < n
   unfolding Part
@@ -83,6 +91,8 @@ module _ (rule : List ℕ) (known : Names) where
   inside-below a (item place i) lo top p n l u h = absurd h
   inside-below a (group k t) lo top p n l u h = absurd h
   inside-below a (repeat place least most g t) lo top p n l u h = absurd h
+  inside-below a (held place t) lo top p n l u h = absurd h
+  inside-below a (look place negative t) lo top p n l u h = absurd h
 
   pub several-node : (a : List ℕ) (bs : Branches) (lo top p : ℕ) → Several rule known a bs lo top p → Last a lo top p 3 5
   unfolding Part
@@ -130,13 +140,13 @@ module _ (rule : List ℕ) (known : Names) (a b : List ℕ) where
       })
   item-same (reference folded n) lo top p place s (inr h) =
       inr (record {
-        node = last-same a b lo top p 6 12 (omega arith) s (h .node);
-        origin = word a b lo top p 6 12 2 (omega arith) s (h .node) (h .origin);
+        node = last-same a b lo top p 6 2 (omega arith) s (h .node);
+        origin = word a b lo top p 6 2 2 (omega arith) s (h .node) (h .origin);
         from = h .from;
-        begins = word a b lo top p 6 12 3 (omega arith) s (h .node) (h .begins);
-        folds = word a b lo top p 6 12 4 (omega arith) s (h .node) (h .folds);
+        begins = word a b lo top p 6 2 3 (omega arith) s (h .node) (h .begins);
+        folds = word a b lo top p 6 2 4 (omega arith) s (h .node) (h .folds);
         len = h .len;
-        long = word a b lo top p 6 12 5 (omega arith) s (h .node) (h .long);
+        long = word a b lo top p 6 2 5 (omega arith) s (h .node) (h .long);
         within = h .within;
         number = h .number;
       })
@@ -185,6 +195,16 @@ module _ (rule : List ℕ) (known : Names) (a b : List ℕ) where
         holds = f lo p (h .inside) (λ i i1 i2. s i i1 (omega (arith, h .node .high))) (h .holds);
       }
 
+  marked-same : (kind : ℕ) (X Y : Region) → Carries X Y → Carries (Marked a kind X) (Marked b kind Y)
+  marked-same kind X Y f lo top p s h =
+      record {
+        node = last-same a b lo top p 7 kind (omega arith) s (h .node);
+        opening = word a b lo top p 7 kind 4 (omega arith) s (h .node) (h .opening);
+        inside = h .inside;
+        is = word a b lo top p 7 kind 5 (omega arith) s (h .node) (h .is);
+        holds = f lo p (h .inside) (λ i i1 i2. s i i1 (omega (arith, h .node .high))) (h .holds);
+      }
+
   nothing-same : Carries Nothing Nothing
   nothing-same lo top p s h = h
 
@@ -217,6 +237,18 @@ module _ (rule : List ℕ) (known : Names) (a b : List ℕ) where
           is = word a b lo top p 8 7 6 (omega arith) s (h .node) (h .is);
           holds = part-same t lo p (h .body) (λ i i1 i2. s i i1 (omega (arith, h .node .high))) (h .holds);
         }
+    part-same (held place t) lo top p s (inl h) = inl (h .0, record { node = last-same a b lo top p 3 12 (omega arith) s (h .1 .node); origin = word a b lo top p 3 12 2 (omega arith) s (h .1 .node) (h .1 .origin) })
+    part-same (held place t) lo top p s (inr h) = inr (marked-same 14 (Inside rule known a t) (Inside rule known b t) (λ l u q v w. inside-same t l u q v w) lo top p s h)
+    part-same (look place false t) lo top p s h = marked-same 15 (Inside rule known a t) (Inside rule known b t) (λ l u q v w. inside-same t l u q v w) lo top p s h
+    part-same (look place true t) lo top p s h =
+        record {
+          node = last-same a b lo top p 8 17 (omega arith) s (h .node);
+          origin = word a b lo top p 8 17 3 (omega arith) s (h .node) (h .origin);
+          opening = word a b lo top p 8 17 4 (omega arith) s (h .node) (h .opening);
+          inside = h .inside;
+          is = word a b lo top p 8 17 5 (omega arith) s (h .node) (h .is);
+          holds = inside-same t lo p (h .inside) (λ i i1 i2. s i i1 (omega (arith, h .node .high))) (h .holds);
+        }
     part-same empty lo top p s h = plain-same Nothing Nothing nothing-same lo top p s h
     part-same (seq x y) lo top p s h = plain-same (Sequence a (Chain rule known a x) (Part rule known a y)) (Sequence b (Chain rule known b x) (Part rule known b y)) (sequence-same x y (λ l u q v w. chain-same x l u q v w) (λ l u q v w. part-same y l u q v w)) lo top p s h
     part-same (alt bs t) lo top p s h = plain-same (Branch a 6 (Several rule known a bs) (Chain rule known a t)) (Branch b 6 (Several rule known b bs) (Chain rule known b t)) (branch-same 6 (Several rule known a bs) (Several rule known b bs) t (several-order bs) (λ l u q v w. several-same bs l u q v w) (λ l u q v w. chain-same t l u q v w)) lo top p s h
@@ -228,6 +260,8 @@ module _ (rule : List ℕ) (known : Names) (a b : List ℕ) where
     chain-same (alt bs t) lo top p s h = absurd h
     chain-same (group n t) lo top p s h = absurd h
     chain-same (repeat place least most g t) lo top p s h = absurd h
+    chain-same (held place t) lo top p s h = absurd h
+    chain-same (look place negative t) lo top p s h = absurd h
 
     pub inside-same : (t : Rule) (lo top p : ℕ) → Same lo top a b → Inside rule known a t lo top p → Inside rule known b t lo top p
     inside-same empty lo top p s h = h
@@ -236,6 +270,8 @@ module _ (rule : List ℕ) (known : Names) (a b : List ℕ) where
     inside-same (item place i) lo top p s h = absurd h
     inside-same (group n t) lo top p s h = absurd h
     inside-same (repeat place least most g t) lo top p s h = absurd h
+    inside-same (held place t) lo top p s h = absurd h
+    inside-same (look place negative t) lo top p s h = absurd h
 
     pub several-same : (bs : Branches) (lo top p : ℕ) → Same lo top a b → Several rule known a bs lo top p → Several rule known b bs lo top p
     several-same (one t) lo top p s h = branch-same 5 Nothing Nothing t (λ l u q w. w .1) nothing-same (λ l u q v w. chain-same t l u q v w) lo top p s h

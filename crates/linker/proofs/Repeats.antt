@@ -1,5 +1,6 @@
 -- Repeats: the body is linked in the region below the node, and goes on at the loop; then the node's own numbers are written.
 use mathlib.Core.Path.{_≡_, sym, _∙_}
+use mathlib.Core.Bool.{true, false}
 use mathlib.Core.List.{List}
 use mathlib.Core.Logic.{inl, inr}
 use Prim.Native.Nat.{ℕ, _+_, _≤_, _<_}
@@ -11,7 +12,7 @@ use Rattle.syntax.specs.declared.Most.{Most}
 use Rattle.syntax.specs.Limits.{registers, ruleAreaNeed}
 use Rattle.syntax.specs.Reading.{unresolved}
 use Rattle.syntax.specs.Names.{Names}
-use Rattle.syntax.specs.Tree.{byteIn, assert, reference, Rule, empty, item, seq, alt, group, repeat}
+use Rattle.syntax.specs.Tree.{byteIn, assert, reference, Rule, empty, item, seq, alt, group, repeat, held, look}
 use Rattle.syntax.specs.Compiled.{greedWord, OneByte, RunOf, Compiled}
 use Rattle.linker.specs.Nodes.{beforeOf, Plain, Part, Chain, Inside}
 use Rattle.linker.specs.Linking.{Fits, Stands, Made, Links}
@@ -67,6 +68,10 @@ module _ (rule : List ℕ) (known : Names) where
       go (item place (reference folded n)) (inr k) = absurd (omega (arith, z))
       go (group n s) k = absurd (omega (arith, z))
       go (repeat place least most g s) k = absurd (omega (arith, z))
+      go (held place s) (inl k) = absurd (omega (arith, z))
+      go (held place s) (inr k) = absurd (omega (arith, z))
+      go (look place false s) k = absurd (omega (arith, z))
+      go (look place true s) k = absurd (omega (arith, z))
       go empty k = absurd (omega (arith, z))
       go (seq x y) k = absurd (omega (arith, z))
       go (alt bs t) k = absurd (omega (arith, z))
@@ -80,6 +85,8 @@ module _ (rule : List ℕ) (known : Names) where
   none-before a (alt bs t) y lo top p e h o = absurd h
   none-before a (group n t) y lo top p e h o = absurd h
   none-before a (repeat place least most g t) y lo top p e h o = absurd h
+  none-before a (held place t) y lo top p e h o = absurd h
+  none-before a (look place negative t) y lo top p e h o = absurd h
 
   within-plain : (a : List ℕ) (s : Rule) (lo top p : ℕ) → Part rule known a s lo top p → ByteWithin a p → OneByte s
   unfolding Part beforeOf
@@ -98,6 +105,8 @@ module _ (rule : List ℕ) (known : Names) where
       go (item place i) h = absurd (h .holds)
       go (group n t) h = absurd (h .holds)
       go (repeat place least most g t) h = absurd (h .holds)
+      go (held place t) h = absurd (h .holds)
+      go (look place negative t) h = absurd (h .holds)
 
   run-of : (a : List ℕ) (g : Greed) (s : Rule) (lo top p x : ℕ) → x ≡ greedWord g → x ≡ 0 → Part rule known a s lo top p → IsOneByte a p → RunOf g s
   unfolding greedWord

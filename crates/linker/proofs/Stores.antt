@@ -13,8 +13,8 @@ use Rattle.syntax.specs.Names.{Names, groupCalled}
 use Rattle.syntax.specs.Reading.{dangling}
 use Rattle.syntax.specs.Tree.{reference}
 use Rattle.linker.specs.Nodes.{beforeOf}
-use Rattle.linker.specs.Linking.{noted}
-use Rattle.linker.specs.Stores.{Put, PutTwo, GroupClosed, RepeatClosed, Referred, Numbered}
+use Rattle.linker.specs.Linking.{Outside, noted}
+use Rattle.linker.specs.Stores.{Put, PutTwo, PutAfter, GroupClosed, RepeatClosed, Referred, Numbered}
 use Rattle.linker.proofs.Made.{outside-none, outside-then}
 
 pub put-done : (a : List ℕ) (at x : ℕ) → at < length a → Put a (set a at x) at x
@@ -36,18 +36,31 @@ two-done a b c at x y u v =
 pub moved : (a : List ℕ) (i j : ℕ) {x : ℕ} → i ≡ j → getD a i 0 ≡ x → getD a j 0 ≡ x
 moved a i j {x} e h = subst (λ (k : ℕ). getD a k 0 ≡ x) e h
 
-pub group-closed : (a b c : List ℕ) (p next r entry : ℕ) → PutTwo a b (p + 1) next r → PutTwo b c (p + 5) entry r → GroupClosed a c p next r entry
-group-closed a b c p next r entry u v =
+pub after-put : (a b : List ℕ) (p next : ℕ) → getD a p 0 ≡ 17 → Put a b (p + 7) next → PutAfter a b p next
+after-put a b p next e u = let z : p + 7 + 1 ≡ p + 8 = omega arith in record { is = λ _. u .is; rest = rw z at (u .rest); alone = λ n. absurd (n e) }
+
+pub after-none : (a : List ℕ) (p next : ℕ) → (getD a p 0 ≡ 17 → ⊥) → PutAfter a a p next
+after-none a p next n = record { is = λ e. absurd (n e); rest = outside-none (p + 7) (p + 8) a; alone = λ _. outside-none (p + 7) (p + 7) a }
+
+-- two pairs of numbers, and one more where it is negative looking ahead
+pub group-closed : (a b c d : List ℕ) (p next r entry : ℕ) → PutTwo a b (p + 1) next r → PutTwo b c (p + 5) entry r → PutAfter c d p next → GroupClosed a d p next r entry
+group-closed a b c d p next r entry u v w =
+    let kind : getD c p 0 ≡ getD a p 0 = v .rest .below p (omega arith) ∙ u .rest .below p (omega arith) in
     record {
-      kind = v .rest .below p (omega arith) ∙ u .rest .below p (omega arith);
-      goes = v .rest .below (p + 1) (omega arith) ∙ u .is;
-      closer = v .rest .below (p + 2) (omega arith) ∙ moved b (p + 1 + 1) (p + 2) (omega arith) (u .also);
-      span = v .rest .below (p + 3) (omega arith) ∙ u .rest .above (p + 3) (omega arith);
-      opening = v .rest .below (p + 4) (omega arith) ∙ u .rest .above (p + 4) (omega arith);
-      enters = v .is;
-      opener = moved c (p + 5 + 1) (p + 6) (omega arith) (v .also);
-      rest = outside-then (p + 1) (p + 1 + 2) (p + 5) (p + 5 + 2) p (p + 7) a b c (omega arith) (omega arith) (omega arith) (omega arith) (u .rest) (v .rest);
+      kind = w .rest .below p (omega arith) ∙ kind;
+      goes = w .rest .below (p + 1) (omega arith) ∙ v .rest .below (p + 1) (omega arith) ∙ u .is;
+      closer = w .rest .below (p + 2) (omega arith) ∙ v .rest .below (p + 2) (omega arith) ∙ moved b (p + 1 + 1) (p + 2) (omega arith) (u .also);
+      span = w .rest .below (p + 3) (omega arith) ∙ v .rest .below (p + 3) (omega arith) ∙ u .rest .above (p + 3) (omega arith);
+      opening = w .rest .below (p + 4) (omega arith) ∙ v .rest .below (p + 4) (omega arith) ∙ u .rest .above (p + 4) (omega arith);
+      enters = w .rest .below (p + 5) (omega arith) ∙ v .is;
+      opener = w .rest .below (p + 6) (omega arith) ∙ moved c (p + 5 + 1) (p + 6) (omega arith) (v .also);
+      after = λ e. w .is (kind ∙ e);
+      rest = outside-then p (p + 7) (p + 7) (p + 8) p (p + 8) a c d (omega arith) (omega arith) (omega arith) (omega arith) both (w .rest);
+      alone = λ n. outside-then p (p + 7) (p + 7) (p + 7) p (p + 7) a c d (omega arith) (omega arith) (omega arith) (omega arith) both (w .alone (λ e. n (sym kind ∙ e)));
     }
+  where
+    both : Outside p (p + 7) a c
+    both = outside-then (p + 1) (p + 1 + 2) (p + 5) (p + 5 + 2) p (p + 7) a b c (omega arith) (omega arith) (omega arith) (omega arith) (u .rest) (v .rest)
 
 pub repeat-closed : (z a b c : List ℕ) (p kind next r entry : ℕ) → Put z a p kind → PutTwo a b (p + 5) r entry → Put b c (p + 7) next → RepeatClosed z c p kind next r entry
 repeat-closed z a b c p kind next r entry w u v =

@@ -2,13 +2,13 @@
 use mathlib.Core.Path.{_≡_}
 use mathlib.Core.List.{List}
 use mathlib.Core.Option.{Option, none, some}
-use Prim.Native.Nat.{ℕ, suc, max, _+_, _*_, _≤_, _<_}
+use Prim.Native.Nat.{ℕ, max, _+_, _*_, _≤_, _<_}
 use lib.ListN.{getD, length}
 use Rattle.syntax.specs.Limits.{groupLimit, ruleAreaNeed, registers, spansLength}
 use Rattle.syntax.specs.Names.{Names}
-use Rattle.syntax.specs.Tree.{Rule, empty, item, seq, alt, group, repeat, Branches, one, also}
+use Rattle.syntax.specs.Tree.{Rule, Branches}
 use Rattle.syntax.specs.Reading.{unresolved, unresolvedIn}
-use Rattle.syntax.specs.WellFormed.{Proper, Propers}
+use Rattle.syntax.specs.WellFormed.{Proper, Propers, height, heights}
 use Rattle.syntax.specs.Compiled.{Compiled, CompiledBranches}
 use Rattle.linker.specs.declared.Linkage.{Linkage}
 use Rattle.linker.specs.declared.Linkage.the-variants.{Entry, NoGroup}
@@ -16,20 +16,6 @@ use Rattle.linker.specs.Table.{Spelled}
 use Rattle.linker.specs.Nodes.{Region, Inside, Several}
 
 -- What is asked ---------------------------------------------------------------
-
--- how deep groups and repeats nest, one inside another
-abbrev mutual
-  pub height : Rule → ℕ
-  height empty = 0
-  height (item place i) = 0
-  height (seq a b) = max (height a) (height b)
-  height (alt bs b) = max (heights bs) (height b)
-  height (group n a) = suc (height a)
-  height (repeat place n m g a) = suc (height a)
-
-  pub heights : Branches → ℕ
-  heights (one a) = height a
-  heights (also bs b) = max (heights bs) (height b)
 
 -- the tree is proper, and the registers from r on are enough for it
 pub record Fits (groups r : ℕ) (t : Rule) : Type 0 where

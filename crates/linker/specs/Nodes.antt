@@ -4,9 +4,13 @@
 --   byte       0, before, place, the class in eight words
 --   assertion  1, before, place, which
 --   reference 11, before, place, the group's number, 1 if it is folded
---   named     12, before, place, where the group's name begins in the rule, 1 if it is folded, how many bytes the name has
+--   named      2, before, place, where the group's name begins in the rule, 1 if it is folded, how many bytes the name has
 --   group      4, before, 0, the slot of its span, 3, inside, 0       the close's four numbers, then the open's three
 --   plain     10, before, inside                                      a group that does not capture
+--   break     12, before, place                                       `\R`
+--   held      14, before, 0, 0, 13, inside, 0                         a held part: the inner end's numbers, then those where it is entered
+--   ahead     15, before, 0, 0, 13, inside, 0                         looking ahead, likewise
+--   not ahead 17, before, 0, place, 16, inside, 0, 0                  negative looking ahead
 --   repeat     7, 8, least, most, greed, place, body, before
 --   branch     5, inside, the branch before it
 --   last       6, inside, the branch before it
@@ -14,7 +18,7 @@
 -- `inside` is the last part of a sequence, or the last branch of an alternation. 0 is no node's position: it stands for none.
 -- A reference by name may stand before its group: its number is known only when the whole rule is read.
 use mathlib.Core.Path.{_≡_}
-use mathlib.Core.Bool.{Bool}
+use mathlib.Core.Bool.{Bool, true, false}
 use mathlib.Core.List.{List}
 use mathlib.Core.Logic.{_⊎_}
 use Prim.Native.Nat.{ℕ, _+_, _≤_, _<_}
@@ -26,7 +30,7 @@ use Rattle.syntax.specs.Limits.{slot}
 use Rattle.syntax.specs.Names.{Names, groupCalled}
 use Rattle.syntax.specs.Read.{if_then_else_}
 use Rattle.syntax.specs.Sets.{inClass}
-use Rattle.syntax.specs.Tree.{Item, byteIn, assert, reference, Rule, empty, item, seq, alt, group, repeat, Branches, one, also}
+use Rattle.syntax.specs.Tree.{Item, byteIn, assert, reference, Rule, empty, item, seq, alt, group, repeat, held, look, Branches, one, also, lineBreak}
 use Rattle.syntax.specs.Compiled.{assertionWord, mostWord, greedWord, foldedWord}
 
 -- the part before the one at p
@@ -76,6 +80,28 @@ module _ (a : List ℕ) where
     pub is : getD a (p + 2) 0 ≡ inside
     pub holds : Within lo p inside
 
+  -- `\R`
+  pub record Breaking (place lo top p : ℕ) : Type 0 where
+    pub node : Last a lo top p 3 12
+    pub origin : getD a (p + 2) 0 ≡ place
+
+  -- a held part, or looking ahead
+  pub record Marked (kind : ℕ) (Within : Region) (lo top p : ℕ) : Type 0 where
+    pub node : Last a lo top p 7 kind
+    pub opening : getD a (p + 4) 0 ≡ 13
+    pub inside : ℕ
+    pub is : getD a (p + 5) 0 ≡ inside
+    pub holds : Within lo p inside
+
+  -- negative looking ahead
+  pub record Forbidden (place : ℕ) (Within : Region) (lo top p : ℕ) : Type 0 where
+    pub node : Last a lo top p 8 17
+    pub origin : getD a (p + 3) 0 ≡ place
+    pub opening : getD a (p + 4) 0 ≡ 16
+    pub inside : ℕ
+    pub is : getD a (p + 5) 0 ≡ inside
+    pub holds : Within lo p inside
+
   -- a reference by its group's number
   pub record ByNumber (folded : Bool) (n lo top p place : ℕ) : Type 0 where
     pub node : Last a lo top p 5 11
@@ -87,7 +113,7 @@ module _ (a : List ℕ) where
 module _ (s : List ℕ) (known : Names) (a : List ℕ) where
   -- a reference by its group's name, which is bytes of the rule
   pub record ByName (folded : Bool) (n lo top p place : ℕ) : Type 0 where
-    pub node : Last a lo top p 6 12
+    pub node : Last a lo top p 6 2
     pub origin : getD a (p + 2) 0 ≡ place
     pub from : ℕ
     pub begins : getD a (p + 3) 0 ≡ from
@@ -107,8 +133,8 @@ module _ (s : List ℕ) (known : Names) (a : List ℕ) where
   ItemPart (reference folded n) lo top p place = ByNumber a folded n lo top p place ⊎ ByName folded n lo top p place
 
   unfoldable mutual
-    -- a part of a sequence stands at p, its nodes from lo on and below top: an item, a group or a repeat; or a group that does not
-    -- capture
+    -- a part of a sequence stands at p, its nodes from lo on and below top: an item, a group, a repeat, a held part or looking ahead; or a group that
+    -- does not capture
     pub Part : Rule → Region
     Part (item place i) lo top p = ItemPart i lo top p place
     Part (group n t) lo top p = record {
@@ -130,6 +156,9 @@ module _ (s : List ℕ) (known : Names) (a : List ℕ) where
       is : getD a (p + 6) 0 ≡ body;
       holds : Part t lo p body;
     }
+    Part (held place t) lo top p = ((held place t ≡ lineBreak place) × Breaking a place lo top p) ⊎ Marked a 14 (λ l h q. Inside t l h q) lo top p
+    Part (look place false t) lo top p = Marked a 15 (λ l h q. Inside t l h q) lo top p
+    Part (look place true t) lo top p = Forbidden a place (λ l h q. Inside t l h q) lo top p
     Part empty lo top p = Plain a Nothing lo top p
     Part (seq x y) lo top p = Plain a (Sequence a (λ l h q. Chain x l h q) (λ l h q. Part y l h q)) lo top p
     Part (alt bs t) lo top p = Plain a (Branch a 6 (λ l h q. Several bs l h q) (λ l h q. Chain t l h q)) lo top p
@@ -142,6 +171,8 @@ module _ (s : List ℕ) (known : Names) (a : List ℕ) where
     Chain (alt bs t) lo top p = ⊥
     Chain (group n t) lo top p = ⊥
     Chain (repeat place least most g t) lo top p = ⊥
+    Chain (held place t) lo top p = ⊥
+    Chain (look place negative t) lo top p = ⊥
 
     -- what stands in a group: a sequence or an alternation, with its last part or branch at p
     pub Inside : Rule → Region
@@ -151,6 +182,8 @@ module _ (s : List ℕ) (known : Names) (a : List ℕ) where
     Inside (item place i) lo top p = ⊥
     Inside (group n t) lo top p = ⊥
     Inside (repeat place least most g t) lo top p = ⊥
+    Inside (held place t) lo top p = ⊥
+    Inside (look place negative t) lo top p = ⊥
 
     -- branches but the last, the latest of them at p
     pub Several : Branches → Region

@@ -23,7 +23,17 @@ pub record PutTwo (old new : List ℕ) (at x y : ℕ) : Type 0 where
   pub also : getD new (at + 1) 0 ≡ y
   pub rest : Outside at (at + 2) old new
 
--- a group's close and open
+-- the kinds of what stands between an end and an opening: a group that captures, a held part, looking ahead, and negative looking ahead
+abbrev pub Bracketed : ℕ → Type 0
+Bracketed k = (k ≡ 4) ⊎ ((k ≡ 14) ⊎ ((k ≡ 15) ⊎ (k ≡ 17)))
+
+-- one number more behind the seven of such a node, where it is negative looking ahead
+pub record PutAfter (old new : List ℕ) (p next : ℕ) : Type 0 where
+  pub is : getD old p 0 ≡ 17 → getD new (p + 7) 0 ≡ next
+  pub rest : Outside (p + 7) (p + 8) old new
+  pub alone : (getD old p 0 ≡ 17 → ⊥) → Outside (p + 7) (p + 7) old new
+
+-- its end and its opening
 pub record GroupClosed (old new : List ℕ) (p next r entry : ℕ) : Type 0 where
   pub kind : getD new p 0 ≡ getD old p 0
   pub goes : getD new (p + 1) 0 ≡ next
@@ -32,7 +42,9 @@ pub record GroupClosed (old new : List ℕ) (p next r entry : ℕ) : Type 0 wher
   pub opening : getD new (p + 4) 0 ≡ getD old (p + 4) 0
   pub enters : getD new (p + 5) 0 ≡ entry
   pub opener : getD new (p + 6) 0 ≡ r
-  pub rest : Outside p (p + 7) old new
+  pub after : getD old p 0 ≡ 17 → getD new (p + 7) 0 ≡ next
+  pub rest : Outside p (p + 8) old new
+  pub alone : (getD old p 0 ≡ 17 → ⊥) → Outside p (p + 7) old new
 
 -- the only part in a group that does not capture is a byte item
 pub record ByteWithin (a : List ℕ) (p : ℕ) : Type 0 where

@@ -2,7 +2,7 @@
 // reference by name get its group's number: the group may stand behind it, so that the first pass cannot tell.
 use syntax::SPANS_LENGTH;
 ghost use mathlib.Core.Path.{_≡_};
-ghost use mathlib.Core.Bool.{true};
+ghost use mathlib.Core.Bool.{true, false};
 ghost use Prim.Native.Nat.{_+_, _≤_, _<_};
 ghost use lib.ListN.{getD, length};
 ghost use lib.Seq.{slice};
@@ -12,7 +12,7 @@ ghost use Rattle.syntax.specs.Sets.{sameBytes};
 ghost use Rattle.linker.specs.Table.{namesIn, NamesFit};
 ghost use Rattle.linker.specs.Nodes.{beforeOf, Part, Chain, Inside};
 ghost use Rattle.linker.specs.Linking.{Stands, StandAll, Linkable, Links, LinksAll, LinksWhole};
-ghost use Rattle.linker.specs.Stores.{Put, PutTwo, GroupClosed, IsOneByte, EntryKind, RepeatClosed, Referred, Numbered, NameLinked};
+ghost use Rattle.linker.specs.Stores.{Put, PutTwo, Bracketed, PutAfter, GroupClosed, IsOneByte, EntryKind, RepeatClosed, Referred, Numbered, NameLinked};
 
 // The kinds of nodes, as specs/Nodes.antt lists them. What is of none of these is an item, and goes on alike.
 const GROUP: usize = 4;
@@ -25,7 +25,13 @@ const PLAIN: usize = 10;
 
 const REFERENCE: usize = 11;
 
-const NAMED: usize = 12;
+const NAMED: usize = 2;
+
+const HELD: usize = 14;
+
+const AHEAD: usize = 15;
+
+const NOT_AHEAD: usize = 17;
 
 // The kinds of a byte item and of a compiled run, and the number of a greedy repeat's greed.
 const BYTE: usize = 0;
@@ -84,13 +90,40 @@ pub fn before_of(area: &[u32], p: usize) -> usize
     word(area, p + 1)
 }
 
-// A group whose inside is linked: what follows its close, its register, and where its inside begins.
+// Whether a part of a kind stands between an end and an opening: a group that captures, a held part, or looking ahead.
+pub fn is_bracketed(kind: usize) -> bool
+    ensures { λ r. ⌜ (r ≡ true → Bracketed kind) × (r ≡ false → Bracketed kind → ⊥) ⌝ }
+{
+    if kind == GROUP {
+        return true;
+    }
+    if kind == HELD {
+        return true;
+    }
+    if kind == AHEAD {
+        return true;
+    }
+    kind == NOT_AHEAD
+}
+
+// What follows negative looking ahead stands behind its opening too.
+fn put_after(area: &mut [u32], p: usize, next: usize)
+    requires { ⌜ (p < length (now area)) × (next ≤ ruleAreaNeed) × (getD (now area) p 0 ≡ 17 → p + 8 ≤ length (now area)) ⌝ }
+    ensures { λ _. ⌜ PutAfter (now (area .entry)) (now (area .exit)) p next ⌝ }
+{
+    if word(area, p) == NOT_AHEAD {
+        put(area, p + 7, next);
+    }
+}
+
+// Such a part whose inside is linked: what follows its end, its register, and where its inside begins.
 fn close_group(area: &mut [u32], p: usize, next: usize, r: usize, entry: usize)
-    requires { ⌜ (p + 7 ≤ length (now area)) × (next ≤ ruleAreaNeed) × (r ≤ registers) × (entry ≤ ruleAreaNeed) ⌝ }
+    requires { ⌜ (p + 7 ≤ length (now area)) × (next ≤ ruleAreaNeed) × (r ≤ registers) × (entry ≤ ruleAreaNeed) × (getD (now area) p 0 ≡ 17 → p + 8 ≤ length (now area)) ⌝ }
     ensures { λ _. ⌜ GroupClosed (now (area .entry)) (now (area .exit)) p next r entry ⌝ }
 {
     put_two(area, p + 1, next, r);
     put_two(area, p + 5, entry, r);
+    put_after(area, p, next);
 }
 
 // Whether one byte item stands at p, by itself or alone in a group that does not capture.
@@ -243,7 +276,7 @@ fn link_part(
     ensures { λ l. ⌜ Links (Part (now (rule .entry)) (namesIn (now (rule .entry)) (now (table .entry)) groups) (now (area .entry))) groups r (now (area .entry)) (now (area .exit)) p next dangling (l .pc) (l .dangling) ⌝ }
 {
     let kind = word(area, p);
-    if kind == GROUP {
+    if is_bracketed(kind) {
         return link_group(area, p, next, r, groups, dangling, rule, table);
     }
     if kind == REPEAT {
@@ -269,7 +302,7 @@ fn link_part(
     }
 }
 
-// A capturing group: its inside goes on at its close, which stands at p; its open stands behind that.
+// A capturing group, a held part or looking ahead: its inside goes on at its end, which stands at p; its opening stands behind that.
 fn link_group(
     area: &mut [u32],
     p: usize,
@@ -280,7 +313,7 @@ fn link_group(
     rule: &[u8],
     table: &[u32],
 ) -> Linked
-    requires { ⌜ Stands (Part (now rule) (namesIn (now rule) (now table) groups) (now area)) groups r (now area) p × (next ≤ ruleAreaNeed) × (getD (now area) p 0 ≡ 4) × NamesFit (now rule) (now table) groups ⌝ }
+    requires { ⌜ Stands (Part (now rule) (namesIn (now rule) (now table) groups) (now area)) groups r (now area) p × (next ≤ ruleAreaNeed) × Bracketed (getD (now area) p 0) × NamesFit (now rule) (now table) groups ⌝ }
     ensures { λ l. ⌜ Links (Part (now (rule .entry)) (namesIn (now (rule .entry)) (now (table .entry)) groups) (now (area .entry))) groups r (now (area .entry)) (now (area .exit)) p next dangling (l .pc) (l .dangling) ⌝ }
 {
     let inside = word(area, p + 5);

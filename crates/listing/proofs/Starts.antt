@@ -44,12 +44,12 @@ module _ {sub : List ℕ} {x : Rule} {budget : ℕ} {first area : List ℕ} {sta
   course = record { tree = x; area = first; old = b .old; before = steps; after = length sub - start; first = regs }
 
   -- the machine at the rule's first node is at the beginning of the start's course
-  pub sets-out : {code : List ℕ} {entry wide : ℕ} → Stands code x entry → Bytes sub → Clear regs → start ≤ length sub → 8 * budget ≤ wide → {now : Now} → now ≡ go entry start regs [] → Going code sub budget start rows course wide now area budget rows
-  sets-out {code} {entry} {wide} s bytes clear inside fits e = record {
+  pub sets-out : {code : List ℕ} {entry wide : ℕ} → Stands code x entry → Bytes sub → Clear regs → start ≤ length sub → 8 * budget ≤ wide → 2 * budget < 2 ^ 32 → {now : Now} → now ≡ go entry start regs [] → Going code sub budget start rows course wide now area budget rows
+  sets-out {code} {entry} {wide} s bytes clear inside fits few e = record {
     seen = [];
     rest = trace sub x start;
     steps = steps;
-    ready = rw e (begins code sub x entry start budget wide regs s bytes clear inside fits);
+    ready = rw e (begins code sub x entry start budget wide regs s bytes clear inside fits few);
     listed = b .listed;
     few = omega arith;
     paid = refl;
@@ -84,7 +84,7 @@ module _ {sub : List ℕ} {budget start : ℕ} {k : Course} {regs area : List �
 pub record Turning (code sub : List ℕ) (entry budget : ℕ) (regs₀ work₀ results₀ regs work results : List ℕ) (start rows steps : ℕ) : Type 0 where
   pub bytes : Bytes sub
   pub short : length sub ≤ subjectLimit
-  pub cheap : budget < 2 ^ 32
+  pub cheap : 2 * budget < 2 ^ 32
   pub clear : Clear regs
   pub same : regs ≡ regs₀
   pub wide : length work ≡ length work₀
@@ -97,7 +97,7 @@ pub record Turning (code sub : List ℕ) (entry budget : ℕ) (regs₀ work₀ r
 module _ {code sub : List ℕ} {entry budget : ℕ} {regs₀ work₀ results₀ regs work results : List ℕ} {start rows steps : ℕ} (t : Turning code sub entry budget regs₀ work₀ results₀ regs work results start rows steps) where
   module _ {now : Now} (e : now ≡ go entry start regs []) where
     pub turn-begins : (x : Rule) (h : Stands code x entry) → Going code sub budget start rows (course (t .between x h) regs) (8 * budget) now results budget rows
-    turn-begins x h = sets-out (t .between x h) regs h (t .bytes) (t .clear) (t .inside) (le-refl (8 * budget)) e
+    turn-begins x h = sets-out (t .between x h) regs h (t .bytes) (t .clear) (t .inside) (le-refl (8 * budget)) (t .cheap) e
 
     module _ {o : Ends} {regs′ results′ : List ℕ} (done : (k : Course) → Going code sub budget start rows k (8 * budget) now results budget rows → Listed sub budget start k regs′ results′ o) where
       listed : (x : Rule) (h : Stands code x entry) → Listed sub budget start (course (t .between x h) regs) regs′ results′ o
@@ -176,4 +176,4 @@ turning-from {code} {sub} {entry} {budget} {regs₀} {work₀} {results₀} {reg
   where
     each : Opens code entry budget o → (i s : ℕ) → begin ≤ i → i < from → i < length sub → Outside (o .set) (o .any) sub i → Turning code sub entry budget regs₀ work₀ results₀ regs work results i rows s → Turning code sub entry budget regs₀ work₀ results₀ regs work results (i + 1) rows (s + o .cost)
     each (inl e) i s l h u out x = absurd (omega (arith, passed .none e))
-    each (inr k) i s l h u out x = turning-pass x (o .cost) (k .few) u (λ y st. k .tells sub regs (length work) regs (trace sub y i) i (x .bytes) (begins code sub y entry i budget (length work) regs st (x .bytes) (x .clear) (x .inside) (omega (arith, x .fits))) (omega arith) out)
+    each (inr k) i s l h u out x = turning-pass x (o .cost) (k .few) u (λ y st. k .tells sub regs (length work) regs (trace sub y i) i (x .bytes) (begins code sub y entry i budget (length work) regs st (x .bytes) (x .clear) (x .inside) (omega (arith, x .fits)) (x .cheap)) (omega arith) out)

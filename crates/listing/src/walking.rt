@@ -11,7 +11,7 @@ use openings::pass_starts;
 ghost use mathlib.Core.Path.{_≡_};
 ghost use Prim.Native.Nat.{_*_, _≤_, _<_, _^_};
 ghost use lib.ListN.{length, take};
-ghost use Rattle.syntax.specs.Limits.{subjectLimit, spansLength, registers};
+ghost use Rattle.syntax.specs.Limits.{subjectLimit, budgetLimit, spansLength, registers};
 ghost use Rattle.syntax.specs.Tree.{Rule};
 ghost use Rattle.machine.specs.Words.{nowOf};
 ghost use Rattle.machine.specs.Theorem.{Stands, Clear};
@@ -92,7 +92,7 @@ pub fn list_starts(
     budget: u32,
     spans: usize,
 ) -> Listing
-    requires { ⌜ Clear (now regs) × (length (now sub) ≤ subjectLimit) × (length (now code) < 2 ^ 32) × (16 * budget ≤ length (now work)) × (spans ≤ spansLength) ⌝ }
+    requires { ⌜ Clear (now regs) × (length (now sub) ≤ subjectLimit) × (length (now code) < 2 ^ 32) × (16 * budget ≤ length (now work)) × (spans ≤ spansLength) × (budget ≤ budgetLimit) ⌝ }
     requires { ⌜ ((x : Rule) × Stands (now code) x entry) ⌝ }
     ensures { λ r. ⌜ ((x : Rule) → Stands (now (code .entry)) x entry → Lists (now (sub .entry)) x budget (now (results .entry)) (now (results .exit)) r) ⌝ }
 {

@@ -75,9 +75,11 @@ examples =
     ∷ looking "n" (entry "n") "ab" 0 (rowOf 0 2 (0 ∷ 1 ∷ unset ∷ 1 ∷ [])) Nothing
     ∷ looking "n" (entry "n") "ab" 0 (rowOf 0 2 (0 ∷ 1 ∷ 1 ∷ unset ∷ [])) Nothing
     ∷ looking "n" (entry "n") "ab" 0 (rowOf 0 2 (0 ∷ 1 ∷ 2 ∷ 1 ∷ [])) Nothing
-    -- a span before the start, one behind the end, an end before the start, and one behind the line
-    ∷ looking "n" (entry "n") "ab" 0 (rowOf 1 2 (0 ∷ 1 ∷ [])) Nothing
-    ∷ looking "n" (entry "n") "ab" 0 (rowOf 0 1 (0 ∷ 2 ∷ [])) Nothing
+    -- 02 L17: a span before the start and one behind the end, both within the line; and one behind the line
+    ∷ looking "n" (entry "n") "ab" 0 (rowOf 1 2 (0 ∷ 1 ∷ [])) (Taken 0 1)
+    ∷ looking "n" (entry "n") "ab" 0 (rowOf 0 1 (1 ∷ 2 ∷ [])) (Taken 1 2)
+    ∷ looking "n" (entry "n") "ab" 0 (rowOf 0 1 (1 ∷ 3 ∷ [])) Nothing
+    -- an end before the start, and one behind the line
     ∷ looking "n" (entry "n") "ab" 0 (rowOf 2 1 []) Nothing
     ∷ looking "n" (entry "n") "ab" 0 (rowOf 0 3 (0 ∷ 1 ∷ [])) Nothing
     -- 02 E27: a number fewer than a row has, and one more

@@ -3,7 +3,7 @@ use crate::names::GROUPS;
 use index::ROW_LENGTH;
 use index::UNSET;
 ghost use mathlib.Core.Path.{_≡_};
-ghost use lib.ListN.{length, getD};
+ghost use lib.ListN.{length};
 ghost use Rattle.syntax.specs.Limits.{groupLimit, rowLength};
 ghost use Rattle.lookup.specs.Rows.{isUnset, spanHolds, spansHold, isRow};
 
@@ -17,32 +17,29 @@ pub fn is_unset(from: u32, to: u32) -> bool
     to == UNSET
 }
 
-// Whether two numbers are a span within a start and an end, or those of a group that is not set.
-fn span_holds(start: u32, end: u32, from: u32, to: u32) -> bool
-    ensures { λ r. ⌜ r ≡ spanHolds start end from to ⌝ }
+// Whether two numbers are a span within a line of so many bytes, or those of a group that is not set.
+fn span_holds(line: usize, from: u32, to: u32) -> bool
+    ensures { λ r. ⌜ r ≡ spanHolds line from to ⌝ }
 {
     if is_unset(from, to) {
         return true;
     }
-    if from < start {
-        return false;
-    }
     if to < from {
         return false;
     }
-    to <= end
+    to as usize <= line
 }
 
 // Whether every pair of a row is such a span.
-fn spans_hold(row: &[u32], start: u32, end: u32) -> bool
-    requires { ⌜ (length (now row) ≡ rowLength) × (getD (now row) 0 0 ≡ start) × (getD (now row) 1 0 ≡ end) ⌝ }
-    ensures { λ r. ⌜ r ≡ spansHold groupLimit (now (row .entry)) 1 ⌝ }
+fn spans_hold(row: &[u32], line: usize) -> bool
+    requires { ⌜ length (now row) ≡ rowLength ⌝ }
+    ensures { λ r. ⌜ r ≡ spansHold groupLimit line (now (row .entry)) 1 ⌝ }
 {
     let mut passed: usize = 0;
     while passed < GROUPS {
         let from = row[2 + 2 * passed];
         let to = row[3 + 2 * passed];
-        if !span_holds(start, end, from, to) {
+        if !span_holds(line, from, to) {
             return false;
         }
         passed += 1;
@@ -65,5 +62,5 @@ pub fn is_row(row: &[u32], line: usize) -> bool
     if line < end as usize {
         return false;
     }
-    spans_hold(row, start, end)
+    spans_hold(row, line)
 }

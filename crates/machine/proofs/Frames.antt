@@ -9,9 +9,10 @@ use lib.Seq.{getD-set-same, getD-set-other}
 use borrow.Author.Tests.{lt-ltb, le-ltb}
 use Rattle.syntax.specs.Limits.{registers}
 use Rattle.machine.specs.Code.{Program, repeatAt, RepeatFits}
-use Rattle.machine.specs.Moves.{explore, undo, Stack, idle, set2, saved, go, goSet, begin, descend, below, fall}
+use Rattle.machine.specs.Moves.{explore, undo, Stack, idle, set2, saved, go, goSet, begin, keep, cut, cutTo, descend, below, fall}
 use Rattle.machine.specs.Words.{frameOf, frameAt, stackOf}
 use Rattle.machine.specs.Ready.{StackFits}
+use Rattle.machine.specs.Laws.Stack.{length-stackOf}
 
 -- Pushing ------------------------------------------------------------------
 
@@ -41,6 +42,14 @@ push-cons w n kind a b c h =
     let e₃ : getD w₃ (4 * n + 3) 0 ≡ c = getD-set-same w₂ _ c 0 (simp length-set (omega arith)) in
     let e₄ : stackOf w₃ n ≡ stackOf w n = stackOf-set w₂ n _ c (omega arith) ∙ stackOf-set w₁ n _ b (omega arith) ∙ stackOf-set w₀ n _ a (omega arith) ∙ stackOf-set w n _ kind (omega arith) in
     rw (add-one n, e₀, e₁, e₂, e₃, e₄)
+
+-- nor do those above see it
+pub push-above : (w : List ℕ) (h kind a b c j : ℕ) → 4 * h + 4 ≤ j → getD (pushed w h kind a b c) j 0 ≡ getD w j 0
+push-above w n kind a b c j h =
+    let w₀ : List ℕ = set w (4 * n) kind in
+    let w₁ : List ℕ = set w₀ (4 * n + 1) a in
+    let w₂ : List ℕ = set w₁ (4 * n + 2) b in
+    getD-set-other w₂ (4 * n + 3) j c 0 (omega arith) ∙ getD-set-other w₁ (4 * n + 2) j b 0 (omega arith) ∙ getD-set-other w₀ (4 * n + 1) j a 0 (omega arith) ∙ getD-set-other w (4 * n) j kind 0 (omega arith)
 
 -- a frame to go on at, by three stores
 pub push-node : (w : List ℕ) (h pc at : ℕ) → 4 * h + 4 ≤ length w → stackOf (set (set (set w (4 * h) 0) (4 * h + 1) pc) (4 * h + 2) at) (h + 1) ≡ explore pc at ∷ stackOf w h
@@ -136,3 +145,56 @@ pub pop-none : (p : Program) (w : List ℕ) (h : ℕ) (regs : List ℕ) → h �
 unfolding fall stackOf
 pop-none p w zero regs e = refl
 pop-none p w (suc h) regs e = absurd (omega arith)
+
+-- Giving up ------------------------------------------------------------------
+
+module _ (w : List ℕ) (i : ℕ) (st : Stack) where
+  pub keep-choice : getD w (4 * i) 0 < 3 → keep (frameAt w i) st ≡ st
+  unfolding frameAt frameOf
+  keep-choice h = by (getD w (4 * i) 0) h
+    where
+      by : (kind : ℕ) → kind < 3 → keep (frameOf kind (getD w (4 * i + 1) 0) (getD w (4 * i + 2) 0) (getD w (4 * i + 3) 0)) st ≡ st
+      by zero l = refl
+      by (suc zero) l = refl
+      by (suc (suc zero)) l = refl
+      by (suc (suc (suc n))) l = absurd (omega arith)
+
+  pub keep-undone : 3 ≤ getD w (4 * i) 0 → keep (frameAt w i) st ≡ frameAt w i ∷ st
+  unfolding frameAt
+  keep-undone h = rw (frame-undo (getD w (4 * i) 0) (getD w (4 * i + 1) 0) (getD w (4 * i + 2) 0) (getD w (4 * i + 3) 0) (λ e. omega arith) (λ e. omega arith) (λ e. omega arith))
+
+-- The frames from `mark` up to i are looked at, and h frames are left; from i on the area is as it was.
+pub record Cutting (work₀ : List ℕ) (height mark : ℕ) (work : List ℕ) (h i : ℕ) : Type 0 where
+  pub from : mark ≤ i
+  pub below : i ≤ height
+  pub low : h ≤ i
+  pub size : length work ≡ length work₀
+  pub cuts : stackOf work h ≡ cut (i - mark) (stackOf work₀ i)
+  pub above : (j : ℕ) → 4 * i ≤ j → getD work j 0 ≡ getD work₀ j 0
+
+pub cutting-start : (work₀ : List ℕ) (height mark : ℕ) → mark ≤ height → Cutting work₀ height mark work₀ mark mark
+unfolding cut
+cutting-start work₀ height mark l = let z : mark - mark ≡ 0 = omega arith in record { from = omega arith; below = l; low = omega arith; size = refl; cuts = rw z; above = λ j h. refl }
+
+pub cutting-on : {work₀ : List ℕ} {height mark : ℕ} {work : List ℕ} {h i : ℕ} → Cutting work₀ height mark work h i → i < height → (work′ : List ℕ) (r : ℕ) → r ≤ h + 1 → length work′ ≡ length work → stackOf work′ r ≡ keep (frameAt work i) (stackOf work h)
+    → ((j : ℕ) → 4 * i + 4 ≤ j → getD work′ j 0 ≡ getD work j 0) → Cutting work₀ height mark work′ r (i + 1)
+unfolding cut stackOf frameAt
+cutting-on {work₀} {height} {mark} {work} {h} {i} g l work′ r few size e same =
+    let z : i + 1 - mark ≡ suc (i - mark) = omega (arith, g .from) in
+    let f : frameAt work i ≡ frameAt work₀ i = rw (g .above (4 * i) (omega arith), g .above (4 * i + 1) (omega arith), g .above (4 * i + 2) (omega arith), g .above (4 * i + 3) (omega arith)) in
+    record {
+      from = omega (arith, g .from);
+      below = omega arith;
+      low = omega (arith, g .low);
+      size = size ∙ g .size;
+      cuts = e ∙ rw (z, add-one i, f, g .cuts);
+      above = λ j x. same j (omega arith) ∙ g .above j (omega arith);
+    }
+
+pub cutting-done : {work₀ : List ℕ} {height mark : ℕ} {work : List ℕ} {h i : ℕ} → Cutting work₀ height mark work h i → height ≤ i → stackOf work h ≡ cutTo mark (stackOf work₀ height)
+cutting-done {work₀} {height} {mark} {work} {h} {i} g l = let z : i ≡ height = omega (arith, g .below) in rw (length-stackOf work₀ height, ← z) (g .cuts)
+
+-- nothing stands above the mark
+pub cut-none : (work : List ℕ) (height mark : ℕ) → height ≤ mark → stackOf work height ≡ cutTo mark (stackOf work height)
+unfolding cut
+cut-none work height mark l = let z : height - mark ≡ 0 = omega arith in rw (length-stackOf work height, z)

@@ -45,6 +45,13 @@ pub data Instruction : Type 0 where
   loops : (repeat : ℕ) → Instruction
   runs : (repeat : ℕ) → Instruction
   ends : Instruction
+  breaks : (place next : ℕ) → Instruction  -- `\R`
+  -- held parts and looking ahead: the register holds how many frames there were when the part was entered; the one behind it, where that was
+  marks : (register body : ℕ) → Instruction  -- one is entered
+  keeps : (register next : ℕ) → Instruction  -- the inner end of a held part
+  returns : (register next : ℕ) → Instruction  -- of looking ahead
+  forbids : (register body next : ℕ) → Instruction  -- negative looking ahead is entered
+  refutes : (register place : ℕ) → Instruction  -- its inner end
 
 -- Reading numbers -----------------------------------------------------------
 
@@ -96,7 +103,13 @@ decodeAs (suc (suc (suc (suc (suc (suc (suc (suc zero)))))))) p pc = loops (pc +
 decodeAs (suc (suc (suc (suc (suc (suc (suc (suc (suc zero))))))))) p pc = ends
 decodeAs (suc (suc (suc (suc (suc (suc (suc (suc (suc (suc zero)))))))))) p pc = runs (pc + 2)
 decodeAs (suc (suc (suc (suc (suc (suc (suc (suc (suc (suc (suc zero))))))))))) p pc = tests (sameAs (foldedOf (getD p (pc + 4) 0)) (getD p (pc + 3) 0)) (getD p (pc + 2) 0) (getD p (pc + 1) 0)
-decodeAs (suc (suc (suc (suc (suc (suc (suc (suc (suc (suc (suc (suc n)))))))))))) p pc = ends
+decodeAs (suc (suc (suc (suc (suc (suc (suc (suc (suc (suc (suc (suc zero)))))))))))) p pc = breaks (getD p (pc + 2) 0) (getD p (pc + 1) 0)
+decodeAs (suc (suc (suc (suc (suc (suc (suc (suc (suc (suc (suc (suc (suc zero))))))))))))) p pc = marks (getD p (pc + 2) 0) (getD p (pc + 1) 0)
+decodeAs (suc (suc (suc (suc (suc (suc (suc (suc (suc (suc (suc (suc (suc (suc zero)))))))))))))) p pc = keeps (getD p (pc + 2) 0) (getD p (pc + 1) 0)
+decodeAs (suc (suc (suc (suc (suc (suc (suc (suc (suc (suc (suc (suc (suc (suc (suc zero))))))))))))))) p pc = returns (getD p (pc + 2) 0) (getD p (pc + 1) 0)
+decodeAs (suc (suc (suc (suc (suc (suc (suc (suc (suc (suc (suc (suc (suc (suc (suc (suc zero)))))))))))))))) p pc = forbids (getD p (pc + 2) 0) (getD p (pc + 1) 0) (getD p (pc + 3) 0)
+decodeAs (suc (suc (suc (suc (suc (suc (suc (suc (suc (suc (suc (suc (suc (suc (suc (suc (suc zero))))))))))))))))) p pc = refutes (getD p (pc + 2) 0) (getD p (pc + 3) 0)
+decodeAs (suc (suc (suc (suc (suc (suc (suc (suc (suc (suc (suc (suc (suc (suc (suc (suc (suc (suc n)))))))))))))))))) p pc = ends
 
 unfoldable pub decode : Program → ℕ → Instruction
 decode p pc = decodeAs (getD p pc 0) p pc
@@ -107,7 +120,7 @@ decode p pc = decodeAs (getD p pc 0) p pc
 abbrev pub RepeatFits : Program → ℕ → Type 0
 RepeatFits p q = (q + 6 ≤ length p) × (getD p (q + 3) 0 + 2 ≤ registers)
 
--- the numbers of the node at pc, and the registers that it names; no node is of the kind 2, or of one above 11
+-- the numbers of the node at pc, and the registers that it names; no node is of the kind 2, or of one above 17
 abbrev pub FitsAs : ℕ → Program → ℕ → Type 0
 FitsAs zero p pc = pc + 11 ≤ length p
 FitsAs (suc zero) p pc = pc + 4 ≤ length p
@@ -121,7 +134,13 @@ FitsAs (suc (suc (suc (suc (suc (suc (suc (suc zero)))))))) p pc = RepeatFits p 
 FitsAs (suc (suc (suc (suc (suc (suc (suc (suc (suc zero))))))))) p pc = Unit {0}
 FitsAs (suc (suc (suc (suc (suc (suc (suc (suc (suc (suc zero)))))))))) p pc = (pc + 8 ≤ length p) × (getD p (pc + 6) 0 + 11 ≤ length p)
 FitsAs (suc (suc (suc (suc (suc (suc (suc (suc (suc (suc (suc zero))))))))))) p pc = (pc + 5 ≤ length p) × (getD p (pc + 3) 0 + 2 ≤ spansLength)
-FitsAs (suc (suc (suc (suc (suc (suc (suc (suc (suc (suc (suc (suc n)))))))))))) p pc = ⊥
+FitsAs (suc (suc (suc (suc (suc (suc (suc (suc (suc (suc (suc (suc zero)))))))))))) p pc = pc + 3 ≤ length p
+FitsAs (suc (suc (suc (suc (suc (suc (suc (suc (suc (suc (suc (suc (suc zero))))))))))))) p pc = (pc + 3 ≤ length p) × (getD p (pc + 2) 0 + 2 ≤ registers)
+FitsAs (suc (suc (suc (suc (suc (suc (suc (suc (suc (suc (suc (suc (suc (suc zero)))))))))))))) p pc = (pc + 3 ≤ length p) × (getD p (pc + 2) 0 + 2 ≤ registers)
+FitsAs (suc (suc (suc (suc (suc (suc (suc (suc (suc (suc (suc (suc (suc (suc (suc zero))))))))))))))) p pc = (pc + 3 ≤ length p) × (getD p (pc + 2) 0 + 2 ≤ registers)
+FitsAs (suc (suc (suc (suc (suc (suc (suc (suc (suc (suc (suc (suc (suc (suc (suc (suc zero)))))))))))))))) p pc = (pc + 4 ≤ length p) × (getD p (pc + 2) 0 + 2 ≤ registers)
+FitsAs (suc (suc (suc (suc (suc (suc (suc (suc (suc (suc (suc (suc (suc (suc (suc (suc (suc zero))))))))))))))))) p pc = (pc + 4 ≤ length p) × (getD p (pc + 2) 0 + 2 ≤ registers)
+FitsAs (suc (suc (suc (suc (suc (suc (suc (suc (suc (suc (suc (suc (suc (suc (suc (suc (suc (suc n)))))))))))))))))) p pc = ⊥
 
 pub record Fits (p : Program) (pc : ℕ) : Type 0 where
   pub here : pc < length p

@@ -4,6 +4,7 @@ pub mod Registers
 pub mod Run
 pub mod Rounds
 pub mod Extent
+pub mod Breaks
 pub mod Walk
 pub mod Stack
 pub mod Loop

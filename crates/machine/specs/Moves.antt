@@ -2,6 +2,7 @@
 -- node, and emits the events of the walk.
 use mathlib.Core.Path.{_≡_}
 use mathlib.Core.List.{List, [], _∷_}
+use mathlib.Core.Logic.{_⊎_}
 use mathlib.Core.Bool.{Bool, true, false, _&&_}
 use Prim.Native.Nat.{ℕ, zero, suc, _+_, _-_, _<_, min}
 use lib.ListN.{length, getD, set, take, drop}
@@ -12,12 +13,14 @@ use Rattle.syntax.specs.declared.Most.{Most}
 use Rattle.syntax.specs.declared.Most.the-variants.{AtMost, Unlimited}
 use Rattle.syntax.specs.Limits.{unset, boundLimit, spansLength}
 use Rattle.syntax.specs.Read.{byte}
+use Rattle.syntax.specs.Sets.{single, only, inClass}
+use Rattle.syntax.specs.Tree.{returnOrFeeds}
 use Rattle.semantics.specs.Assertions.{holds}
 use Rattle.semantics.specs.States.{State, moved}
 use Rattle.semantics.specs.Items.{Tried, fails, goes, when, refer, paidFor}
 use Rattle.semantics.specs.Repeats.{Next, round, leave, either, isFull, decision}
 use Rattle.semantics.specs.Walk.{Event, step, miss, end, Trace}
-use Rattle.machine.specs.Code.{Program, Test, inSet, holding, sameAs, Repeat, Instruction, tests, opens, closes, branches, lastBranch, enters, loops, runs, ends, repeatAt, decode, Fits}
+use Rattle.machine.specs.Code.{Program, Test, inSet, holding, sameAs, Repeat, Instruction, tests, opens, closes, branches, lastBranch, enters, loops, runs, ends, breaks, marks, keeps, returns, forbids, refutes, repeatAt, decode, Fits}
 
 -- no byte of a subject is above 255
 abbrev pub Bytes : List ℕ → Type 0
@@ -76,11 +79,18 @@ saved regs i = undo i (getD regs i 0) (getD regs (i + 1) 0)
 abbrev pub state : ℕ → List ℕ → State
 state at regs = record { at = at; spans = take spansLength regs; path = [] }
 
--- an event as the machine sees it: it keeps no choices
+-- an event as the machine mostly sees it: it keeps no choices
 abbrev pub shown : Event → Event
 shown step = step
 shown (miss place at) = miss place at
 shown (end s) = end (record { at = s .at; spans = s .spans; path = [] })
+
+-- The machine may show o for the event e of the walk. A `(?!` is entered by a plain step: that it fails, and so was an item that failed, is seen
+-- only at its inner end.
+abbrev pub Shows : (o e : Event) → Type 0
+Shows o step = o ≡ step
+Shows o (miss place at) = (o ≡ miss place at) ⊎ (o ≡ step)
+Shows o (end s) = o ≡ shown (end s)
 
 -- Going on -------------------------------------------------------------------
 
@@ -94,6 +104,23 @@ goSet i a b pc at regs st = go pc at (set2 regs i a b) (saved regs i ∷ st)
 -- begin round n of a repeat
 unfoldable pub begin : Repeat → ℕ → ℕ → List ℕ → Stack → Now
 begin q n at regs st = goSet (q .register) n at (q .body) at regs st
+
+-- a frame on top of others if it undoes a change of registers; a choice is given up
+abbrev pub keep : Frame → Stack → Stack
+keep (explore pc at) st = st
+keep (again q n at) st = st
+keep (undo i a b) st = undo i a b ∷ st
+keep (stretch pc high low) st = st
+
+-- the newest n frames without the choices among them
+unfoldable pub cut : ℕ → Stack → Stack
+cut zero st = st
+cut (suc n) [] = []
+cut (suc n) (f ∷ st) = keep f (cut n st)
+
+-- those above the height h
+abbrev pub cutTo : ℕ → Stack → Stack
+cutTo h st = cut (length st - h) st
 
 -- Rounds are counted up to the greatest bound: no decision changes above it, and the count stays small whatever the subject.
 unfoldable pub bump : ℕ → ℕ
@@ -154,6 +181,18 @@ unfoldable pub endsOf : Bool → (pc high low : ℕ) → Stack → Stack
 endsOf true pc high low st = st
 endsOf false pc high low st = stretch pc high low ∷ st
 
+-- Breaks ----------------------------------------------------------------------
+
+-- the three byte items of `\R`, in the order in which it tries them
+abbrev pub isReturn : ℕ → Bool
+isReturn b = inClass false (only (single 0x0D)) b
+
+abbrev pub isFeed : ℕ → Bool
+isFeed b = inClass false (only (single 0x0A)) b
+
+abbrev pub isBreak : ℕ → Bool
+isBreak b = inClass false returnOrFeeds b
+
 -- Moves -----------------------------------------------------------------------
 
 module _ (p : Program) where
@@ -187,6 +226,17 @@ module _ (p : Program) where
     after = fall regs (endsOf (ltb k (q .least)) (q .next) (at + k) (at + q .least) st);
   }
 
+  -- the second branch of `\R`, whose byte is there or not, behind what the first branch emitted
+  unfoldable pub brokeAlone : Bool → (place next at : ℕ) → List ℕ → Stack → (Trace → Trace) → Move
+  brokeAlone true place next at regs st before = record { first = step; more = step ∷ before (step ∷ step ∷ step ∷ []); after = go next (suc at) regs st }
+  brokeAlone false place next at regs st before = record { first = step; more = step ∷ before (step ∷ miss place at ∷ []); after = fall regs st }
+
+  -- `\R` at a position, by whether the bytes of its three items are there: it is entered, and its first branch, a return and a feed, is begun
+  unfoldable pub broke : (return feed alone : Bool) → (place next at : ℕ) → List ℕ → Stack → Move
+  broke true true alone place next at regs st = record { first = step; more = step ∷ step ∷ step ∷ step ∷ []; after = go next (suc (suc at)) regs st }
+  broke true false alone place next at regs st = brokeAlone alone place next at regs st (λ es. step ∷ miss place (suc at) ∷ es)
+  broke false feed alone place next at regs st = brokeAlone alone place next at regs st (λ es. miss place at ∷ es)
+
   module _ (sub : List ℕ) where
     -- the bytes that a run takes: its body is the node of a byte item
     unfoldable pub bytesOf : Repeat → (n at : ℕ) → ℕ
@@ -202,6 +252,12 @@ module _ (p : Program) where
     carryOut (loops q) at regs st = emitting step (decides q (getD regs (repeatAt p q .register) 0) (eqb (getD regs (repeatAt p q .register + 1) 0) at) at regs st)
     carryOut (runs q) at regs st = ran (repeatAt p q) (bytesOf (repeatAt p q) 0 at) at regs st
     carryOut ends at regs st = emitting (end (state at regs)) (fall regs st)
+    carryOut (breaks place next) at regs st = broke (takes sub isReturn at) (takes sub isFeed (suc at)) (takes sub isBreak at) place next at regs st
+    carryOut (marks i body) at regs st = emitting step (goSet i (length st) at body at regs st)
+    carryOut (keeps i next) at regs st = emitting step (go next at regs (cutTo (getD regs i 0) st))
+    carryOut (returns i next) at regs st = emitting step (go next (getD regs (i + 1) 0) regs (cutTo (getD regs i 0) st))
+    carryOut (forbids i body next) at regs st = emitting step (goSet i (length st) at body at regs (explore next at ∷ st))
+    carryOut (refutes i place) at regs st = emitting step (fall regs (cutTo (getD regs i 0) st))
 
     unfoldable pub move : Configuration → Move
     move c = carryOut (decode p (c .pc)) (c .at) (c .regs) (c .stack)
@@ -211,6 +267,6 @@ module _ (p : Program) where
     Emits [] (idle regs) [] = Unit {0}
     Emits [] (idle regs) (e ∷ t) = ⊥
     Emits [] (busy c) [] = ⊥
-    Emits [] (busy c) (e ∷ t) = Fits p (c .pc) × (move c .first ≡ shown e) × Emits (move c .more) (move c .after) t
+    Emits [] (busy c) (e ∷ t) = Fits p (c .pc) × Shows (move c .first) e × Emits (move c .more) (move c .after) t
     Emits (o ∷ os) now [] = ⊥
-    Emits (o ∷ os) now (e ∷ t) = (o ≡ shown e) × Emits os now t
+    Emits (o ∷ os) now (e ∷ t) = Shows o e × Emits os now t

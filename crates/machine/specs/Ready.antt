@@ -1,9 +1,8 @@
 -- Running to the next end: when the machine can, and what it then finds, in terms of the trace.
 use mathlib.Core.Path.{_≡_}
-use mathlib.Core.Logic.{_⊎_}
 use mathlib.Core.List.{List, [], _∷_}
 use mathlib.Core.Bool.{Bool, false}
-use Prim.Native.Nat.{ℕ, zero, suc, _+_, _*_, _-_, _≤_, _<_}
+use Prim.Native.Nat.{ℕ, zero, suc, _+_, _*_, _-_, _^_, _≤_, _<_}
 use lib.ListN.{length, getD, take}
 use Rattle.syntax.specs.Limits.{spansLength, registers}
 use Rattle.semantics.specs.States.{State}
@@ -35,11 +34,11 @@ until (suc left) used (end s ∷ t) = ended (suc used) s t
 
 -- Nodes in a row ----------------------------------------------------------------
 
--- a run, or a reference
+-- what is no end, and has a number above it: runs, references, breaks, and the nodes of held parts and looking ahead
 abbrev pub Several : ℕ → Type 0
-Several kind = (kind ≡ 10) ⊎ (kind ≡ 11)
+Several kind = 10 ≤ kind
 
--- nodes, none of them an end, lead from here to there in n steps: a run and a reference take one for each of their events, any other node one
+-- nodes, none of them an end, lead from here to there in n steps: each takes one for each of its events, those below 9 one
 pub data Leads (p sub : List ℕ) (here : Now) : (n : ℕ) → (there : Now) → Type 0 where
   stay : Leads p sub here 0 here
   onward : {n : ℕ} {c : Configuration} → Leads p sub here n (busy c) → getD p (c .pc) 0 ≤ 8 → Leads p sub here (suc n) (move p sub c .after)
@@ -49,7 +48,7 @@ pub data Leads (p sub : List ℕ) (here : Now) : (n : ℕ) → (there : Now) →
 abbrev pub Overruns : (p sub : List ℕ) → (here : Now) → (left : ℕ) → Type 0
 Overruns p sub here left = (n : ℕ) × (there : Now) × (left < n) × Leads p sub here n there
 
--- How a run or a reference went: some of the steps that are left lead to where the machine stands, with these registers and this work area; or they
+-- How a node of several steps went: some of the steps that are left lead to where the machine stands, with these registers and this work area; or they
 -- are too few.
 abbrev pub RanBy : (p sub : List ℕ) → (here : Now) → (left : ℕ) → (regs work : List ℕ) → Ran → Type 0
 RanBy p sub here left regs work (Made n m) = (1 ≤ n) × (n ≤ left) × Leads p sub here n (nowOf regs work m)
@@ -102,11 +101,13 @@ origin (busy c) = replay (c .regs) (c .stack)
 -- Ready -------------------------------------------------------------------------
 
 -- The machine can run for `budget` steps over a work area of `room` numbers: it emits t, all that it reads and writes stays in range, and
--- once nothing is left the registers are `first`. A frame takes four numbers, and a move adds at most two frames.
+-- once nothing is left the registers are `first`. A frame takes four numbers, and a move adds at most two frames; how
+-- many there are fits into a register.
 pub record Ready (p sub : List ℕ) (room budget : ℕ) (first : List ℕ) (now : Now) (t : Trace) : Type 0 where
   pub emits : Emits p sub [] now t
   pub fits : StackFits p (frames now)
   pub low : 4 * length (frames now) + 8 * budget ≤ room
+  pub short : length (frames now) + 2 * budget < 2 ^ 32
   pub back : origin now ≡ first
 
 -- At an end with the state s, reached after `used` steps: the machine's numbers are the state's, and falling back makes it ready again, for

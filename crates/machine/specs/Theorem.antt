@@ -4,7 +4,7 @@
 -- ready again (`resumes`). Where nothing is left (`at-nothing`) the registers are as they were, clear for the next start.
 use mathlib.Core.Path.{_≡_, refl, sym}
 use mathlib.Core.List.{List, [], _∷_}
-use Prim.Native.Nat.{ℕ, zero, suc, _*_, _-_, _≤_, _<_}
+use Prim.Native.Nat.{ℕ, zero, suc, _*_, _-_, _^_, _≤_, _<_}
 use native.Mathlib.Omega.{arith}
 use lib.ListN.{length, getD, take, replicate, length-replicate}
 use Rattle.syntax.specs.Limits.{unset, workPerStep, spansLength, registers}
@@ -49,13 +49,14 @@ end-inside [] e = absurd (omega arith)
 end-inside (n ∷ p) e = omega arith
 
 -- Two frames for each step are room enough.
-pub begins : (p sub : List ℕ) (x : Rule) (pc start budget room : ℕ) (regs : List ℕ) → Stands p x pc → Bytes sub → Clear regs → start ≤ length sub → 8 * budget ≤ room
+pub begins : (p sub : List ℕ) (x : Rule) (pc start budget room : ℕ) (regs : List ℕ) → Stands p x pc → Bytes sub → Clear regs → start ≤ length sub → 8 * budget ≤ room → 2 * budget < 2 ^ 32
     → Ready p sub room budget regs (go pc start regs []) (trace sub x start)
 unfolding starting trace replay
-begins p sub x pc start budget room regs h bytes clear inside wide = record {
+begins p sub x pc start budget room regs h bytes clear inside wide short = record {
   emits = whole p sub (h .low) (h .high) (h .within) bytes x pc 0 (starting start) regs (h .compiled) (end-inside p (h .end), h .end) (record { inside = inside; size = clear .size; spans = sym (clear .spans) });
   fits = tt;
   low = omega arith;
+  short = omega arith;
   back = refl;
 }
 

@@ -1,8 +1,8 @@
 // The machine that walks a compiled rule over a subject, and falls back on what is left to try: its model and the laws of it, in `specs`, and in
 // code where it stands and its stack. Crates above carry out the nodes.
 //
-// One node of the rule is one step of the walk, but for a run, which makes the steps of its rounds, and a reference, which makes one more for each
-// byte that it compares. A step pushes at most two frames of four numbers, so that eight numbers a step are always room enough for the stack. Each
+// One node of the rule is one step of the walk, but for a run, which makes the steps of its rounds, a reference, which makes one more for each
+// byte that it compares, and `\R`, which makes those of the part that it stands for. A step pushes at most two frames of four numbers, so that eight numbers a step are always room enough for the stack. Each
 // change of a register is undone by a frame: when a walk has ended the registers are as they were, and nothing is cleared between starts. Falling
 // back costs no step: what it takes off, steps have pushed.
 //
@@ -19,13 +19,15 @@ mod stack;
 pub use stack::AGAIN;
 pub use stack::begin_over;
 pub use stack::begin_round;
+pub use stack::cut_to;
 pub use stack::fall_back;
 pub use stack::go_down;
 pub use stack::push;
 pub use stack::push_explore;
 pub use stack::save_and_write;
 
-// The kinds of the nodes that several crates ask for: a byte item, the end of a group, a branch that is not the last, the rule's end, and a run.
+// The kinds of the nodes that several crates ask for: a byte item, the end of a group, a branch that is not the last, the rule's end, a run, a reference,
+// and `\R`.
 pub const BYTE: u32 = 0;
 
 pub const CLOSE: u32 = 4;
@@ -35,6 +37,10 @@ pub const BRANCH: u32 = 5;
 pub const END: u32 = 9;
 
 pub const RUN: u32 = 10;
+
+pub const REFERENCE: u32 = 11;
+
+pub const BREAK: u32 = 12;
 
 // Where the machine stands: at a node and a position, over so many frames in the work area; or, if it is not live, nothing is left to try.
 pub struct Machine {

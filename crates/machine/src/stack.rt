@@ -7,8 +7,8 @@ ghost use Prim.Native.Nat.{ℕ, _+_, _*_, _≤_};
 ghost use lib.ListN.{length, getD};
 ghost use Rattle.syntax.specs.Limits.{registers};
 ghost use Rattle.machine.specs.Code.{repeatAt};
-ghost use Rattle.machine.specs.Moves.{explore, set2, saved, go, goSet, begin, below, fall};
-ghost use Rattle.machine.specs.Words.{frameOf, stackOf, nowOf, Counted};
+ghost use Rattle.machine.specs.Moves.{explore, set2, saved, go, goSet, begin, keep, cutTo, below, fall};
+ghost use Rattle.machine.specs.Words.{frameOf, frameAt, stackOf, nowOf, Counted};
 ghost use Rattle.machine.specs.Ready.{StackFits, Undone};
 
 // The kinds of frames.
@@ -23,7 +23,8 @@ const UNDO: u32 = 3;
 // A frame goes onto the stack.
 pub fn push(work: &mut [u32], height: usize, kind: u32, a: u32, b: u32, c: u32) -> usize
     requires { ⌜ 4 * height + 4 ≤ length (now work) ⌝ }
-    ensures { λ r. ⌜ (r ≡ height + 1) × (stackOf (now (work .exit)) (height + 1) ≡ frameOf kind a b c ∷ stackOf (now (work .entry)) height) ⌝ }
+    ensures { λ r. ⌜ (r ≡ height + 1) × (stackOf (now (work .exit)) (height + 1) ≡ frameOf kind a b c ∷ stackOf (now (work .entry)) height)
+        × ((j : ℕ) → 4 * height + 4 ≤ j → getD (now (work .exit)) j 0 ≡ getD (now (work .entry)) j 0) ⌝ }
 {
     let w = 4 * height;
     work[w] = kind;
@@ -217,4 +218,39 @@ pub fn fall_back(code: &[u32], regs: &mut [u32], work: &mut [u32], height: usize
         return begin_round(code, regs, work, q, b, c, h);
     }
     go_down(work, a, b, c, h)
+}
+
+// The frame `i` is put on top of `h` others below it, if it undoes a change of registers.
+fn keep_undo(work: &mut [u32], h: usize, i: usize) -> usize
+    requires { ⌜ (h ≤ i) × (4 * i + 4 ≤ length (now work)) ⌝ }
+    ensures { λ r. ⌜ (r ≤ h + 1) × (stackOf (now (work .exit)) r ≡ keep (frameAt (now (work .entry)) i) (stackOf (now (work .entry)) h))
+        × ((j : ℕ) → 4 * i + 4 ≤ j → getD (now (work .exit)) j 0 ≡ getD (now (work .entry)) j 0) ⌝ }
+{
+    let w = 4 * i;
+    let kind = work[w];
+    if kind < UNDO {
+        return h;
+    }
+    let a = work[w + 1];
+    let b = work[w + 2];
+    let c = work[w + 3];
+    push(work, h, kind, a, b, c)
+}
+
+// Gives up the choices above the height `mark`, and keeps what undoes changes of registers. A frame is looked at once for each held part that it lies in.
+pub fn cut_to(work: &mut [u32], height: usize, mark: usize) -> usize
+    requires { ⌜ 4 * height ≤ length (now work) ⌝ }
+    ensures { λ r. ⌜ (r ≤ height) × (stackOf (now (work .exit)) r ≡ cutTo mark (stackOf (now (work .entry)) height)) ⌝ }
+{
+    if height <= mark {
+        return height;
+    }
+    let mut h = mark;
+    let mut i = mark;
+    while i < height {
+        let kept = keep_undo(work, h, i);
+        h = kept;
+        i += 1;
+    }
+    h
 }

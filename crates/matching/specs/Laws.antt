@@ -1,2 +1,3 @@
 -- Facts about what a match tells.
 pub mod Outcomes
+pub mod Registers

@@ -1,6 +1,5 @@
 -- References: what is known after some bytes were the same, and where a reference's steps lead. Assumes nothing.
 use mathlib.Core.Path.{_≡_, refl, sym, _∙_}
-use mathlib.Core.Logic.{inr}
 use mathlib.Core.List.{List}
 use mathlib.Core.Bool.{Bool, true, false, not, _&&_}
 use Prim.Native.Nat.{ℕ, zero, suc, _+_, _-_, _≤_, _<_}
@@ -161,7 +160,7 @@ module _ (p sub regs work : List ℕ) (m : Machine) (left : ℕ) (is : getD p (m
   moves = rw (move-reference p sub (configurationOf regs work m) is, span-at slot (omega arith), span-at (slot + 1) (omega arith))
 
   led : (y : Tried) → refer folded sub from to (state (m .at) regs) ≡ y → Leads p sub here (suc (length (made y .more))) (made y .after)
-  led y e = rw live (leads-several p sub (configurationOf regs work m) (made y) (inr is) (rw (← e) moves))
+  led y e = rw live (leads-several p sub (configurationOf regs work m) (made y) (omega (arith, is)) (rw (← e) moves))
 
   module _ (k : ℕ) (paying : paidFor folded sub from to (m .at) ≡ k) where
     led-back : refer folded sub from to (state (m .at) regs) ≡ fails → Leads p sub here (1 + k) (fall p regs stack)

@@ -63,7 +63,7 @@ a { that begins no repeat, or a repeat over 255 or with its bounds the wrong way
 a repeat of a repeat\n\
 this bracket is not closed by )\n\
 a ) that closes nothing\n\
-(? is followed by neither : nor <\n\
+(? is followed by none of : < > = and !\n\
 one group too many; a rule has at most \n\
 the 25th bracket inside another; they nest at most 24 deep\n\
 a name is missing, malformed or not closed\n\

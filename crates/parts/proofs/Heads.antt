@@ -1,5 +1,5 @@
 -- The opening of a group: which case of the grammar follows from the bytes that the code met, and what the table of names then spells.
-use mathlib.Core.Path.{_≡_, refl, ap, sym, subst, _∙_}
+use mathlib.Core.Path.{_≡_, refl, ap, subst, _∙_}
 use mathlib.Core.Bool.{Bool, true, false, not, _&&_, _||_}
 use mathlib.Core.List.{List, [], _∷_}
 use Prim.Native.Nat.{ℕ, zero, suc, _+_, _-_, _*_, _≤_, _<_}
@@ -10,26 +10,27 @@ use borrow.Author.Tests.{ne-eqb, lt-ltb, le-ltb}
 use lib.Dec.{eqb, ltb}
 use lib.ListN.{length, getD}
 use lib.Seq.{slice, slice-empty}
+use Rattle.syntax.specs.declared.Form.{Form}
+use Rattle.syntax.specs.declared.Form.the-variants.{Grouped, Captured, Held, Ahead, NotAhead}
 use Rattle.syntax.specs.declared.Reason.the-variants.{UnknownGroup, TooManyGroups, TooDeep, NameTwice}
 use Rattle.syntax.specs.declared.Refusal.{Refusal}
 use Rattle.syntax.specs.Limits.{groupLimit, spansLength}
 use Rattle.syntax.specs.Read.{if_then_else_, byte, is, Read, sound, refused, andThen}
 use Rattle.syntax.specs.Sets.{sameBytes}
-use Rattle.syntax.specs.Tree.{Rule, group}
+use Rattle.syntax.specs.Tree.{Rule, enclosed}
 use Rattle.syntax.specs.Names.{Name, Names, wordAt, isName, nameUpTo, isUsed, fresh, groupCalled}
-use Rattle.syntax.specs.Grammar.{Inner, closing, capturing, grouped, alternation, inside}
+use Rattle.syntax.specs.Grammar.{Inner, closing, capturing, uncaptured, grouped, alternation, inside}
 use Rattle.syntax.specs.Laws.Forward.{Given, Past, if-given}
 use Rattle.lexemes.specs.declared.NameRead.{NameRead}
 use Rattle.lexemes.specs.declared.NameRead.the-variants.{Named, BadName}
 use Rattle.lexemes.specs.Says.{Peeked, SaysName, SaysNameUpTo}
 use Rattle.linker.specs.Table.{namesIn, NamesFit, length-names}
 use Rattle.parts.specs.declared.Bracket.{Bracket}
-use Rattle.parts.specs.declared.Bracket.the-variants.{Begins, Unknown}
+use Rattle.parts.specs.declared.Bracket.the-variants.{Captures, Begins, Unknown}
 use Rattle.parts.specs.declared.Opening.{Opening}
 use Rattle.parts.specs.declared.Opening.the-variants.{Opens, Unopened}
 use Rattle.writer.specs.Wrote.{Wrote}
-use Rattle.parts.specs.Says.{grouping, headOf, Bracketed, SaysBracket, SaysHead, SaysOpening}
-use Rattle.parts.proofs.Parentheses.{grouping-some}
+use Rattle.parts.specs.Says.{FormFits, headOf, Bracketed, SaysBracket, SaysHead, SaysOpening}
 
 -- What group it is ------------------------------------------------------------------
 
@@ -46,21 +47,12 @@ few-no n h = le-ltb n groupLimit h
 next-few : (n : ℕ) → n < groupLimit → n + 1 ≤ groupLimit
 next-few n h = omega arith
 
-pub head-none : (s : List ℕ) (at : ℕ) (names : Names) (start number : ℕ) (named : Bool) → number ≡ 0 → headOf s at names start number named ≡ sound names start
-unfolding headOf
-head-none s at names start number named e = rw e
-
-pub head-some : (s : List ℕ) (at : ℕ) (names : Names) (start number : ℕ) (named : Bool) → (number ≡ 0 → ⊥)
-    → headOf s at names start number named ≡ andThen (if named then fresh at names (nameUpTo ">" s at start) else sound [] start) (λ n next. sound (n ∷ names) next)
-unfolding headOf
-head-some s at names start number named ne = rw (ne-eqb number 0 ne)
-
 -- a group that captures has the number behind those opened
 module _ (s : List ℕ) (inner : Inner) (at : ℕ) (names : Names) (name : Read Name) {opened : ℕ} (n : length names ≡ opened) where
-  number-next : (t : Rule) → group (suc (length names)) t ≡ grouping (opened + 1) t
-  number-next t = let z : suc (length names) ≡ opened + 1 = omega arith in ap (λ (k : ℕ). group k t) z ∙ sym (grouping-some (opened + 1) t (λ e. omega arith))
+  number-next : (t : Rule) → enclosed (Captured (suc (length names))) at t ≡ enclosed (Captured (opened + 1)) at t
+  number-next t = let z : suc (length names) ≡ opened + 1 = omega arith in ap (λ (k : ℕ). enclosed (Captured k) at t) z
 
-  capture-some : opened < groupLimit → capturing s inner at names name ≡ andThen (inner at (andThen name (λ m next. sound (m ∷ names) next))) (λ r end. closing s at (grouping (opened + 1) (r .0)) (r .1) end)
+  capture-some : opened < groupLimit → capturing s inner at names name ≡ andThen (inner at (andThen name (λ m next. sound (m ∷ names) next))) (λ r end. closing s at (enclosed (Captured (opened + 1)) at (r .0)) (r .1) end)
   unfolding capturing
   capture-some h =
       let few : ltb (length names) groupLimit ≡ true = few-yes (length names) (omega arith) in
@@ -70,47 +62,64 @@ module _ (s : List ℕ) (inner : Inner) (at : ℕ) (names : Names) (name : Read 
   unfolding capturing
   capture-many h = let many : ltb (length names) groupLimit ≡ false = few-no (length names) (omega arith) in rw many
 
-module _ {s : List ℕ} {at b : ℕ} (opened : ℕ) (p : Peeked s (at + 1) b) (l : at < length s) where
-  module _ {d : ℕ} (e : b ≡ 63) (q : Peeked s (at + 2) d) where
-    pub bracket-plain : d ≡ 58 → Bracketed s at opened (at + 3) 0 false
-    unfolding grouped grouping headOf
-    bracket-plain f = record { on = omega arith; within = omega arith; captures = λ ne. absurd (ne refl); numbered = omega arith; goes = λ inner names n. rw (← p .is, e, ← q .is, f) }
+-- behind `(?`
+module _ {s : List ℕ} {d : ℕ} (at opened : ℕ) (p : Peeked s (at + 1) 63) (q : Peeked s (at + 2) d) where
+  bracket-form : (form : Form) → FormFits form → d < 256 → ((inner : Inner) (names : Names) → grouped s inner at names ≡ uncaptured s inner at names form) → SaysBracket s at opened (Begins (at + 3) form)
+  unfolding uncaptured
+  bracket-form form f l e = record { on = omega arith; within = omega (arith, q .near); numbered = f; goes = λ inner names n. e inner names }
 
-    pub bracket-unknown : (d ≡ 58 → ⊥) → (d ≡ 60 → ⊥) → (inner : Inner) (names : Names) → length names ≡ opened → grouped s inner at names ≡ refused at UnknownGroup
-    unfolding grouped
-    bracket-unknown f g inner names n = rw (← p .is, e, ← q .is) (simp (ne-eqb d 58 f, ne-eqb d 60 g))
-
-    grouped-named : d ≡ 60 → (inner : Inner) (names : Names) → grouped s inner at names ≡ capturing s inner at names (fresh at names (nameUpTo ">" s at (at + 3)))
-    unfolding grouped
-    grouped-named f inner names = rw (← p .is, e, ← q .is, f)
-
-    pub bracket-named : d ≡ 60 → opened < groupLimit → Bracketed s at opened (at + 3) (opened + 1) true
-    bracket-named f few = record {
-      on = omega arith;
-      within = omega arith;
-      captures = λ ne. (refl, next-few opened few);
-      numbered = next-few opened few;
-      goes = λ inner names n. grouped-named f inner names ∙ capture-some s inner at names _ n few ∙ rw (head-some s at names (at + 3) (opened + 1) true (λ z. omega arith));
-    }
-
-    pub named-many : d ≡ 60 → groupLimit ≤ opened → (inner : Inner) (names : Names) → length names ≡ opened → grouped s inner at names ≡ refused at TooManyGroups
-    named-many f many inner names n = grouped-named f inner names ∙ capture-many s inner at names _ n many
-
-  grouped-plainly : (b ≡ 63 → ⊥) → (inner : Inner) (names : Names) → grouped s inner at names ≡ capturing s inner at names (sound [] (at + 1))
+  pub bracket-plain : d ≡ 58 → SaysBracket s at opened (Begins (at + 3) Grouped)
   unfolding grouped
-  grouped-plainly ne inner names = rw (← p .is) (simp (ne-eqb b 63 ne))
+  bracket-plain f = bracket-form Grouped tt (omega arith) (λ inner names. rw (← p .is, ← q .is, f))
 
-  pub bracket-capture : (b ≡ 63 → ⊥) → opened < groupLimit → Bracketed s at opened (at + 1) (opened + 1) false
-  bracket-capture ne few = record {
+  pub bracket-held : d ≡ 62 → SaysBracket s at opened (Begins (at + 3) Held)
+  unfolding grouped
+  bracket-held f = bracket-form Held tt (omega arith) (λ inner names. rw (← p .is, ← q .is, f))
+
+  pub bracket-ahead : d ≡ 61 → SaysBracket s at opened (Begins (at + 3) Ahead)
+  unfolding grouped
+  bracket-ahead f = bracket-form Ahead tt (omega arith) (λ inner names. rw (← p .is, ← q .is, f))
+
+  pub bracket-not-ahead : d ≡ 33 → SaysBracket s at opened (Begins (at + 3) NotAhead)
+  unfolding grouped
+  bracket-not-ahead f = bracket-form NotAhead tt (omega arith) (λ inner names. rw (← p .is, ← q .is, f))
+
+  pub bracket-unknown : (d ≡ 58 → ⊥) → (d ≡ 62 → ⊥) → (d ≡ 61 → ⊥) → (d ≡ 33 → ⊥) → (d ≡ 60 → ⊥) → SaysBracket s at opened (Unknown (record { place = at; reason = UnknownGroup }))
+  unfolding grouped
+  bracket-unknown a b c e f inner names n = rw (← p .is, ← q .is) (simp (ne-eqb d 58 a, ne-eqb d 62 b, ne-eqb d 61 c, ne-eqb d 33 e, ne-eqb d 60 f))
+
+  grouped-named : d ≡ 60 → (inner : Inner) (names : Names) → grouped s inner at names ≡ capturing s inner at names (fresh at names (nameUpTo ">" s at (at + 3)))
+  unfolding grouped
+  grouped-named f inner names = rw (← p .is, ← q .is, f)
+
+  pub bracket-named : d ≡ 60 → opened < groupLimit → SaysBracket s at opened (Captures (at + 3) true)
+  unfolding headOf
+  bracket-named f few = record {
     on = omega arith;
-    within = omega arith;
-    captures = λ x. (refl, next-few opened few);
-    numbered = next-few opened few;
-    goes = λ inner names n. grouped-plainly ne inner names ∙ capture-some s inner at names _ n few ∙ rw (head-some s at names (at + 1) (opened + 1) false (λ z. omega arith));
+    within = omega (arith, q .near);
+    numbered = (omega arith, next-few opened few);
+    goes = λ inner names n. grouped-named f inner names ∙ capture-some s inner at names _ n few;
   }
 
-  pub capture-too-many : (b ≡ 63 → ⊥) → groupLimit ≤ opened → (inner : Inner) (names : Names) → length names ≡ opened → grouped s inner at names ≡ refused at TooManyGroups
-  capture-too-many ne many inner names n = grouped-plainly ne inner names ∙ capture-many s inner at names _ n many
+  pub named-many : d ≡ 60 → groupLimit ≤ opened → SaysBracket s at opened (Unknown (record { place = at; reason = TooManyGroups }))
+  named-many f many inner names n = grouped-named f inner names ∙ capture-many s inner at names _ n many
+
+module _ {s : List ℕ} {at b : ℕ} (opened : ℕ) (p : Peeked s (at + 1) b) (l : at < length s) (ne : b ≡ 63 → ⊥) where
+  grouped-plainly : (inner : Inner) (names : Names) → grouped s inner at names ≡ capturing s inner at names (sound [] (at + 1))
+  unfolding grouped
+  grouped-plainly inner names = rw (← p .is) (simp (ne-eqb b 63 ne))
+
+  pub bracket-capture : opened < groupLimit → SaysBracket s at opened (Captures (at + 1) false)
+  unfolding headOf
+  bracket-capture few = record {
+    on = omega arith;
+    within = omega arith;
+    numbered = (omega arith, next-few opened few);
+    goes = λ inner names n. grouped-plainly inner names ∙ capture-some s inner at names _ n few;
+  }
+
+  pub capture-too-many : groupLimit ≤ opened → SaysBracket s at opened (Unknown (record { place = at; reason = TooManyGroups }))
+  capture-too-many many inner names n = grouped-plainly inner names ∙ capture-many s inner at names _ n many
 
 -- The table -------------------------------------------------------------------------
 
@@ -183,10 +192,11 @@ module _ (s : List ℕ) (at start : ℕ) (n : NameRead) (says : SaysNameUpTo 62 
   module _ (table : List ℕ) (opened : ℕ) where
     -- the head of a group with a name, by the name's reading
     by-name : (a : Read Name) → nameUpTo ">" s at start ≡ a
-        → headOf s at (namesIn s table opened) start (opened + 1) true ≡ andThen (fresh at (namesIn s table opened) a) (λ m next. sound (m ∷ namesIn s table opened) next)
-    by-name a e = head-some s at (namesIn s table opened) start (opened + 1) true (λ z. omega arith) ∙ rw e
+        → headOf s at (namesIn s table opened) start true ≡ andThen (fresh at (namesIn s table opened) a) (λ m next. sound (m ∷ namesIn s table opened) next)
+    unfolding headOf
+    by-name a e = rw e
 
-    pub name-bad : (f : Refusal) → n ≡ BadName f → SaysHead s table start (opened + 1) (headOf s at (namesIn s table opened) start (opened + 1) true) (Unopened f)
+    pub name-bad : (f : Refusal) → n ≡ BadName f → SaysHead s table start (Captured (opened + 1)) (headOf s at (namesIn s table opened) start true) (Unopened f)
     unfolding fresh
     name-bad f e = by-name (refused (f .place) (f .reason)) (said-name (BadName f) e)
 
@@ -197,18 +207,18 @@ module _ (s : List ℕ) (at start : ℕ) (n : NameRead) (says : SaysNameUpTo 62 
       used-is : (b : Bool) → not (eqb same 0) ≡ b → isUsed (slice m (m + len) s) (namesIn s table opened) ≡ b
       used-is b h = used-called (slice m (m + len) s) (namesIn s table opened) ∙ rw (← is) h
 
-      pub name-twice : (same ≡ 0 → ⊥) → SaysHead s table start (opened + 1) (headOf s at (namesIn s table opened) start (opened + 1) true) (Unopened (record { place = at; reason = NameTwice }))
+      pub name-twice : (same ≡ 0 → ⊥) → SaysHead s table start (Captured (opened + 1)) (headOf s at (namesIn s table opened) start true) (Unopened (record { place = at; reason = NameTwice }))
       unfolding fresh
       name-twice ne = by-name (sound (slice m (m + len) s) next) read-name ∙ rw (used-is true (rw (ne-eqb same 0 ne)))
 
       pub name-new : {new : List ℕ} → same ≡ 0 → Wrote table new (2 * opened) 2 (m ∷ len ∷ []) → NamesFit s table opened → opened + 1 ≤ groupLimit → spansLength ≤ length table → length new ≡ length table
-          → SaysHead s new start (opened + 1) (headOf s at (namesIn s table opened) start (opened + 1) true) (Opens next (opened + 1) (opened + 1))
+          → SaysHead s new start (Captured (opened + 1)) (headOf s at (namesIn s table opened) start true) (Opens next (opened + 1) (Captured (opened + 1)))
       unfolding fresh
       name-new {new} z w fit few wide long =
           let y = said-name (Named m len next) e .1 in
           let on = named-on s at start (slice m (m + len) s) next read-name in
           let room = table-room opened table few wide in (
-            record { on = on; within = omega (arith, y .behind, y .closed); few = few; numbered = few; fit = fit-next s opened w fit (λ k. omega (arith, y .closed)) (omega (arith, room, long)) },
+            record { on = on; within = omega (arith, y .behind, y .closed); few = few; numbered = (omega arith, few); fit = fit-next s opened w fit (λ k. omega (arith, y .closed)) (omega (arith, room, long)) },
             refl,
             by-name (sound (slice m (m + len) s) next) read-name ∙ rw (used-is false (rw z)) (rw (names-next s opened w)),
           )
@@ -237,44 +247,54 @@ module _ (s old : List ℕ) (flags depth at opened : ℕ) (b : Bracket) (says : 
   pub opening-unknown : (f : Refusal) → b ≡ Unknown f → SaysOpening s flags depth at (namesIn s old opened) old (Unopened f)
   opening-unknown f e known = bracket-at s at opened b (Unknown f) e says (inside depth s flags known) (namesIn s old opened) long
 
-  module _ {start number : ℕ} {named : Bool} (e : b ≡ Begins start number named) where
-    pub begun : Bracketed s at opened start number named
-    begun = bracket-at s at opened b (Begins start number named) e says
-
-    pub opening-deep : depth ≡ 0 → SaysOpening s flags depth at (namesIn s old opened) old (Unopened (record { place = at; reason = TooDeep }))
-    opening-deep z known = begun .goes (inside depth s flags known) (namesIn s old opened) long ∙ rw (inside-none depth s flags known at (headOf s at (namesIn s old opened) start number named) z)
+  -- a group of a form, by the reading of its head
+  module _ {start : ℕ} {form : Form} {head : Names → Read Names} (begun : Bracketed s at opened start form head) where
+    opening-deep : depth ≡ 0 → SaysOpening s flags depth at (namesIn s old opened) old (Unopened (record { place = at; reason = TooDeep }))
+    opening-deep z known = begun .goes (inside depth s flags known) (namesIn s old opened) long ∙ rw (inside-none depth s flags known at (head (namesIn s old opened)) z)
 
     -- the head's reading settles the group's
-    opening-head : (new : List ℕ) (o : Opening) → (depth ≡ 0 → ⊥) → SaysHead s new start number (headOf s at (namesIn s old opened) start number named) o → SaysOpening s flags depth at (namesIn s old opened) new o
+    opening-head : (new : List ℕ) (o : Opening) → (depth ≡ 0 → ⊥) → SaysHead s new start form (head (namesIn s old opened)) o → SaysOpening s flags depth at (namesIn s old opened) new o
     opening-head new (Opens from next same) some h =
         let g = h .0 in
         let on = begun .on in
         record {
           begins = record { on = omega (arith, g .on); within = g .within; few = g .few; numbered = rw (h .1) (g .numbered); fit = g .fit };
           deep = omega arith;
-          goes = λ known. begun .goes (inside depth s flags known) (namesIn s old opened) long ∙ rw (inside-more depth s flags known at (headOf s at (namesIn s old opened) start number named) some) (rw (h .2, h .1));
+          goes = λ known. begun .goes (inside depth s flags known) (namesIn s old opened) long ∙ rw (inside-more depth s flags known at (head (namesIn s old opened)) some) (rw (h .2, h .1));
         }
     opening-head new (Unopened f) some h = λ known.
-        begun .goes (inside depth s flags known) (namesIn s old opened) long ∙ rw (inside-more depth s flags known at (headOf s at (namesIn s old opened) start number named) some) (rw h)
+        begun .goes (inside depth s flags known) (namesIn s old opened) long ∙ rw (inside-more depth s flags known at (head (namesIn s old opened)) some) (rw h)
 
-    head-plain : number ≡ 0 → opened ≤ groupLimit → NamesFit s old opened → SaysHead s old start number (headOf s at (namesIn s old opened) start number named) (Opens start opened 0)
-    head-plain z few fit =
-        (record { on = omega arith; within = begun .within; few = few; numbered = begun .numbered; fit = fit }, sym z, head-none s at (namesIn s old opened) start number named z)
+  -- one that does not capture
+  module _ {start : ℕ} {form : Form} (e : b ≡ Begins start form) where
+    begun-form : Bracketed s at opened start form (λ names. sound names start)
+    begun-form = bracket-at s at opened b (Begins start form) e says
 
-    pub opening-plain : (depth ≡ 0 → ⊥) → number ≡ 0 → opened ≤ groupLimit → NamesFit s old opened → SaysOpening s flags depth at (namesIn s old opened) old (Opens start opened 0)
-    opening-plain some z few fit = opening-head old (Opens start opened 0) some (head-plain z few fit)
+    pub form-deep : depth ≡ 0 → SaysOpening s flags depth at (namesIn s old opened) old (Unopened (record { place = at; reason = TooDeep }))
+    form-deep z = opening-deep begun-form z
 
-    pub opening-named : (new : List ℕ) (o : Opening) → (depth ≡ 0 → ⊥) → (number ≡ 0 → ⊥) → named ≡ true → SaysHead s new start (opened + 1) (headOf s at (namesIn s old opened) start (opened + 1) true) o
-        → SaysOpening s flags depth at (namesIn s old opened) new o
-    opening-named new o some ne t h = opening-head new o some (rw (begun .captures ne .0, t) h)
+    pub opening-form : (depth ≡ 0 → ⊥) → opened ≤ groupLimit → NamesFit s old opened → SaysOpening s flags depth at (namesIn s old opened) old (Opens start opened form)
+    opening-form some few fit = opening-head begun-form old (Opens start opened form) some (record { on = omega arith; within = begun-form .within; few = few; numbered = begun-form .numbered; fit = fit }, refl, refl)
 
-    pub opening-unnamed : {new : List ℕ} → (depth ≡ 0 → ⊥) → (number ≡ 0 → ⊥) → named ≡ false → Wrote old new (2 * opened) 2 (0 ∷ 0 ∷ []) → NamesFit s old opened → spansLength ≤ length old → length new ≡ length old
-        → SaysOpening s flags depth at (namesIn s old opened) new (Opens start (opened + 1) number)
-    opening-unnamed {new} some ne t w fit wide same =
-        let few = begun .captures ne .1 in
+  -- one that captures
+  module _ {start : ℕ} {named : Bool} (e : b ≡ Captures start named) where
+    pub begun : Bracketed s at opened start (Captured (opened + 1)) (λ names. headOf s at names start named)
+    begun = bracket-at s at opened b (Captures start named) e says
+
+    pub capture-deep : depth ≡ 0 → SaysOpening s flags depth at (namesIn s old opened) old (Unopened (record { place = at; reason = TooDeep }))
+    capture-deep z = opening-deep begun z
+
+    pub opening-named : (new : List ℕ) (o : Opening) → (depth ≡ 0 → ⊥) → named ≡ true → SaysHead s new start (Captured (opened + 1)) (headOf s at (namesIn s old opened) start true) o → SaysOpening s flags depth at (namesIn s old opened) new o
+    opening-named new o some t h = opening-head begun new o some (rw t h)
+
+    pub opening-unnamed : {new : List ℕ} → (depth ≡ 0 → ⊥) → named ≡ false → Wrote old new (2 * opened) 2 (0 ∷ 0 ∷ []) → NamesFit s old opened → spansLength ≤ length old → length new ≡ length old
+        → SaysOpening s flags depth at (namesIn s old opened) new (Opens start (opened + 1) (Captured (opened + 1)))
+    unfolding headOf
+    opening-unnamed {new} some t w fit wide same =
+        let few = begun .numbered .1 in
         let room = table-room opened old few wide in
-        opening-head new (Opens start (opened + 1) number) some (
+        opening-head begun new (Opens start (opened + 1) (Captured (opened + 1))) some (
           record { on = omega arith; within = begun .within; few = few; numbered = begun .numbered; fit = fit-next s opened w fit (λ k. omega arith) (omega (arith, room, same)) },
           refl,
-          head-some s at (namesIn s old opened) start number named ne ∙ rw (t, names-next s opened w, slice-empty 0 s),
+          rw (t, names-next s opened w, slice-empty 0 s),
         )

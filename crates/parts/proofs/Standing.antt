@@ -1,6 +1,6 @@
 -- What stands in the area once a node has been written: a chain with one part more, a group or a repeat around what stood there, a branch.
 use mathlib.Core.Path.{_≡_, refl, ap, sym, _∙_}
-use mathlib.Core.Bool.{Bool}
+use mathlib.Core.Bool.{Bool, true, false}
 use mathlib.Core.List.{List, [], _∷_}
 use mathlib.Core.Logic.{inl, inr}
 use Prim.Native.Nat.{ℕ, _+_, _/_, _%_, _≤_, _<_}
@@ -15,10 +15,10 @@ use Rattle.syntax.specs.declared.Most.{Most}
 use Rattle.syntax.specs.Limits.{slot}
 use Rattle.syntax.specs.Names.{Names, groupCalled}
 use Rattle.syntax.specs.Sets.{Class, inClass}
-use Rattle.syntax.specs.Tree.{byteIn, assert, reference, Rule, empty, item, seq, alt, group, repeat, Branches, one, also, alternatives}
+use Rattle.syntax.specs.Tree.{byteIn, assert, reference, Rule, empty, item, seq, alt, group, repeat, held, look, Branches, one, also, alternatives, lineBreak}
 use Rattle.syntax.specs.Grammar.{Sequence, unrepeatable, repeatable, repeated, whole}
 use Rattle.syntax.specs.Compiled.{assertionWord, mostWord, greedWord, foldedWord}
-use Rattle.linker.specs.Nodes.{beforeOf, Last, Region, Nothing, Branch, Part, Chain, Inside, Several}
+use Rattle.linker.specs.Nodes.{beforeOf, Last, Region, Nothing, Branch, Marked, Part, Chain, Inside, Several}
 use Rattle.linker.proofs.Regions.{Same, part-here, chain-order, several-node, part-same, chain-same, inside-same, several-same}
 use Rattle.writer.specs.Wrote.{Below, Wrote}
 use Rattle.parts.specs.Says.{After, PartAfter, SoFar}
@@ -81,7 +81,7 @@ module _ (s : List ℕ) (known : Names) where
     after w (omega arith) b (λ e. omega arith),
   )
 
-  pub named-part : {old new : List ℕ} {p before place : ℕ} (from len : ℕ) (folded : Bool) → Wrote old new p 6 (12 ∷ before ∷ place ∷ from ∷ foldedWord folded ∷ len ∷ []) → 1 ≤ p → from + len ≤ length s
+  pub named-part : {old new : List ℕ} {p before place : ℕ} (from len : ℕ) (folded : Bool) → Wrote old new p 6 (2 ∷ before ∷ place ∷ from ∷ foldedWord folded ∷ len ∷ []) → 1 ≤ p → from + len ≤ length s
       → PartAfter s known before new (item place (reference folded (groupCalled (slice from (from + len) s) known))) p (p + 6) p
   unfolding Part
   named-part {p = p} from len folded w b l = (
@@ -99,6 +99,10 @@ module _ (s : List ℕ) (known : Names) where
     after w (omega arith) b (λ e. omega arith),
   )
 
+  pub break-part : {old new : List ℕ} {p before place : ℕ} → Wrote old new p 3 (12 ∷ before ∷ place ∷ []) → 1 ≤ p → PartAfter s known before new (lineBreak place) p (p + 3) p
+  unfolding Part lineBreak
+  break-part {p = p} w b = (inl (refl, record { node = node w (omega arith) b p (omega arith); origin = w .at 2 (omega arith) }), after w (omega arith) b (λ e. omega arith))
+
   -- Groups --------------------------------------------------------------------------
 
   inside-order : (a : List ℕ) (t : Rule) (lo top p : ℕ) → Inside s known a t lo top p → lo ≤ top
@@ -112,6 +116,8 @@ module _ (s : List ℕ) (known : Names) where
   inside-order a (alt bs t) lo top p h = omega (arith, h .node .low, h .node .high)
   inside-order a (group n t) lo top p h = absurd h
   inside-order a (repeat place n m g t) lo top p h = absurd h
+  inside-order a (held place t) lo top p h = absurd h
+  inside-order a (look place negative t) lo top p h = absurd h
 
   pub group-part : {old new : List ℕ} {p before inside : ℕ} (number lo : ℕ) (t : Rule) → Wrote old new p 7 (4 ∷ before ∷ 0 ∷ slot number ∷ 3 ∷ inside ∷ 0 ∷ []) → 1 ≤ p → Inside s known old t lo p inside → PartAfter s known before new (group number t) lo (p + 7) p
   unfolding Part
@@ -119,6 +125,39 @@ module _ (s : List ℕ) (known : Names) where
     record {
       node = node w (omega arith) b lo (inside-order old t lo p inside h);
       span = w .at 3 (omega arith);
+      opening = w .at 4 (omega arith);
+      inside = inside;
+      is = w .at 5 (omega arith);
+      holds = inside-same s known old new t lo p inside (below-same new old p lo p (omega arith) (w .below)) h;
+    },
+    after w (omega arith) b (λ e. omega arith),
+  )
+
+  -- held parts and looking ahead
+  marked : {old new : List ℕ} {p before inside : ℕ} (kind lo : ℕ) (t : Rule) → Wrote old new p 7 (kind ∷ before ∷ 0 ∷ 0 ∷ 13 ∷ inside ∷ 0 ∷ []) → 1 ≤ p → Inside s known old t lo p inside → Marked new kind (Inside s known new t) lo (p + 7) p
+  marked {old} {new} {p} {before} {inside} kind lo t w b h = record {
+    node = node w (omega arith) b lo (inside-order old t lo p inside h);
+    opening = w .at 4 (omega arith);
+    inside = inside;
+    is = w .at 5 (omega arith);
+    holds = inside-same s known old new t lo p inside (below-same new old p lo p (omega arith) (w .below)) h;
+  }
+
+  pub held-part : {old new : List ℕ} {p before inside : ℕ} (place lo : ℕ) (t : Rule) → Wrote old new p 7 (14 ∷ before ∷ 0 ∷ 0 ∷ 13 ∷ inside ∷ 0 ∷ []) → 1 ≤ p → Inside s known old t lo p inside → PartAfter s known before new (held place t) lo (p + 7) p
+  unfolding Part
+  held-part place lo t w b h = (inr (marked 14 lo t w b h), after w (omega arith) b (λ e. omega arith))
+
+  pub ahead-part : {old new : List ℕ} {p before inside : ℕ} (place lo : ℕ) (t : Rule) → Wrote old new p 7 (15 ∷ before ∷ 0 ∷ 0 ∷ 13 ∷ inside ∷ 0 ∷ []) → 1 ≤ p → Inside s known old t lo p inside → PartAfter s known before new (look place false t) lo (p + 7) p
+  unfolding Part
+  ahead-part place lo t w b h = (marked 15 lo t w b h, after w (omega arith) b (λ e. omega arith))
+
+  pub not-ahead-part : {old new : List ℕ} {p before inside : ℕ} (place lo : ℕ) (t : Rule) → Wrote old new p 8 (17 ∷ before ∷ 0 ∷ place ∷ 16 ∷ inside ∷ 0 ∷ 0 ∷ []) → 1 ≤ p → Inside s known old t lo p inside
+      → PartAfter s known before new (look place true t) lo (p + 8) p
+  unfolding Part
+  not-ahead-part {old} {new} {p} {before} {inside} place lo t w b h = (
+    record {
+      node = node w (omega arith) b lo (inside-order old t lo p inside h);
+      origin = w .at 3 (omega arith);
       opening = w .at 4 (omega arith);
       inside = inside;
       is = w .at 5 (omega arith);
@@ -142,6 +181,8 @@ module _ (s : List ℕ) (known : Names) where
       part (alt bs u) k = record { node = last; inside = inside; is = w .at 2 (omega arith); holds = k }
       part (group n u) k = absurd k
       part (repeat place n m g u) k = absurd k
+      part (held place u) k = absurd k
+      part (look place negative u) k = absurd k
 
   -- Sequences -----------------------------------------------------------------------
 
@@ -167,6 +208,24 @@ module _ (s : List ℕ) (known : Names) where
   so-far-chain (repeatable x y) a lo top p h = chain-of a lo top p (h .0) (h .1) x y (h .2) (h .3)
   so-far-chain (repeated t) a lo top p h = h
 
+  -- a repeat of a part below it
+  repeat-part : {old new : List ℕ} {p last least place other : ℕ} (mid : ℕ) (most : Most) (greed : Greed) (y : Rule) → Wrote old new p 8 (7 ∷ 8 ∷ least ∷ mostWord most ∷ greedWord greed ∷ place ∷ last ∷ other ∷ []) → 1 ≤ p → Part s known old y mid p last
+      → Part s known new (repeat place least most greed y) mid (p + 8) p
+  unfolding Part
+  repeat-part {old} {new} {p} {last} mid most greed y w b h =
+      let k = part-here s known old y mid p last h in
+      record {
+        node = node w (omega arith) b mid (omega (arith, k .low, k .high));
+        loop = w .at 1 (omega arith);
+        least = w .at 2 (omega arith);
+        most = w .at 3 (omega arith);
+        greed = w .at 4 (omega arith);
+        origin = w .at 5 (omega arith);
+        body = last;
+        is = w .at 6 (omega arith);
+        holds = part-same s known old new y mid p last (below-same new old p mid p (omega arith) (w .below)) h;
+      }
+
   -- the last part repeated
   pub repeat-chain : {old new : List ℕ} {p last least place : ℕ} (lo : ℕ) (most : Most) (greed : Greed) (x y : Rule) → Wrote old new p 8 (7 ∷ 8 ∷ least ∷ mostWord most ∷ greedWord greed ∷ place ∷ last ∷ getD old (last + 1) 0 ∷ []) → 1 ≤ p
       → SoFar s known old (repeatable x y) lo p last → Chain s known new (seq x (repeat place least most greed y)) lo (p + 8) p
@@ -179,18 +238,28 @@ module _ (s : List ℕ) (known : Names) where
         before = h .1;
         link = before-repeat new p (head w (omega arith) b) ∙ w .at 7 (omega arith) ∙ h .3 .1 .link;
         left = chain-same s known old new x lo mid (h .1) (below-same new old p lo mid (omega (arith, k .low, k .high)) (w .below)) (h .2);
-        right = record {
-          node = node w (omega arith) b mid (omega (arith, k .low, k .high));
-          loop = w .at 1 (omega arith);
-          least = w .at 2 (omega arith);
-          most = w .at 3 (omega arith);
-          greed = w .at 4 (omega arith);
-          origin = w .at 5 (omega arith);
-          body = last;
-          is = w .at 6 (omega arith);
-          holds = part-same s known old new y mid p last (below-same new old p mid p (omega arith) (w .below)) (h .3 .0);
-        };
+        right = repeat-part mid most greed y w b (h .3 .0);
       }
+
+  -- the last part repeated, and alone in a held part
+  pub possessive-chain : {old mid new : List ℕ} {p last least place before : ℕ} (lo own : ℕ) (most : Most) (greed : Greed) (x y : Rule) → Wrote old mid p 8 (7 ∷ 8 ∷ least ∷ mostWord most ∷ greedWord greed ∷ place ∷ last ∷ 0 ∷ []) → before ≡ getD old (last + 1) 0
+      → Wrote mid new (p + 8) 7 (14 ∷ before ∷ 0 ∷ 0 ∷ 13 ∷ p ∷ 0 ∷ []) → 1 ≤ p → SoFar s known old (repeatable x y) lo p last → Chain s known new (seq x (held own (seq empty (repeat place least most greed y)))) lo (p + 15) (p + 8)
+  unfolding Part
+  possessive-chain {old} {mid} {new} {p} {last} {least} {place} {before} lo own most greed x y w e v b h =
+      let low = h .0 in
+      let k = part-here s known old y low p last (h .3 .0) in
+      let r : Inside s known mid (seq empty (repeat place least most greed y)) low (p + 8) p = record {
+        mid = low;
+        before = 0;
+        link = before-repeat mid p (head w (omega arith) b) ∙ w .at 7 (omega arith);
+        left = (refl, omega arith);
+        right = repeat-part low most greed y w b (h .3 .0);
+      } in
+      let z : p + 8 + 7 ≡ p + 15 = omega arith in
+      let t = seq empty (repeat place least most greed y) in
+      let same : before ≡ h .1 = e ∙ h .3 .1 .link in
+      let kept : Chain s known new x lo low (h .1) = chain-same s known old new x lo low (h .1) (λ i l u. v .below i (omega (arith, k .low, k .high)) ∙ w .below i (omega (arith, k .low, k .high))) (h .2) in
+      rw z at (chain-of new lo (p + 8 + 7) (p + 8) low before x (held own t) (rw same kept) (held-part own low t v (omega arith) r))
 
   -- Alternations --------------------------------------------------------------------
 
@@ -202,6 +271,8 @@ module _ (s : List ℕ) (known : Names) where
   chain-inside (alt bs t) a lo top p h = absurd h
   chain-inside (group n t) a lo top p h = h
   chain-inside (repeat place n m g t) a lo top p h = h
+  chain-inside (held place t) a lo top p h = h
+  chain-inside (look place negative t) a lo top p h = h
 
   -- branches of which the last has no node yet: its last part is at `last`, and the branch before it at `before`
   abbrev pub Pending : List ℕ → Branches → (lo top before last : ℕ) → Type 0

@@ -5,15 +5,16 @@ use mathlib.Core.Bool.{Bool}
 use mathlib.Core.List.{List, [], _∷_}
 use Prim.Native.Nat.{ℕ, _+_, _-_, _*_, _≤_, _<_}
 use lib.ListN.{length, getD}
-use lib.Dec.{eqb}
+use Rattle.syntax.specs.declared.Form.{Form}
+use Rattle.syntax.specs.declared.Form.the-variants.{Grouped, Captured, Held, Ahead, NotAhead}
 use Rattle.syntax.specs.declared.Greed.{Greed}
 use Rattle.syntax.specs.declared.Most.{Most}
 use Rattle.syntax.specs.Limits.{groupLimit}
 use Rattle.syntax.specs.Read.{if_then_else_, Read, sound, refused, andThen}
-use Rattle.syntax.specs.Tree.{Rule, group}
+use Rattle.syntax.specs.Tree.{Rule, enclosed, lineBreak}
 use Rattle.syntax.specs.Names.{Names, nameUpTo, fresh}
 use Rattle.syntax.specs.Quantifiers.{quantifier}
-use Rattle.syntax.specs.Grammar.{atom, Inner, closing, grouped, Sequence, unrepeatable, repeatable, repeated, whole, withItem, repeating, part, alternation, inside}
+use Rattle.syntax.specs.Grammar.{atom, Inner, closing, grouped, Sequence, unrepeatable, repeatable, repeated, whole, withItem, repeating, breaksLine, part, alternation, inside}
 use Rattle.linker.specs.Table.{namesIn, NamesFit}
 use Rattle.linker.specs.Nodes.{Region, Part, Chain, Inside}
 use Rattle.writer.specs.Wrote.{Below}
@@ -23,7 +24,7 @@ use Rattle.parts.specs.declared.Answer.the-variants.{Sound, Refused}
 use Rattle.parts.specs.declared.Turn.{Turn}
 use Rattle.parts.specs.declared.Turn.the-variants.{Goes, Ends}
 use Rattle.parts.specs.declared.Bracket.{Bracket}
-use Rattle.parts.specs.declared.Bracket.the-variants.{Begins, Unknown}
+use Rattle.parts.specs.declared.Bracket.the-variants.{Captures, Begins, Unknown}
 use Rattle.parts.specs.declared.Opening.{Opening}
 use Rattle.parts.specs.declared.Opening.the-variants.{Opens, Unopened}
 
@@ -126,12 +127,24 @@ module _ (s : List ℕ) (known : Names) where
 
 -- Parts of a sequence --------------------------------------------------------------
 
+-- what the grammar reads where no group opens: `\R`, or an item
+unfoldable pub plainItem : List ℕ → ℕ → Names → Sequence → Names → ℕ → Read (Sequence × Names)
+plainItem s flags known q names at =
+    if breaksLine s at then sound (repeatable (whole q) (lineBreak at), names) (at + 2)
+    else andThen (atom s flags known (length names) at) (λ i next. sound (withItem q at i, names) next)
+
 module _ (s : List ℕ) (flags : ℕ) (old new : List ℕ) (c : Cursor) (last : ℕ) where
   -- an item
   abbrev pub Items : Turn → Type 0
   Items r = Does old new (c .used) (MovedTurn (length s) c r) (NoneOpenedTurn c r)
       ((known : Names) (told : Told) (lo : ℕ) (q : Sequence) → Chain s known old (whole q) lo (c .used) last
       → SaysTurn s known told (andThen (atom s flags known (c .opened) (c .at)) (λ i next. sound (withItem q (c .at) i, told (c .opened)) next)) new lo r)
+
+  -- an item, or `\R`
+  abbrev pub PlainItems : Turn → Type 0
+  PlainItems r = Does old new (c .used) (MovedTurn (length s) c r) (NoneOpenedTurn c r)
+      ((known : Names) (told : Told) (lo : ℕ) (q : Sequence) → length (told (c .opened)) ≡ c .opened → Chain s known old (whole q) lo (c .used) last
+      → SaysTurn s known told (plainItem s flags known q (told (c .opened)) (c .at)) new lo r)
 
   -- any part, behind what has been read of the sequence and the groups named so far
   abbrev pub SaysPart : ℕ → (known names : Names) → Told → Inner → Turn → Type 0
@@ -144,62 +157,63 @@ module _ (s : List ℕ) (flags : ℕ) (old new : List ℕ) (c : Cursor) (last : 
       ((known : Names) (told : Told) → length (told (c .opened)) ≡ c .opened → (inner : Inner) → SaysPart kind known (told (c .opened)) told inner r)
 
 -- a repeat of the part before it, which ends at `next`, whatever the rule
-abbrev pub Repeats : (old new : List ℕ) → Cursor → (last kind least : ℕ) → Most → Greed → ℕ → Turn → Type 0
-Repeats old new c last kind least most greed next r = Does old new (c .used) (MovedTurn next c r) (NoneOpenedTurn c r)
+abbrev pub Repeats : (old new : List ℕ) → Cursor → (last kind least : ℕ) → Most → Greed → Bool → ℕ → Turn → Type 0
+Repeats old new c last kind least most greed keeps next r = Does old new (c .used) (MovedTurn next c r) (NoneOpenedTurn c r)
     ((s : List ℕ) (known : Names) (told : Told) (lo : ℕ) (q : Sequence) → kind ≡ kindOf q → SoFar s known old q lo (c .used) last
-    → SaysTurn s known told (repeating q (c .at) least most greed (told (c .opened)) next) new lo r)
+    → SaysTurn s known told (repeating q (c .at) least most greed keeps (told (c .opened)) next) new lo r)
 
 -- Groups ---------------------------------------------------------------------------
 
--- the tree of a group whose inside is t: 0 is the number of those that do not capture
-unfoldable pub grouping : ℕ → Rule → Rule
-grouping number t = if eqb number 0 then t else group number t
+-- the number of a group that captures is one that a rule may have
+abbrev pub FormFits : Form → Type 0
+FormFits Grouped = Unit {0}
+FormFits (Captured n) = (1 ≤ n) × (n ≤ groupLimit)
+FormFits Held = Unit {0}
+FormFits Ahead = Unit {0}
+FormFits NotAhead = Unit {0}
 
--- the reading of a group's head from `start` on: only a group that captures has a name, if one is written there
-unfoldable pub headOf : List ℕ → (at : ℕ) → Names → (start number : ℕ) → Bool → Read Names
-headOf s at names start number named =
-    if eqb number 0 then sound names start
-    else andThen (if named then fresh at names (nameUpTo ">" s at start) else sound [] start) (λ n next. sound (n ∷ names) next)
+-- the reading of the head of a group that captures, from `start` on: its name, if one is written there
+unfoldable pub headOf : List ℕ → (at : ℕ) → Names → (start : ℕ) → Bool → Read Names
+headOf s at names start named = andThen (if named then fresh at names (nameUpTo ">" s at start) else sound [] start) (λ n next. sound (n ∷ names) next)
 
--- the first bytes of a group that opens at `at`, where so many groups have been opened
-pub record Bracketed (s : List ℕ) (at opened start number : ℕ) (named : Bool) : Type 0 where
+-- the first bytes of a group of a form that opens at `at`, where so many groups have been opened, and the reading of its head
+pub record Bracketed (s : List ℕ) (at opened start : ℕ) (form : Form) (head : Names → Read Names) : Type 0 where
   pub on : at + 1 ≤ start
   pub within : start ≤ length s
-  pub captures : (number ≡ 0 → ⊥) → (number ≡ opened + 1) × (opened + 1 ≤ groupLimit)
-  pub numbered : number ≤ groupLimit
-  pub goes : (inner : Inner) (names : Names) → length names ≡ opened
-      → grouped s inner at names ≡ andThen (inner at (headOf s at names start number named)) (λ r end. closing s at (grouping number (r .0)) (r .1) end)
+  pub numbered : FormFits form
+  pub goes : (inner : Inner) (names : Names) → length names ≡ opened → grouped s inner at names ≡ andThen (inner at (head names)) (λ r end. closing s at (enclosed form at (r .0)) (r .1) end)
 
 abbrev pub SaysBracket : List ℕ → ℕ → ℕ → Bracket → Type 0
-SaysBracket s at opened (Begins start number named) = Bracketed s at opened start number named
+SaysBracket s at opened (Captures start named) = Bracketed s at opened start (Captured (opened + 1)) (λ names. headOf s at names start named)
+SaysBracket s at opened (Begins start form) = Bracketed s at opened start form (λ names. sound names start)
 SaysBracket s at opened (Unknown f) = (inner : Inner) (names : Names) → length names ≡ opened → grouped s inner at names ≡ refused (f .place) (f .reason)
 
 -- the inside of a group begins at `start`, with so many groups then opened, their names in the table
-pub record Begun (s table : List ℕ) (from start next number : ℕ) : Type 0 where
+pub record Begun (s table : List ℕ) (from start next : ℕ) (form : Form) : Type 0 where
   pub on : from ≤ start
   pub within : start ≤ length s
   pub few : next ≤ groupLimit
-  pub numbered : number ≤ groupLimit
+  pub numbered : FormFits form
   pub fit : NamesFit s table next
 
--- the head of a group of a number, read as a
-abbrev pub SaysHead : (s table : List ℕ) → (from number : ℕ) → Read Names → Opening → Type 0
-SaysHead s table from number a (Opens start next same) = Begun s table from start next number × (same ≡ number) × (a ≡ sound (namesIn s table next) start)
-SaysHead s table from number a (Unopened f) = a ≡ refused (f .place) (f .reason)
+-- the head of a group of a form, read as a
+abbrev pub SaysHead : (s table : List ℕ) → (from : ℕ) → Form → Read Names → Opening → Type 0
+SaysHead s table from form a (Opens start next same) = Begun s table from start next form × (same ≡ form) × (a ≡ sound (namesIn s table next) start)
+SaysHead s table from form a (Unopened f) = a ≡ refused (f .place) (f .reason)
 
 -- The opening of a group: what it is, how deep, and its name. The inside is read with one level less to nest.
-pub record Opened (s : List ℕ) (flags depth at : ℕ) (names : Names) (table : List ℕ) (start next number : ℕ) : Type 0 where
-  pub begins : Begun s table (at + 1) start next number
+pub record Opened (s : List ℕ) (flags depth at : ℕ) (names : Names) (table : List ℕ) (start next : ℕ) (form : Form) : Type 0 where
+  pub begins : Begun s table (at + 1) start next form
   pub deep : 1 ≤ depth
   pub goes : (known : Names) → grouped s (inside depth s flags known) at names
-      ≡ andThen (alternation s flags known (inside (depth - 1) s flags known) (namesIn s table next) start) (λ r end. closing s at (grouping number (r .0)) (r .1) end)
+      ≡ andThen (alternation s flags known (inside (depth - 1) s flags known) (namesIn s table next) start) (λ r end. closing s at (enclosed form at (r .0)) (r .1) end)
 
 abbrev pub SaysOpening : List ℕ → (flags depth at : ℕ) → Names → List ℕ → Opening → Type 0
-SaysOpening s flags depth at names table (Opens start next number) = Opened s flags depth at names table start next number
+SaysOpening s flags depth at names table (Opens start next form) = Opened s flags depth at names table start next form
 SaysOpening s flags depth at names table (Unopened f) = (known : Names) → grouped s (inside depth s flags known) at names ≡ refused (f .place) (f .reason)
 
--- the end of a group whose inside stands at p
-abbrev pub Closes : List ℕ → (opening number before : ℕ) → (old new : List ℕ) → Cursor → ℕ → Answer → Type 0
-Closes s opening number before old new c p r = Does old new (c .used) (Moved (length s) c 1 r) (NoneOpened c r)
+-- the end of a group of a form whose inside stands at p
+abbrev pub Closes : List ℕ → (opening : ℕ) → Form → (before : ℕ) → (old new : List ℕ) → Cursor → ℕ → Answer → Type 0
+Closes s opening form before old new c p r = Does old new (c .used) (Moved (length s) c 1 r) (NoneOpened c r)
     ((known : Names) (told : Told) (lo : ℕ) (t : Rule) → Inside s known old t lo (c .used) p
-    → Says (PartAfter s known before) told (closing s opening (grouping number t) (told (c .opened)) (c .at)) new lo r)
+    → Says (PartAfter s known before) told (closing s opening (enclosed form opening t) (told (c .opened)) (c .at)) new lo r)

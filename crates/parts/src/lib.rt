@@ -1,5 +1,6 @@
 // Reads the parts of a sequence that are no groups, and the openings and ends of groups, and appends a node for each to a lent area. What stands
 // inside a group is read above.
+use syntax::Form;
 use syntax::Refusal;
 ghost use mathlib.Core.Path.{_≡_};
 ghost use Prim.Native.Nat.{_+_, _<_};
@@ -16,6 +17,12 @@ pub use parts::other;
 pub const CLOSING: u32 = b')' as u32;
 
 const QUESTION: u32 = b'?' as u32;
+
+const GREATER: u32 = b'>' as u32;
+
+const EQUALS: u32 = b'=' as u32;
+
+const EXCLAMATION: u32 = b'!' as u32;
 
 // What a repeat would find behind a part of a sequence: nothing that it can repeat, an item or a group, or a repeat.
 pub const NOTHING: u32 = 0;
@@ -43,15 +50,17 @@ pub enum Turn {
     Ends(Refusal),
 }
 
-// The first bytes of a group: where its name or its inside begins, its number, 0 for one that does not capture, and whether it has a name.
+// The first bytes of a group: where the name or the inside of one that captures begins, and whether it has a name; or where the inside of any other begins, and
+// its form.
 enum Bracket {
-    Begins(usize, u32, bool),
+    Captures(usize, bool),
+    Begins(usize, Form),
     Unknown(Refusal),
 }
 
-// A group's opening: where its inside begins, the groups then opened, and its number, 0 for one that does not capture.
+// A group's opening: where its inside begins, the groups then opened, and its form.
 pub enum Opening {
-    Opens(usize, u32, u32),
+    Opens(usize, u32, Form),
     Unopened(Refusal),
 }
 

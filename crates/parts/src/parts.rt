@@ -7,33 +7,40 @@ use crate::REPEATABLE;
 use crate::REPEATED;
 use crate::Turn;
 use crate::behind;
+use lexemes::breaks_line;
 use lexemes::peek;
 use lexemes::quantifier_at;
 use lexer::Token;
 use lexer::item_at;
+use syntax::Form;
 use syntax::Greed;
 use syntax::Most;
 use syntax::Quantifier;
 use syntax::Reason;
 use syntax::Refusal;
+use writer::AHEAD;
 use writer::ASSERTION;
+use writer::BREAK;
+use writer::HELD;
 use writer::PLAIN;
 use writer::assertion_word;
 use writer::folded_word;
 use writer::put_byte;
 use writer::put_four;
 use writer::put_group;
+use writer::put_marked;
 use writer::put_named;
+use writer::put_not_ahead;
 use writer::put_reference;
 use writer::put_repeat;
 use writer::put_three;
 ghost use mathlib.Core.Path.{_≡_};
+ghost use mathlib.Core.Bool.{true};
 ghost use Prim.Native.Nat.{_+_, _≤_, _<_};
 ghost use lib.ListN.{length};
-ghost use Rattle.syntax.specs.Limits.{groupLimit};
 ghost use Rattle.syntax.specs.Read.{byte, refused};
 ghost use Rattle.syntax.specs.Grammar.{Sequence, unfitFor};
-ghost use Rattle.parts.specs.Says.{Ready, kindOf, Items, Others, Repeats, Closes};
+ghost use Rattle.parts.specs.Says.{Ready, kindOf, Items, PlainItems, Others, Repeats, FormFits, Closes};
 
 // The refusal of a repeat whose bounds do not fit.
 fn unfit(at: usize, kind: u32) -> Refusal
@@ -51,7 +58,7 @@ fn unfit(at: usize, kind: u32) -> Refusal
     }
 }
 
-// A repeat of the last part, which stands at `last`; the repeat ends at `next`.
+// A repeat of the last part, which stands at `last`; the repeat ends at `next`. A possessive one stands alone in a held part.
 fn repeated(
     area: &mut [u32],
     c: Cursor,
@@ -60,10 +67,11 @@ fn repeated(
     least: u32,
     most: Most,
     greed: Greed,
+    keeps: bool,
     next: usize,
 ) -> Turn
-    requires { ⌜ Ready next (now area) c × (c .at < next) × (last < c .used) ⌝ }
-    ensures { λ r. ⌜ Repeats (now (area .entry)) (now (area .exit)) c last kind least most greed next r ⌝ }
+    requires { ⌜ Ready next (now area) c × (c .at < next) × (last < c .used) × (keeps ≡ true → c .at + 1 < next) ⌝ }
+    ensures { λ r. ⌜ Repeats (now (area .entry)) (now (area .exit)) c last kind least most greed keeps next r ⌝ }
 {
     let at = c.at;
     let used = c.used;
@@ -80,16 +88,14 @@ fn repeated(
         });
     }
     let before = area[last + 1];
-    put_repeat(
-        area,
-        used,
-        least,
-        most,
-        greed,
-        at as u32,
-        last as u32,
-        before,
-    );
+    let place = at as u32;
+    if keeps {
+        put_repeat(area, used, least, most, greed, place, last as u32, 0);
+        let around = used + 8;
+        put_marked(area, around, HELD, before, used as u32);
+        return Turn::Goes(behind(c, next, 15), around, REPEATED);
+    }
+    put_repeat(area, used, least, most, greed, place, last as u32, before);
     Turn::Goes(behind(c, next, 8), used, REPEATED)
 }
 
@@ -136,6 +142,21 @@ fn item(rule: &[u8], flags: u32, area: &mut [u32], c: Cursor, last: usize) -> Tu
     }
 }
 
+// An item that is no group, or `\R`, behind the part at `last`.
+fn plain_item(rule: &[u8], flags: u32, area: &mut [u32], c: Cursor, last: usize) -> Turn
+    requires { ⌜ Ready (length (now rule)) (now area) c × (c .at < length (now rule)) × (last < c .used) ⌝ }
+    ensures { λ r. ⌜ PlainItems (now (rule .entry)) flags (now (area .entry)) (now (area .exit)) c last r ⌝ }
+{
+    let at = c.at;
+    let used = c.used;
+    let breaks = breaks_line(rule, at);
+    if breaks {
+        put_three(area, used, BREAK, last as u32, at as u32);
+        return Turn::Goes(behind(c, at + 2, 3), used, REPEATABLE);
+    }
+    item(rule, flags, area, c, last)
+}
+
 // One part of a sequence that is no group.
 pub fn other(rule: &[u8], flags: u32, area: &mut [u32], c: Cursor, last: usize, kind: u32) -> Turn
     requires { ⌜ Ready (length (now rule)) (now area) c × (c .at < length (now rule)) × (last < c .used) × (byte (now rule) (c .at) ≡ 40 → ⊥) ⌝ }
@@ -144,13 +165,13 @@ pub fn other(rule: &[u8], flags: u32, area: &mut [u32], c: Cursor, last: usize, 
     let at = c.at;
     let x = quantifier_at(rule, at);
     match x {
-        Quantifier::Absent => item(rule, flags, area, c, last),
+        Quantifier::Absent => plain_item(rule, flags, area, c, last),
         Quantifier::Stray => Turn::Ends(Refusal {
             place: at,
             reason: Reason::BadBraces,
         }),
         Quantifier::Unfit => Turn::Ends(unfit(at, kind)),
-        Quantifier::Times(least, most, greed, next) => repeated(
+        Quantifier::Times(least, most, greed, keeps, next) => repeated(
             area,
             c,
             last,
@@ -158,23 +179,24 @@ pub fn other(rule: &[u8], flags: u32, area: &mut [u32], c: Cursor, last: usize, 
             least,
             most,
             greed,
+            keeps,
             next,
         ),
     }
 }
 
-// The end of the group of a number, 0 for one that does not capture, whose inside stands at p.
+// The end of a group of a form, whose inside stands at p.
 pub fn close(
     rule: &[u8],
     area: &mut [u32],
     opening: usize,
-    number: u32,
+    form: Form,
     before: usize,
     c: Cursor,
     p: usize,
 ) -> Answer
-    requires { ⌜ Ready (length (now rule)) (now area) c × (number ≤ groupLimit) × (before < c .used) × (p < c .used) ⌝ }
-    ensures { λ r. ⌜ Closes (now (rule .entry)) opening number before (now (area .entry)) (now (area .exit)) c p r ⌝ }
+    requires { ⌜ Ready (length (now rule)) (now area) c × FormFits form × (opening < c .at) × (before < c .used) × (p < c .used) ⌝ }
+    ensures { λ r. ⌜ Closes (now (rule .entry)) opening form before (now (area .entry)) (now (area .exit)) c p r ⌝ }
 {
     let at = c.at;
     let used = c.used;
@@ -185,10 +207,26 @@ pub fn close(
             reason: Reason::UnclosedGroup,
         });
     }
-    if number == 0 {
-        put_three(area, used, PLAIN, before as u32, p as u32);
-        return Answer::Sound(behind(c, at + 1, 3), used);
+    match form {
+        Form::Grouped => {
+            put_three(area, used, PLAIN, before as u32, p as u32);
+            Answer::Sound(behind(c, at + 1, 3), used)
+        }
+        Form::Captured(number) => {
+            put_group(area, used, before as u32, number, p as u32);
+            Answer::Sound(behind(c, at + 1, 7), used)
+        }
+        Form::Held => {
+            put_marked(area, used, HELD, before as u32, p as u32);
+            Answer::Sound(behind(c, at + 1, 7), used)
+        }
+        Form::Ahead => {
+            put_marked(area, used, AHEAD, before as u32, p as u32);
+            Answer::Sound(behind(c, at + 1, 7), used)
+        }
+        Form::NotAhead => {
+            put_not_ahead(area, used, before as u32, opening as u32, p as u32);
+            Answer::Sound(behind(c, at + 1, 8), used)
+        }
     }
-    put_group(area, used, before as u32, number, p as u32);
-    Answer::Sound(behind(c, at + 1, 7), used)
 }

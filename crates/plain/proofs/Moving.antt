@@ -1,22 +1,24 @@
--- Where the nodes lead that `walker` carries out together with others: a run and a reference; and which nodes are left beside them. Assumes nothing.
-use mathlib.Core.Path.{_≡_}
-use mathlib.Core.Logic.{_⊎_, inl, inr}
+-- Where the nodes lead that `walker` carries out together with others: a run, a reference and `\R`; and which nodes are left beside them. Assumes nothing.
+use mathlib.Core.Path.{_≡_, refl, sym, _∙_}
 use mathlib.Core.List.{List}
 use mathlib.Core.Bool.{true, false}
-use Prim.Native.Nat.{ℕ, suc, _+_, _-_, _≤_, _<_}
+use Prim.Native.Nat.{ℕ, _+_, _≤_, _<_}
 use native.Mathlib.Omega.{arith}
 use lib.ListN.{getD}
 use Rattle.semantics.specs.States.{moved}
 use Rattle.semantics.specs.Items.{when}
 use Rattle.machine.specs.declared.Machine.{Machine}
-use Rattle.machine.specs.Code.{repeatAt, Fits}
+use Rattle.machine.specs.Code.{repeatAt}
 use Rattle.machine.specs.Moves.{Stack, go, below, fall, tried, bytesOf, carryOut}
-use Rattle.machine.specs.Words.{stackOf, carried}
-use Rattle.machine.specs.Laws.Code.{fits-at}
+use Rattle.machine.specs.Words.{stackOf, configurationOf, movedOn, carried}
 use Rattle.machine.specs.Laws.Stack.{paid-after}
-use Rattle.machine.specs.Laws.Loop.{before-or}
+use Rattle.marks.specs.declared.breaks.Break.{Break}
+use Rattle.marks.specs.Breaks.{BreaksAs}
+use Rattle.marks.proofs.Breaking.{break-back as falling, break-on as going}
 use Rattle.runs.proofs.Leaving.{ran-few, ran-enough}
+use Rattle.walker.proofs.Stepping.{moved-as}
 use Rattle.plain.specs.declared.Referred.{Referred}
+use Rattle.plain.specs.Telling.{leads, leads-plain}
 use Rattle.plain.specs.Misses.{RefersAs}
 
 module _ (p sub regs work : List ℕ) (m : Machine) where
@@ -46,13 +48,21 @@ module _ (p sub regs work : List ℕ) (m : Machine) where
     unfolding carryOut tried when moved
     reference-on e = rw (paid-after, w, e)
 
+  -- `\R`: a move is the same whether the machine is said to be at work or not
+  module _ (is : getD p (m .pc) 0 ≡ 12) (b : Break) (tells : BreaksAs sub (m .at) b) where
+    abbrev at-work : Machine
+    at-work = record { pc = m .pc; at = m .at; height = m .height; live = true }
+
+    pub break-back : b .bytes ≡ 0 → movedOn p sub regs work m ≡ fall p regs stack
+    break-back = falling p sub regs work at-work is refl b tells
+
+    pub break-on : (b .bytes ≡ 0 → ⊥) → movedOn p sub regs work m ≡ go (getD p (m .pc + 1) 0) (m .at + b .bytes) regs stack
+    break-on = going p sub regs work at-work is refl b tells
+
 -- all that is left are nodes of one step
-pub kind-low : (p : List ℕ) (pc : ℕ) → Fits p pc → (getD p pc 0 ≡ 9 → ⊥) → (getD p pc 0 ≡ 10 → ⊥) → (getD p pc 0 ≡ 11 → ⊥) → getD p pc 0 ≤ 8
-kind-low p pc x a b c = by (before-or 11 (getD p pc 0))
-  where
-    by : (11 < getD p pc 0) ⊎ (getD p pc 0 ≤ 11) → getD p pc 0 ≤ 8
-    by (inl h) =
-        let n = getD p pc 0 - 12 in
-        let e : getD p pc 0 ≡ suc (suc (suc (suc (suc (suc (suc (suc (suc (suc (suc (suc n))))))))))) = omega arith in
-        absurd (fits-at p pc (suc (suc (suc (suc (suc (suc (suc (suc (suc (suc (suc (suc n)))))))))))) e x)
-    by (inr h) = omega arith
+pub kind-low : (n : ℕ) → (n ≡ 9 → ⊥) → (n ≡ 10 → ⊥) → (n ≡ 11 → ⊥) → (n ≡ 12 → ⊥) → n < 13 → n ≤ 8
+kind-low n a b c d h = omega arith
+
+-- where a move leads with a note, at a node of a known kind that keeps none
+pub leads-kind : (p sub regs work : List ℕ) (m : Machine) (n kind : ℕ) → getD p (m .pc) 0 ≡ kind → (kind ≡ 16 → ⊥) → leads p sub n (configurationOf regs work m) ≡ carried kind p sub regs work m
+leads-kind p sub regs work m n kind e ne = leads-plain p sub n (configurationOf regs work m) (λ k. ne (sym e ∙ k)) ∙ moved-as p sub regs work m kind e

@@ -3,14 +3,22 @@
 //
 // `tell_missed` tells the failures of the next move, and `make_move` makes it. A node is carried out alone, whatever follows it: no branch and no end of
 // a run is passed over, so that what each of them tries is told. A move costs the same whatever the subject, but for a run, which looks at its
-// bytes, and a reference, which looks at those that it compares; both look twice, once to tell and once to move.
+// bytes, and a reference, which looks at those that it compares; both look twice, once to tell and once to move. An inner end of a held part or of looking
+// ahead looks at the frames pushed since that was entered.
+//
+// Whether a `(?!` fails is seen only at its inner end. So it keeps a note of the explanation's where it is entered, and is told by that (`tell_refuted`).
 use charset::contains;
 use machine::BRANCH;
+use machine::BREAK;
 use machine::Machine;
+use machine::REFERENCE;
 use machine::RUN;
 use machine::fall_back;
 use machine::go_down;
 use machine::push_explore;
+use marks::break_at;
+use marks::forbid;
+use marks::take_marked;
 use nodes::Compared;
 use nodes::assertion_holds;
 use nodes::compare;
@@ -27,12 +35,17 @@ ghost use Rattle.charset.specs.Class.{has};
 ghost use Rattle.syntax.specs.Limits.{spansLength, registers};
 ghost use Rattle.machine.specs.Code.{repeatAt, Fits};
 ghost use Rattle.machine.specs.Moves.{takes, bytesOf};
-ghost use Rattle.machine.specs.Words.{stackOf, nowOf, movedOn, carried};
+ghost use Rattle.machine.specs.Words.{stackOf, configurationOf, nowOf, movedOn, carried};
 ghost use Rattle.machine.specs.Ready.{StackFits};
-ghost use Rattle.plain.specs.Misses.{Tells, RefersAs};
+ghost use Rattle.plain.specs.Telling.{leads};
+ghost use Rattle.plain.specs.Misses.{Tells, TellsLate, RefersAs};
 
-// The kind of a reference.
-const REFERENCE: u32 = 11;
+// The kinds of the first of the nodes of held parts and of looking ahead, and of a `(?!`'s opening and inner end.
+const MARK: u32 = 13;
+
+const FORBID: u32 = 16;
+
+pub const REFUTE: u32 = 17;
 
 // More steps than any run or reference makes: no budget cuts a move that is made here.
 const ALL_STEPS: u32 = 4294967295;
@@ -127,7 +140,47 @@ fn tell_run(code: &[u32], sub: &[u8], regs: &[u32], m: Machine) -> Missed
     }
 }
 
-// Which item fails in the move that the machine makes next, if one does: a byte item, an assertion or a reference, or the byte at which a run stops.
+// What `\R` at `m` tells: the feed behind a return, or the return, which it tries twice if nothing else fits.
+fn tell_break(code: &[u32], sub: &[u8], regs: &[u32], m: Machine) -> Missed
+    requires { ⌜ (getD (now code) (m .pc) 0 ≡ 12) × (m .pc + 3 ≤ length (now code)) × (length (now sub) < 2 ^ 31) ⌝ }
+    ensures { λ r. ⌜ Tells (now (code .entry)) (now (sub .entry)) (now (regs .entry)) m r ⌝ }
+{
+    let pc = m.pc as usize;
+    let place = code[pc + 2];
+    let found = break_at(sub, m.at as usize);
+    if found.steps == 7 {
+        return Missed {
+            any: true,
+            at: m.at + 1,
+            place: place,
+        };
+    }
+    Missed {
+        any: found.bytes != 2,
+        at: m.at,
+        place: place,
+    }
+}
+
+// What a `(?!` at `m` tells that fails: its note, in place of a position, and its place in the rule.
+pub fn tell_refuted(code: &[u32], regs: &[u32], m: Machine) -> Missed
+    requires { ⌜ (getD (now code) (m .pc) 0 ≡ 17) × (length (now regs) ≡ registers) ⌝ }
+    requires { ⌜ Fits (now code) (m .pc) ⌝ }
+    ensures { λ r. ⌜ TellsLate (now (code .entry)) (now (regs .entry)) m r ⌝ }
+{
+    let pc = m.pc as usize;
+    let register = code[pc + 2] as usize;
+    let place = code[pc + 3];
+    let note = regs[register + 1];
+    Missed {
+        any: true,
+        at: note,
+        place: place,
+    }
+}
+
+// Which item fails in the move that the machine makes next, if one does: a byte item, an assertion or a reference, the byte at which a run stops, or one of
+// `\R`'s. That a `(?!` fails is told by `tell_refuted`.
 pub fn tell_missed(code: &[u32], sub: &[u8], regs: &[u32], m: Machine) -> Missed
     requires { ⌜ (length (now regs) ≡ registers) × (length (now sub) < 2 ^ 31) ⌝ }
     requires { ⌜ Fits (now code) (m .pc) ⌝ }
@@ -149,6 +202,7 @@ pub fn tell_missed(code: &[u32], sub: &[u8], regs: &[u32], m: Machine) -> Missed
             let referred = refer(code, sub, regs, pc, m.at);
             tell_item(code, pc, m.at, referred.holds)
         }
+        12 => tell_break(code, sub, regs, m),
         _ => Missed {
             any: false,
             at: 0,
@@ -216,18 +270,60 @@ fn follow_reference(
     fall_back(code, regs, work, m.height)
 }
 
-// Makes the move: carries out the node at which the machine stands, which is not the rule's end, and no other.
+// `\R`: it goes on behind its bytes, or falls back.
+fn make_break(code: &[u32], sub: &[u8], regs: &mut [u32], work: &mut [u32], m: Machine) -> Machine
+    requires { ⌜ (getD (now code) (m .pc) 0 ≡ 12) × (m .pc + 3 ≤ length (now code)) × (length (now sub) < 2 ^ 31) × (length (now regs) ≡ registers) × (4 * m .height ≤ length (now work)) ⌝ }
+    requires { ⌜ StackFits (now code) (stackOf (now work) (m .height)) ⌝ }
+    ensures { λ r. ⌜ nowOf (now (regs .exit)) (now (work .exit)) r ≡ movedOn (now (code .entry)) (now (sub .entry)) (now (regs .entry)) (now (work .entry)) m ⌝ }
+{
+    let pc = m.pc as usize;
+    let next = code[pc + 1];
+    let found = break_at(sub, m.at as usize);
+    if found.bytes == 0 {
+        return fall_back(code, regs, work, m.height);
+    }
+    Machine {
+        pc: next,
+        at: m.at + found.bytes,
+        height: m.height,
+        live: true,
+    }
+}
+
+// A node of a held part or of looking ahead. A `(?!` keeps the note where it is entered.
+fn make_marked(
+    code: &[u32],
+    sub: &[u8],
+    regs: &mut [u32],
+    work: &mut [u32],
+    kind: u32,
+    m: Machine,
+    note: u32,
+) -> Machine
+    requires { ⌜ (kind ≡ getD (now code) (m .pc) 0) × (13 ≤ kind) × (length (now regs) ≡ registers) × (4 * m .height + 8 ≤ length (now work)) × (m .height < 2 ^ 32) ⌝ }
+    requires { ⌜ Fits (now code) (m .pc) ⌝ }
+    requires { ⌜ StackFits (now code) (stackOf (now work) (m .height)) ⌝ }
+    ensures { λ r. ⌜ nowOf (now (regs .exit)) (now (work .exit)) r ≡ leads (now (code .entry)) (now (sub .entry)) note (configurationOf (now (regs .entry)) (now (work .entry)) m) ⌝ }
+{
+    if kind == FORBID {
+        return forbid(code, regs, work, m, note);
+    }
+    take_marked(code, regs, work, kind, m)
+}
+
+// Makes the move: carries out the node at which the machine stands, which is not the rule's end, and no other. A `(?!` keeps the note where it is entered.
 pub fn make_move(
     code: &[u32],
     sub: &[u8],
     regs: &mut [u32],
     work: &mut [u32],
     m: Machine,
+    note: u32,
 ) -> Machine
-    requires { ⌜ (getD (now code) (m .pc) 0 ≡ 9 → ⊥) × (length (now regs) ≡ registers) × (4 * m .height + 8 ≤ length (now work)) × (length (now sub) < 2 ^ 31) × (length (now code) < 2 ^ 32) ⌝ }
+    requires { ⌜ (getD (now code) (m .pc) 0 ≡ 9 → ⊥) × (length (now regs) ≡ registers) × (4 * m .height + 8 ≤ length (now work)) × (length (now sub) < 2 ^ 31) × (length (now code) < 2 ^ 32) × (m .height < 2 ^ 32) ⌝ }
     requires { ⌜ Fits (now code) (m .pc) ⌝ }
     requires { ⌜ StackFits (now code) (stackOf (now work) (m .height)) ⌝ }
-    ensures { λ r. ⌜ nowOf (now (regs .exit)) (now (work .exit)) r ≡ movedOn (now (code .entry)) (now (sub .entry)) (now (regs .entry)) (now (work .entry)) m ⌝ }
+    ensures { λ r. ⌜ nowOf (now (regs .exit)) (now (work .exit)) r ≡ leads (now (code .entry)) (now (sub .entry)) note (configurationOf (now (regs .entry)) (now (work .entry)) m) ⌝ }
 {
     let pc = m.pc as usize;
     let kind = code[pc];
@@ -239,6 +335,12 @@ pub fn make_move(
     }
     if kind == REFERENCE {
         return follow_reference(code, sub, regs, work, m);
+    }
+    if kind == BREAK {
+        return make_break(code, sub, regs, work, m);
+    }
+    if MARK <= kind {
+        return make_marked(code, sub, regs, work, kind, m, note);
     }
     step(code, sub, regs, work, kind, m)
 }

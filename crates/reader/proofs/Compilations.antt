@@ -83,10 +83,10 @@ module _ (s : List ℕ) (flags : ℕ) where
 
     -- a tree that was parsed fits
     parse-fits : Fits groups spansLength t
-    parse-fits = let f = rw e at (parsed-formed s flags names) in rw (← l) (fits-whole (length names) t (f .0) (f .1) (f .2) (f .3))
+    parse-fits = let f = rw e at (parsed-formed s flags names) in rw (← l) (fits-whole (length names) t (f .0) (f .1) (f .2))
 
     parse-shallow : levels t ≤ levelLimit
-    parse-shallow = let f = rw e at (parsed-formed s flags names) in f .4
+    parse-shallow = let f = rw e at (parsed-formed s flags names) in f .3
 
   -- What linking asks, and what it gives -----------------------------------------------
 

@@ -4,10 +4,11 @@ use mathlib.Core.List.{List}
 use Prim.Native.Nat.{ℕ, _+_, _-_}
 use native.Mathlib.Omega.{arith}
 use lib.ListN.{length}
+use Rattle.syntax.specs.declared.Form.{Form}
 use Rattle.syntax.specs.declared.Quantifier.the-variants.{Absent}
 use Rattle.syntax.specs.declared.Refusal.{Refusal}
 use Rattle.syntax.specs.Read.{byte, Read, sound, refused, andThen}
-use Rattle.syntax.specs.Tree.{Rule}
+use Rattle.syntax.specs.Tree.{Rule, enclosed}
 use Rattle.syntax.specs.Names.{Names}
 use Rattle.syntax.specs.Quantifiers.{quantifier}
 use Rattle.syntax.specs.Grammar.{Inner, closing, grouped, Sequence, repeatable, whole, nextItem, part, alternation, inside}
@@ -21,7 +22,7 @@ use Rattle.parts.specs.declared.Turn.{Turn}
 use Rattle.parts.specs.declared.Turn.the-variants.{Goes, Ends}
 use Rattle.parts.specs.declared.Opening.{Opening}
 use Rattle.parts.specs.declared.Opening.the-variants.{Opens, Unopened}
-use Rattle.parts.specs.Says.{Ready, PartAfter, grouping, Begun, Opened, SaysOpening, Closes, Others}
+use Rattle.parts.specs.Says.{Ready, PartAfter, Begun, Opened, SaysOpening, Closes, Others}
 use Rattle.reader.specs.Says.{Groups, Turns, Alternates}
 use Rattle.reader.proofs.Answers.{said, moved, named, names-stay, names-stay-turn, says-as, moved-on}
 use Rattle.parts.proofs.Standing.{so-far-more, so-far-chain}
@@ -34,21 +35,21 @@ opening-at s flags depth at names table o x e h = subst (λ (y : Opening). SaysO
 abbrev pub innerOf : Cursor → ℕ → ℕ → Cursor
 innerOf c start next = record { at = start; used = c .used; opened = next }
 
-pub inner-ready : {s table area : List ℕ} {c : Cursor} {start next number : ℕ} → Ready (length s) area c → Begun s table (c .at + 1) start next number → Ready (length s) area (innerOf c start next)
+pub inner-ready : {s table area : List ℕ} {c : Cursor} {start next : ℕ} {form : Form} → Ready (length s) area c → Begun s table (c .at + 1) start next form → Ready (length s) area (innerOf c start next)
 inner-ready r b = record { within = b .within; began = r .began; paid = omega (arith, r .paid, b .on); room = r .room; narrow = r .narrow; few = b .few }
 
 module _ (s : List ℕ) (flags depth : ℕ) (c : Cursor) (before : ℕ) (names table : List ℕ) (o : Opening) (says : SaysOpening s flags depth (c .at) (namesIn s names (c .opened)) table o) where
   pub group-unopened : (old : List ℕ) (f : Refusal) → o ≡ Unopened f → Groups s flags depth old old names table c before (Refused f)
   group-unopened old f e = record { moved = tt; frame = λ i l. refl; names = tt; claim = λ known. opening-at s flags depth (c .at) (namesIn s names (c .opened)) table o (Unopened f) e says known }
 
-  module _ (start next number : ℕ) (e : o ≡ Opens start next number) where
-    pub opens : Opened s flags depth (c .at) (namesIn s names (c .opened)) table start next number
-    opens = opening-at s flags depth (c .at) (namesIn s names (c .opened)) table o (Opens start next number) e says
+  module _ (start next : ℕ) (form : Form) (e : o ≡ Opens start next form) where
+    pub opens : Opened s flags depth (c .at) (namesIn s names (c .opened)) table start next form
+    opens = opening-at s flags depth (c .at) (namesIn s names (c .opened)) table o (Opens start next form) e says
 
     -- the group by the reading of its inside
     by-inside : (known : Names) (a : Read (Rule × Names)) → alternation s flags known (inside (depth - 1) s flags known) (namesIn s table next) start ≡ a
-        → grouped s (inside depth s flags known) (c .at) (namesIn s names (c .opened)) ≡ andThen a (λ r end. closing s (c .at) (grouping number (r .0)) (r .1) end)
-    by-inside known a x = opens .goes known ∙ ap (λ (y : Read (Rule × Names)). andThen y (λ r end. closing s (c .at) (grouping number (r .0)) (r .1) end)) x
+        → grouped s (inside depth s flags known) (c .at) (namesIn s names (c .opened)) ≡ andThen a (λ r end. closing s (c .at) (enclosed form (c .at) (r .0)) (r .1) end)
+    by-inside known a x = opens .goes known ∙ ap (λ (y : Read (Rule × Names)). andThen y (λ r end. closing s (c .at) (enclosed form (c .at) (r .0)) (r .1) end)) x
 
     module _ {old mid : List ℕ} (after : List ℕ) (r : Answer) (x : Alternates s flags (depth - 1) old mid table after (innerOf c start next) r) where
       pub group-refused : (f : Refusal) → r ≡ Refused f → Groups s flags depth old mid names after c before (Refused f)
@@ -59,7 +60,7 @@ module _ (s : List ℕ) (flags depth : ℕ) (c : Cursor) (before : ℕ) (names t
         claim = λ known. by-inside known (refused (f .place) (f .reason)) (said (Inside s known) (namesIn s after) _ mid (c .used) r (Refused f) q (x .claim known));
       }
 
-      pub group-sound : (d : Cursor) (p : ℕ) → r ≡ Sound d p → (new : List ℕ) (r′ : Answer) → Closes s (c .at) number before mid new d p r′ → Groups s flags depth old new names after c before r′
+      pub group-sound : (d : Cursor) (p : ℕ) → r ≡ Sound d p → (new : List ℕ) (r′ : Answer) → Closes s (c .at) form before mid new d p r′ → Groups s flags depth old new names after c before r′
       group-sound d p q new r′ z =
           let on = opens .begins .on in
           let m = moved (length s) (innerOf c start next) 0 r (Sound d p) q (x .moved) in

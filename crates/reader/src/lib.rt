@@ -60,7 +60,7 @@ fn group(
     let o = opening_at(rule, table, at, opened, depth);
     match o {
         Opening::Unopened(f) => Answer::Refused(f),
-        Opening::Opens(start, next, number) => {
+        Opening::Opens(start, next, form) => {
             let r = alternation(
                 rule,
                 flags,
@@ -75,7 +75,7 @@ fn group(
             );
             match r {
                 Answer::Refused(f) => Answer::Refused(f),
-                Answer::Sound(d, p) => close(rule, area, at, number, before, d, p),
+                Answer::Sound(d, p) => close(rule, area, at, form, before, d, p),
             }
         }
     }

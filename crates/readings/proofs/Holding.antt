@@ -19,4 +19,4 @@ readied-holds {need} {c} {area = area} h long = record { tree = h .tree; stands 
 -- the work area is long enough for the largest budget
 pub holds-held : {area : List ℕ} {entry budget : ℕ} (line work : List ℕ) → Holds area entry budget → length area ≡ ruleAreaNeed → length line ≤ subjectLimit → workPerStep * budgetLimit ≤ length work → Held area line work entry budget
 unfolding workAreaNeed workPerStep
-holds-held line work h size fits room = record { tree = h .tree; stands = h .stands; code-size = size; subject-fits = fits; work-fits = omega (arith, h .budget-fits) }
+holds-held line work h size fits room = record { tree = h .tree; stands = h .stands; code-size = size; subject-fits = fits; work-fits = omega (arith, h .budget-fits); budget-fits = h .budget-fits }

@@ -6,7 +6,7 @@ use mathlib.Core.Bool.{Bool, true, false}
 use Prim.Native.Nat.{ℕ, suc, _+_, _-_, _*_, _≤_, _<_}
 use native.Mathlib.Omega.{arith}
 use lib.ListN.{length, take}
-use Rattle.syntax.specs.Limits.{spansLength}
+use Rattle.syntax.specs.Limits.{budgetLimit, spansLength}
 use Rattle.syntax.specs.Tree.{Rule}
 use Rattle.semantics.specs.States.{State}
 use Rattle.semantics.specs.Walk.{end, Trace, trace}
@@ -31,10 +31,11 @@ pub record Trying (p sub : List ℕ) (x : Rule) (budget from : ℕ) (barred : Bo
   pub tried : TryAt sub x budget from barred (budget - left) left rest
   pub few : left ≤ budget
 
-pub trying-start : {p sub : List ℕ} {x : Rule} {entry : ℕ} (budget from : ℕ) (barred : Bool) (wide : ℕ) (regs : List ℕ) → Stands p x entry → Bytes sub → Clear regs → from ≤ length sub → 8 * budget ≤ wide → {now : Now} → now ≡ go entry from regs [] → Trying p sub x budget from barred regs wide now budget
-trying-start {p} {sub} {x} {entry} budget from barred wide regs st bytes clear inside fits e =
+pub trying-start : {p sub : List ℕ} {x : Rule} {entry : ℕ} (budget from : ℕ) (barred : Bool) (wide : ℕ) (regs : List ℕ) → Stands p x entry → Bytes sub → Clear regs → from ≤ length sub → 8 * budget ≤ wide → budget ≤ budgetLimit → {now : Now} → now ≡ go entry from regs [] → Trying p sub x budget from barred regs wide now budget
+unfolding budgetLimit
+trying-start {p} {sub} {x} {entry} budget from barred wide regs st bytes clear inside fits few e =
     let z : budget - budget ≡ 0 = omega arith in
-    record { rest = trace sub x from; ready = rw e (begins p sub x entry from budget wide regs st bytes clear inside fits); tried = rw z (try-begin sub x budget from barred); few = omega arith }
+    record { rest = trace sub x from; ready = rw e (begins p sub x entry from budget wide regs st bytes clear inside fits (omega arith)); tried = rw z (try-begin sub x budget from barred); few = omega arith }
 
 module _ {p sub : List ℕ} {x : Rule} {budget from : ℕ} {barred : Bool} {first : List ℕ} {wide : ℕ} {now : Now} {left : ℕ} (g : Trying p sub x budget from barred first wide now left) {o : Stop} {regs work : List ℕ} (done : (f : List ℕ) (t : Trace) → Ready p sub wide left f now t → Agrees p sub wide left f regs work (until left 0 t) o) where
   agrees : Agrees p sub wide left first regs work (until left 0 (g .rest)) o

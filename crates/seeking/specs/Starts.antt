@@ -34,3 +34,9 @@ abbrev pub Answers : (regs : List ℕ) → Sought → Answer → Type 0
 Answers regs (Found start stop steps) a = Match regs start stop steps a
 Answers regs (Nothing steps) a = a ≡ record { outcome = notMatched; steps = steps }
 Answers regs (Spent start steps) a = a ≡ record { outcome = exhausted start; steps = steps }
+
+-- where nothing is found, the registers are as they were
+abbrev pub Leaves : (old new : List ℕ) → Sought → Type 0
+Leaves old new (Found start stop steps) = Unit {0}
+Leaves old new (Nothing steps) = new ≡ old
+Leaves old new (Spent start steps) = Unit {0}

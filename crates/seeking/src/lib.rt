@@ -24,7 +24,7 @@ ghost use Rattle.machine.specs.Ready.{until, Ready, Agrees};
 ghost use Rattle.machine.specs.Theorem.{Stands, Clear};
 ghost use Rattle.openings.specs.Openings.{Opens};
 ghost use Rattle.frame.specs.Inputs.{between, Held};
-ghost use Rattle.seeking.specs.Starts.{Near, Seeks, Answers};
+ghost use Rattle.seeking.specs.Starts.{Near, Seeks, Answers, Leaves};
 
 // What is told of the starts: a match, with its start, its end and the steps; or nothing is found, after so many steps; or the start at which the budget
 // was used up, and the steps. The groups of a match stand in the registers.
@@ -74,6 +74,7 @@ fn seek_within(
     requires { ⌜ Held (now code) (now subject) (now work) entry budget × Clear (now regs) × Opens (now code) entry budget (record { cost = cost; any = any; set = now set }) ⌝ }
     requires { ⌜ Near (now subject) first before ⌝ }
     ensures { λ r. ⌜ ((x : Rule) (a : Answer) → Stands (now (code .entry)) x entry → Seeks (now (subject .entry)) x budget a before first → Answers (now (regs .exit)) r a) ⌝ }
+    ensures { λ r. ⌜ Leaves (now (regs .entry)) (now (regs .exit)) r ⌝ }
 {
     let mut begin = first;
     let mut steps = before;
@@ -112,6 +113,7 @@ pub fn seek(
     requires { ⌜ (from ≤ to) × (to ≤ length (now text)) × Near (between (now text) from to) first before ⌝ }
     requires { ⌜ Held (now code) (between (now text) from to) (now work) entry budget × Clear (now regs) × Opens (now code) entry budget (record { cost = cost; any = any; set = now set }) ⌝ }
     ensures { λ r. ⌜ ((x : Rule) (a : Answer) → Stands (now (code .entry)) x entry → Seeks (between (now (text .entry)) from to) x budget a before first → Answers (now (regs .exit)) r a) ⌝ }
+    ensures { λ r. ⌜ Leaves (now (regs .entry)) (now (regs .exit)) r ⌝ }
 {
     seek_within(
         code,

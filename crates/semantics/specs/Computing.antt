@@ -6,7 +6,7 @@ use Rattle.semantics.specs.States.{starting, chose, moved, closed, row}
 use Rattle.semantics.specs.Items.{when, sameByte, sameAt, refer, compared, paidFor, toll, try}
 use Rattle.semantics.specs.Repeats.{isFull, allowed, decision}
 use Rattle.semantics.specs.Derivations.{branchCount}
-use Rattle.semantics.specs.Walk.{_▹_, done, tried, paying, decide, rounds, enough, walk, walks, trace}
+use Rattle.semantics.specs.Walk.{_▹_, done, tried, paying, decide, toFirst, ending, entering, rounds, enough, walk, walks, trace}
 use Rattle.semantics.specs.Runs.{moment, meets, spend, run, runs}
 use Rattle.semantics.specs.Answers.{unmatched, oneStepMore, first, answer, known, unless, fresh, unfilled, plainly, withRow, fill, listing}
 use Rattle.semantics.specs.NameIndex.{nameOf, entry, entries, nameIndex}
@@ -16,5 +16,5 @@ use Rattle.semantics.specs.Calls.{workAreaNeed, unacceptable, over, clea
 use Rattle.semantics.specs.Batches.{before, linesOf, low, high, outcomeNumbers, told, partOf, parts, partsNeed, batchRule, batchCall}
 
 unfoldable pub computing-calls : Unit {0}
-unfolding computing-readings ruleLimit subjectLimit budgetLimit ruleAreaNeed workPerStep flagBits unset spansLength rowLength partLength nameEntry nameIndexNeed byteBefore isNewline isWord exactlyOne holds slot starting chose moved closed row when sameByte sameAt refer compared paidFor toll try isFull allowed decision branchCount _▹_ done tried paying decide rounds enough walk walks trace moment meets spend run runs unmatched oneStepMore first answer known unless fresh unfilled plainly withRow fill listing nameOf entry entries nameIndex failed failedFrom failures greater greatest nowhere orNowhere furthest closest placesAt marked marks isEmpty barring tries search rowThen onFrom scanFrom triesLeft scan workAreaNeed unacceptable over cleared untouched declined leaving withReading unlessRefused call matchReturns matchRule matchCall listOutcome joined room listRule listCall scanRule scanCall markable explainReturns explainRule explainCall before linesOf low high outcomeNumbers told partOf parts partsNeed batchRule batchCall
+unfolding computing-readings ruleLimit subjectLimit budgetLimit ruleAreaNeed workPerStep flagBits unset spansLength rowLength partLength nameEntry nameIndexNeed byteBefore isNewline isWord exactlyOne holds slot starting chose moved closed row when sameByte sameAt refer compared paidFor toll try isFull allowed decision branchCount _▹_ done tried paying decide toFirst ending entering rounds enough walk walks trace moment meets spend run runs unmatched oneStepMore first answer known unless fresh unfilled plainly withRow fill listing nameOf entry entries nameIndex failed failedFrom failures greater greatest nowhere orNowhere furthest closest placesAt marked marks isEmpty barring tries search rowThen onFrom scanFrom triesLeft scan workAreaNeed unacceptable over cleared untouched declined leaving withReading unlessRefused call matchReturns matchRule matchCall listOutcome joined room listRule listCall scanRule scanCall markable explainReturns explainRule explainCall before linesOf low high outcomeNumbers told partOf parts partsNeed batchRule batchCall
 computing-calls = tt

@@ -299,10 +299,11 @@ IsUnset from to = (from ≡ unset) × (to ≡ unset)
 pub record RowFacts (sub : List ℕ) (groups : ℕ) (x : Row) : Type 0 where
   -- 02, j): "A row becomes 130 numbers"
   pub size : length x ≡ rowLength
-  -- "Start <= end <= length, and each set span lies within them."
+  -- "Start <= end <= length", and each set span lies within the line: 02 l), "A capture may now lie outside the match, but within the
+  -- line." None lies before the start, as nothing looks back.
   pub forward : getD x 0 0 ≤ getD x 1 0
   pub inside : getD x 1 0 ≤ length sub
-  pub spans : (group : ℕ) → 1 ≤ group → group ≤ groupLimit → IsUnset (spanFrom x group) (spanTo x group) ⊎ ((getD x 0 0 ≤ spanFrom x group) × (spanFrom x group ≤ spanTo x group) × (spanTo x group ≤ getD x 1 0))
+  pub spans : (group : ℕ) → 1 ≤ group → group ≤ groupLimit → IsUnset (spanFrom x group) (spanTo x group) ⊎ ((getD x 0 0 ≤ spanFrom x group) × (spanFrom x group ≤ spanTo x group) × (spanTo x group ≤ length sub))
   pub missing : (group : ℕ) → groups < group → group ≤ groupLimit → IsUnset (spanFrom x group) (spanTo x group)
 
 -- The whole of a match ---------------------------------------------------------------------

@@ -3,13 +3,13 @@
 use mathlib.Core.Path.{_≡_}
 use mathlib.Core.List.{List}
 use mathlib.Core.Logic.{_⊎_}
-use mathlib.Core.Bool.{Bool, false}
+use mathlib.Core.Bool.{Bool, true, false}
 use Prim.Native.Nat.{ℕ, suc}
 use lib.Dec.{eqb}
 use Rattle.syntax.specs.declared.Greed.{Greed}
 use Rattle.syntax.specs.declared.Most.{Most}
-use Rattle.syntax.specs.Tree.{Rule, empty, item, seq, alt, group, repeat, Branches, one, also}
-use Rattle.semantics.specs.States.{branch, again, goOn, State, starting, chose, closed}
+use Rattle.syntax.specs.Tree.{Rule, empty, item, seq, alt, group, repeat, held, look, Branches, one, also}
+use Rattle.semantics.specs.States.{branch, again, goOn, Before, State, starting, chose, moved, closed}
 use Rattle.semantics.specs.Items.{goes, try}
 use Rattle.semantics.specs.Repeats.{Next, round, leave, either, decision}
 
@@ -35,6 +35,10 @@ pub data Rounds (Body : State → State → Type 0) (least : ℕ) (most : Most) 
   stop : {n : ℕ} {idle : Bool} {s t : State} → On (decision least most g n idle) s t → Rounds Body least most g n idle s t
   turn : {n : ℕ} {idle : Bool} {s t u v : State} → Again (decision least most g n idle) s t → Body t u → Rounds Body least most g (suc n) (eqb (t .at) (u .at)) u v → Rounds Body least most g n idle s v
 
+-- of all states of D, the first by priority
+abbrev pub First : (State → Type 0) → State → Type 0
+First D t = D t × ((u : State) → D u → (t ≡ u) ⊎ Before (t .path) (u .path))
+
 module _ (sub : List ℕ) where
   -- r carries s to t
   abbrev mutual
@@ -48,6 +52,11 @@ module _ (sub : List ℕ) where
     Derives (group n a) s t = (m : State) × Derives a s m × (t ≡ closed n (s .at) m)
     -- "Each entry begins at n = 0."
     Derives (repeat place least most g a) s t = Rounds (Derives a) least most g 0 false s t
+    -- 02 l): "A held group and `(?=` keep only the first derivation of their inside, captures included;
+    Derives (held place a) s t = First (Derives a s) t
+    Derives (look place false a) s t = (m : State) × First (Derives a s) m × (t ≡ moved (s .at) m)
+    -- `(?!` holds when its inside has none, and sets nothing."
+    Derives (look place true a) s t = ((m : State) → ¬ Derives a s m) × (t ≡ s)
 
     pub Picks : Branches → State → State → Type 0
     Picks (one a) s t = Derives a (chose (branch 0) s) t

@@ -7,7 +7,7 @@ use Prim.Native.Nat.{ℕ, suc, _-_, _≤_, _<_}
 use lib.ListN.{length}
 use Rattle.syntax.specs.declared.Greed.{Greed}
 use Rattle.syntax.specs.declared.Most.{Most}
-use Rattle.syntax.specs.Tree.{Rule, empty, item, seq, alt, group, repeat, Branches, one, also}
+use Rattle.syntax.specs.Tree.{Rule, empty, item, seq, alt, group, repeat, held, look, Branches, one, also}
 use Rattle.syntax.specs.Lengths.{unbounded}
 use Rattle.syntax.specs.Laws.Profile.{unprofiled}
 use Rattle.semantics.specs.States.{State}
@@ -36,6 +36,8 @@ abbrev mutual
   AllAdvance sub (alt bs b) = EachAdvances sub bs × AllAdvance sub b
   AllAdvance sub (group n a) = AllAdvance sub a
   AllAdvance sub (repeat place least most g a) = (unbounded most ≡ true → Advances sub least most g a) × AllAdvance sub a
+  AllAdvance sub (held place a) = AllAdvance sub a
+  AllAdvance sub (look place negative a) = AllAdvance sub a
 
   pub EachAdvances : List ℕ → Branches → Type 0
   EachAdvances sub (one a) = AllAdvance sub a

@@ -179,6 +179,46 @@ traps =
     -- 02 j: the last of all groups is told, and a reference to it holds
     ∷ matching "()()()()()()()()()()()()()()()()()()()()()()()()()()()()()()()()()()()()()()()()()()()()()()()()()()()()()()()()()()()()()()()(a)" 0 "a" 999 (Matched 130) (rowOf 0 1 (replicate (spansLength - 2) 0 ++ (0 ∷ 1 ∷ [])) ∷ [])
     ∷ matching "()()()()()()()()()()()()()()()()()()()()()()()()()()()()()()()()()()()()()()()()()()()()()()()()()()()()()()()()()()()()()()()(a)\\64" 0 "aa" 999 (Matched 132) (rowOf 0 2 (replicate (spansLength - 2) 0 ++ (0 ∷ 1 ∷ [])) ∷ [])
+    -- 02 L1: an inner end costs its step where it is reached
+    ∷ matching "(?=a)" 0 "a" 99 (Matched 4) (rowOf 0 0 [] ∷ [])
+    ∷ matching "(?!b)" 0 "a" 99 (Matched 3) (rowOf 0 0 [] ∷ [])
+    ∷ matching "(?!a)" 0 "a" 99 (Matched 6) (rowOf 1 1 [] ∷ [])
+    -- 02 L2: `\R` with all its steps; it holds on to 0D 0A
+    ∷ matching "\\R" 0 "\n" 99 (Matched 7) (rowOf 0 1 [] ∷ [])
+    ∷ matching "\\R" 0 "\r\n" 99 (Matched 6) (rowOf 0 2 [] ∷ [])
+    ∷ matching "\\R" 0 "\u{85}" 99 (Matched 7) (rowOf 0 1 [] ∷ [])
+    ∷ matching "\\R" 0 "\ra" 99 (Matched 8) (rowOf 0 1 [] ∷ [])
+    ∷ matching "^\\R*\\n" 0 "\r\n" 99 (NotMatched 17) []
+    -- 02 L3: a possessive repeat pays as `(?>..)` does, and gives nothing back
+    ∷ matching "a*+" 0 "" 99 (Matched 5) (rowOf 0 0 [] ∷ [])
+    ∷ matching "a{2}+" 0 "aa" 99 (Matched 8) (rowOf 0 2 [] ∷ [])
+    ∷ matching "a*+a" 0 "aa" 99 (NotMatched 21) []
+    -- 02 L4: branches inside cost their steps, and those not taken are gone
+    ∷ matching "(?>a|b)" 0 "b" 99 (Matched 7) (rowOf 0 1 [] ∷ [])
+    ∷ matching "(?>a|ab)c" 0 "abc" 99 (NotMatched 20) []
+    -- 02 L5: captures of `(?=` stay, also behind the match; those of `(?!` do not
+    ∷ matching "(?=(a))" 0 "a" 99 (Matched 6) (rowOf 0 0 (0 ∷ 1 ∷ []) ∷ [])
+    ∷ matching "(?=(a))\\1" 0 "a" 99 (Matched 8) (rowOf 0 1 (0 ∷ 1 ∷ []) ∷ [])
+    ∷ matching "a(?=(b))" 0 "ab" 99 (Matched 7) (rowOf 0 1 (1 ∷ 2 ∷ []) ∷ [])
+    ∷ matching "(?!(a)b)a" 0 "a" 99 (Matched 7) (rowOf 0 1 [] ∷ [])
+    -- 02 L7: looking ahead is repeated as a group is
+    ∷ matching "(?=a)*" 0 "a" 99 (Matched 6) (rowOf 0 0 [] ∷ [])
+    ∷ matching "(?=a){2}" 0 "a" 99 (Matched 10) (rowOf 0 0 [] ∷ [])
+    -- 02 L9: exhausted inside a `(?!` is exhausted
+    ∷ matching "(?!a*b)" 0 "aaa" 3 (Exhausted 0 3) []
+    -- 02 L11: a `(?!` that fails is told before the items inside it; 02 L12: those count whether it fails or holds, and `(?=` itself is no item
+    ∷ explaining "(?!a|$)" 0 "" 99 (Unfit 6 (missed 0 0 0) (missed 0 0 0)) (1 ∷ 0 ∷ 0 ∷ 1 ∷ 0 ∷ 0 ∷ 0 ∷ [])
+    ∷ explaining "(?=a)" 0 "" 99 (Unfit 2 (missed 0 0 3) (missed 0 0 3)) (0 ∷ 0 ∷ 0 ∷ 1 ∷ 0 ∷ [])
+    ∷ explaining "(?!a)b" 0 "a" 99 (Unfit 6 (missed 1 1 3) (missed 0 0 0)) (1 ∷ 0 ∷ 0 ∷ 0 ∷ 0 ∷ 0 ∷ [])
+    -- 02 L20: what is held has one end
+    ∷ listing "(?>a|a)" 0 "a" 99 9 (Complete 1 10) (rowOf 0 1 [] ∷ [])
+    -- 02 L21, and under a repeat: an inner end is no end of the rule
+    ∷ matching "(?!)" 0 "" 99 (NotMatched 2) []
+    ∷ matching "(?!)+a" 0 "a" 99 (NotMatched 6) []
+    -- 02 G6: behind a barred end what is held is not opened again
+    ∷ scanning "(?>|a)" 0 "a" 99 9 (Complete 2 16) (rowOf 0 0 [] ∷ rowOf 1 1 [] ∷ [])
+    -- 02 L30: the items of `\R` have its place in the rule, and count where they were tried
+    ∷ explaining "\\Rb" 0 "\r" 99 (Unfit 13 (missed 0 1 0) (missed 0 1 0)) (1 ∷ 0 ∷ 1 ∷ [])
     ∷ []
 
 pub traps-avoided : map calls traps ≡ map expected traps

@@ -1,15 +1,15 @@
 -- The walk. 01: it "tries derivations depth first in that order", and each of its steps is one event of a trace.
 use mathlib.Core.Path.{_≡_}
 use mathlib.Core.List.{List, [], _∷_, _++_}
-use mathlib.Core.Bool.{Bool, false}
+use mathlib.Core.Bool.{Bool, true, false}
 use Prim.Native.Nat.{ℕ, zero, suc, _+_, _-_, _*_}
 use lib.ListN.{length}
 use lib.Dec.{eqb}
 use Rattle.syntax.specs.declared.Greed.{Greed}
 use Rattle.syntax.specs.declared.Greed.the-variants.{Greedy, Lazy}
 use Rattle.syntax.specs.declared.Most.{Most}
-use Rattle.syntax.specs.Tree.{Rule, empty, item, seq, alt, group, repeat, Branches, one, also}
-use Rattle.semantics.specs.States.{branch, again, goOn, State, starting, chose, closed}
+use Rattle.syntax.specs.Tree.{Rule, empty, item, seq, alt, group, repeat, held, look, Branches, one, also}
+use Rattle.semantics.specs.States.{branch, again, goOn, State, starting, chose, moved, closed}
 use Rattle.semantics.specs.Items.{Tried, fails, goes, toll, try}
 use Rattle.semantics.specs.Repeats.{Next, round, leave, either, decision}
 use Rattle.semantics.specs.Derivations.{branchCount}
@@ -17,7 +17,7 @@ use Rattle.semantics.specs.Derivations.{branchCount}
 infixl 60 _▹_
 -- "One step each: a byte item tried, a place tried, a reference tried, a capturing group opened, one closed, a branch begun (two or more
 -- branches), a repeat decision reached, the rule's end reached. Falling back costs nothing." A reference also pays for the bytes that it compares
--- (02, request b).
+-- (02, request b). Of a held part and of looking ahead (02, request l): "Entering each costs 1 step, its inner walk its usual steps, its inner end 1."
 pub data Event : Type 0 where
   step : Event
   miss : ℕ → ℕ → Event  -- an item tried that failed: its place in the rule, and the position in the subject
@@ -56,6 +56,25 @@ decide leave s r = done s
 decide (either Greedy) s r = r (chose (again Greedy) s) ++ done (chose (goOn Greedy) s)
 decide (either Lazy) s r = done (chose (goOn Lazy) s) ++ r (chose (again Lazy) s)
 
+-- an inner walk up to its first end, whose step it costs, and on from there by k; where it has no end, what is otherwise
+unfoldable pub toFirst : Trace → Go → Trace → Trace
+toFirst [] k other = other
+toFirst (step ∷ es) k other = step ∷ toFirst es k other
+toFirst (miss place at ∷ es) k other = miss place at ∷ toFirst es k other
+toFirst (end t ∷ es) k other = step ∷ k t
+
+-- whether a trace has an end
+unfoldable pub ending : Trace → Bool
+ending [] = false
+ending (step ∷ es) = ending es
+ending (miss place at ∷ es) = ending es
+ending (end t ∷ es) = true
+
+-- Entering `(?!`, whose inside has an end or not. "For f) a `(?!` that fails is a failed item too, tried when it is entered".
+unfoldable pub entering : ℕ → State → Bool → Event
+entering place s true = miss place (s .at)
+entering place s false = step
+
 module _ (body : Go) (least : ℕ) (most : Most) (g : Greed) where
   -- The walk from a repeat's decision. The first number bounds the decisions that follow one another: it never runs out
   -- (Laws.Walk, `decision-walk`).
@@ -76,6 +95,9 @@ module _ (sub : List ℕ) where
     walk (alt bs b) s = walks bs s ++ (step ∷ walk b (chose (branch (branchCount bs)) s))
     walk (group n a) s = step ∷ (walk a s ▹ (λ t. step ∷ done (closed n (s .at) t)))
     walk (repeat place least most g a) s = rounds (λ t. walk a t) least most g (enough least (s .at)) 0 false s
+    walk (held place a) s = step ∷ toFirst (walk a s) done []
+    walk (look place false a) s = step ∷ toFirst (walk a s) (λ t. done (moved (s .at) t)) []
+    walk (look place true a) s = entering place s (ending (walk a s)) ∷ toFirst (walk a s) (λ t. []) (done s)
 
     pub walks : Branches → State → Trace
     walks (one a) s = step ∷ walk a (chose (branch 0) s)

@@ -1,6 +1,6 @@
 -- The compiled rule: the tree as nodes of numbers in the rule area. A node is also an instruction: it tells where the walk goes on. The walk
--- visits one node for each step, so that sequences and groups that do not capture have none. Only runs and references make several steps, and these
--- two have the highest numbers.
+-- visits one node for each step, so that sequences and groups that do not capture have none. Only runs, references and breaks make several steps. All
+-- that a match visits most often has a number below the end's.
 --
 --   byte       0, next, place, the class in eight words
 --   assertion  1, next, place, which
@@ -12,9 +12,16 @@
 --   end        9
 --   run       10, 8, least, most, greed, register, body, next    a greedy repeat of one byte item, `a*` or `(?:a)*`, which is taken as a whole
 --   reference 11, next, place, the slot of its group's span, 1 if it is folded
+--   break     12, next, place                          `\R`, which is taken as a whole
+--   mark      13, body, register                       a held part, or looking ahead, is entered
+--   keep      14, next, register                       the inner end of a held part
+--   return    15, next, register                       the inner end of looking ahead
+--   forbid    16, body, register, next                 negative looking ahead is entered
+--   refute    17, next, register, place                its inner end, at which nothing follows
 --
 -- `next` is the position of the node after it, `place` the item's place in the rule. A group keeps where it was opened, and a repeat its
--- rounds and where the last one began, in two registers from the number given on; nodes inside use those behind.
+-- rounds and where the last one began, in two registers from the number given on; nodes inside use those behind. A held part and looking ahead
+-- keep there how many frames the stack had when they were entered, and where in the subject that was.
 use mathlib.Core.Path.{_≡_}
 use mathlib.Core.Bool.{Bool, true, false}
 use mathlib.Core.List.{List}
@@ -30,7 +37,7 @@ use Rattle.syntax.specs.declared.Most.the-variants.{AtMost, Unlimited}
 use Rattle.charset.specs.Class.{has}
 use Rattle.syntax.specs.Limits.{unset, spansLength, slot, registers}
 use Rattle.syntax.specs.Sets.{inClass}
-use Rattle.syntax.specs.Tree.{Item, byteIn, assert, reference, Rule, empty, item, seq, alt, group, repeat, Branches, one, also}
+use Rattle.syntax.specs.Tree.{Item, byteIn, assert, reference, Rule, empty, item, seq, alt, group, repeat, held, look, Branches, one, also, lineBreak}
 use Rattle.syntax.specs.WellFormed.{BoundsFit}
 
 -- Numbers for what is no number -----------------------------------------------
@@ -70,9 +77,13 @@ OneByte (seq (seq x y) b) = ⊥
 OneByte (seq (alt bs x) b) = ⊥
 OneByte (seq (group n x) b) = ⊥
 OneByte (seq (repeat place least most g x) b) = ⊥
+OneByte (seq (held place x) b) = ⊥
+OneByte (seq (look place negative x) b) = ⊥
 OneByte (alt bs b) = ⊥
 OneByte (group n a) = ⊥
 OneByte (repeat place least most g a) = ⊥
+OneByte (held place a) = ⊥
+OneByte (look place negative a) = ⊥
 
 -- what can be repeated as a run
 abbrev pub RunOf : Greed → Rule → Type 0
@@ -115,6 +126,39 @@ module _ (p : List ℕ) (lo hi : ℕ) where
     fits : slot n + 2 ≤ spansLength;
     folds : getD p (pc + 4) 0 ≡ foldedWord folded;
   }
+
+  -- `\R` stands at pc
+  pub record CompiledBreak (place pc next : ℕ) : Type 0 where
+    pub node : Node pc 3 12
+    pub goes : getD p (pc + 1) 0 ≡ next
+    pub origin : getD p (pc + 2) 0 ≡ place
+
+  -- a part between a mark and an inner end of a kind; what its inside compiles to is given by where that stands and goes on, and by its first register
+  pub record CompiledMarked (kind : ℕ) (Inside : (pc next r : ℕ) → Type 0) (pc next r : ℕ) : Type 0 where
+    pub room : r + 2 ≤ registers
+    pub opening : Node pc 3 13
+    pub body : ℕ
+    pub enters : getD p (pc + 1) 0 ≡ body
+    pub opener : getD p (pc + 2) 0 ≡ r
+    pub close : ℕ
+    pub inner : Inside body close (r + 2)
+    pub node : Node close 3 kind
+    pub goes : getD p (close + 1) 0 ≡ next
+    pub closer : getD p (close + 2) 0 ≡ r
+
+  -- negative looking ahead: where its inside ends nothing follows
+  pub record CompiledForbidden (place : ℕ) (Inside : (pc next r : ℕ) → Type 0) (pc next r : ℕ) : Type 0 where
+    pub room : r + 2 ≤ registers
+    pub opening : Node pc 4 16
+    pub body : ℕ
+    pub enters : getD p (pc + 1) 0 ≡ body
+    pub opener : getD p (pc + 2) 0 ≡ r
+    pub goes : getD p (pc + 3) 0 ≡ next
+    pub close : ℕ
+    pub inner : Inside body close (r + 2)
+    pub node : Node close 4 17
+    pub closer : getD p (close + 2) 0 ≡ r
+    pub origin : getD p (close + 3) 0 ≡ place
 
   -- the rule stands at pc, goes on at next, and uses the registers from r on
   unfoldable mutual
@@ -160,6 +204,9 @@ module _ (p : List ℕ) (lo hi : ℕ) where
       goes : getD p (pc + 7) 0 ≡ next;
       inner : Compiled a body (pc + 1) (r + 2);
     }
+    Compiled (held place a) pc next r = ((held place a ≡ lineBreak place) × CompiledBreak place pc next) ⊎ CompiledMarked 14 (λ b n q. Compiled a b n q) pc next r
+    Compiled (look place false a) pc next r = CompiledMarked 15 (λ b n q. Compiled a b n q) pc next r
+    Compiled (look place true a) pc next r = CompiledForbidden place (λ b n q. Compiled a b n q) pc next r
 
     -- branches from pc on, the last of which goes on to the branch at `other`
     pub CompiledBranches : Branches → (pc other next r : ℕ) → Type 0

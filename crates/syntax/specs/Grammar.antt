@@ -1,10 +1,12 @@
 -- The grammar of rules: items, sequences, alternations and groups, read by recursion on the nesting depth.
 use mathlib.Core.List.{List, [], _∷_}
-use mathlib.Core.Bool.{Bool, true, false, not, _||_}
-use Prim.Native.Nat.{ℕ, zero, suc, _+_}
+use mathlib.Core.Bool.{Bool, true, false, not, _&&_, _||_}
+use Prim.Native.Nat.{ℕ, zero, suc, _+_, _-_}
 use lib.ListN.{length, drop}
 use lib.Dec.{ltb, eqb}
 use Rattle.syntax.specs.declared.Assertion.the-variants.{TextStart, LineStart, LastLineEnd, LineEnd}
+use Rattle.syntax.specs.declared.Form.{Form}
+use Rattle.syntax.specs.declared.Form.the-variants.{Grouped, Captured, Held, Ahead, NotAhead}
 use Rattle.syntax.specs.declared.Greed.{Greed}
 use Rattle.syntax.specs.declared.Most.{Most}
 use Rattle.syntax.specs.declared.Quantifier.{Quantifier}
@@ -15,7 +17,7 @@ use Rattle.charset.specs.declared.Named.the-variants.{Space}
 use Rattle.charset.specs.Named.{inNamed}
 use Rattle.syntax.specs.Read.{if_then_else_, byte, isEnd, is, Read, sound, refused, andThen}
 use Rattle.syntax.specs.Sets.{single, only, notNewline, anyByte}
-use Rattle.syntax.specs.Tree.{Item, byteIn, assert, reference, Rule, empty, item, seq, group, repeat, Branches, one, also, alternatives}
+use Rattle.syntax.specs.Tree.{Item, byteIn, assert, reference, Rule, empty, item, seq, repeat, Branches, one, also, alternatives, enclosed, possessive, lineBreak}
 use Rattle.syntax.specs.Flags.{dotAll, multiline, ignoreCase, extended, depot}
 use Rattle.syntax.specs.Names.{Name, Names, nameUpTo, fresh}
 use Rattle.syntax.specs.Escapes.{escape}
@@ -64,15 +66,24 @@ closing s opening t names at = if is ")" (byte s at) then sound (t, names) (at +
 unfoldable pub capturing : List ℕ → Inner → ℕ → Names → Read Name → Read (Rule × Names)
 capturing s inner opening names name =
     if ltb (length names) groupLimit
-    then andThen (inner opening (andThen name (λ n at. sound (n ∷ names) at))) (λ r at. closing s opening (group (suc (length names)) (r .0)) (r .1) at)
+    then andThen (inner opening (andThen name (λ n at. sound (n ∷ names) at))) (λ r at. closing s opening (enclosed (Captured (suc (length names))) opening (r .0)) (r .1) at)
     else refused opening TooManyGroups
 
--- `( )`, `(?: )` and 02's `(?<litres> )`; of 22 to 26 "on one byte the lower number": 24 is given by what reads the inside, before the name is looked at
+-- one that does not, whose inside begins behind three bytes
+unfoldable pub uncaptured : List ℕ → Inner → ℕ → Names → Form → Read (Rule × Names)
+uncaptured s inner opening names form = andThen (inner opening (sound names (opening + 3))) (λ r at. closing s opening (enclosed form opening (r .0)) (r .1) at)
+
+-- `( )`, `(?: )` and 02's `(?<litres> )`, `(?>..)`, `(?=..)` and `(?!..)`; of 22 to 26 "on one byte the lower number": 24 is given by what reads the inside,
+-- before the name is looked at
 unfoldable pub grouped : List ℕ → Inner → ℕ → Names → Read (Rule × Names)
 grouped s inner opening names =
+    let b = byte s (opening + 2) in
     if not (is "?" (byte s (opening + 1))) then capturing s inner opening names (sound [] (opening + 1))
-    else if is ":" (byte s (opening + 2)) then andThen (inner opening (sound names (opening + 3))) (λ r at. closing s opening (r .0) (r .1) at)
-    else if is "<" (byte s (opening + 2)) then capturing s inner opening names (fresh opening names (nameUpTo ">" s opening (opening + 3)))
+    else if is ":" b then uncaptured s inner opening names Grouped
+    else if is ">" b then uncaptured s inner opening names Held
+    else if is "=" b then uncaptured s inner opening names Ahead
+    else if is "!" b then uncaptured s inner opening names NotAhead
+    else if is "<" b then capturing s inner opening names (fresh opening names (nameUpTo ">" s opening (opening + 3)))
     else refused opening UnknownGroup
 
 -- Sequences -----------------------------------------------------------------
@@ -99,14 +110,20 @@ unfitFor (unrepeatable t) at = refused at NothingToRepeat
 unfitFor (repeatable before last) at = refused at BadBraces
 unfitFor (repeated t) at = refused at BadBraces
 
-unfoldable pub repeating : Sequence → ℕ → ℕ → Most → Greed → Names → ℕ → Read (Sequence × Names)
-repeating (unrepeatable t) at n m g names next = refused at NothingToRepeat
-repeating (repeatable before last) at n m g names next = sound (repeated (seq before (repeat at n m g last)), names) next
-repeating (repeated t) at n m g names next = refused at RepeatOnRepeat
+-- a possessive repeat ends with its `+`
+unfoldable pub repeating : Sequence → ℕ → ℕ → Most → Greed → Bool → Names → ℕ → Read (Sequence × Names)
+repeating (unrepeatable t) at n m g keeps names next = refused at NothingToRepeat
+repeating (repeatable before last) at n m g keeps names next = sound (repeated (seq before (possessive keeps (next - 1) (repeat at n m g last))), names) next
+repeating (repeated t) at n m g keeps names next = refused at RepeatOnRepeat
+
+-- `\R`, which is no byte item, stands here outside classes; in a class it is an escape not held
+unfoldable pub breaksLine : List ℕ → ℕ → Bool
+breaksLine s at = is "\\" (byte s at) && is "R" (byte s (at + 1))
 
 unfoldable pub nextItem : List ℕ → ℕ → Names → Inner → Sequence → Names → ℕ → Read (Sequence × Names)
 nextItem s flags known inner q names at =
     if is "(" (byte s at) then andThen (grouped s inner at names) (λ r next. sound (repeatable (whole q) (r .0), r .1) next)
+    else if breaksLine s at then sound (repeatable (whole q) (lineBreak at), names) (at + 2)
     else andThen (atom s flags known (length names) at) (λ i next. sound (withItem q at i, names) next)
 
 -- one part of a sequence: an item, or a repeat of the item before it
@@ -114,7 +131,7 @@ unfoldable pub part : List ℕ → ℕ → Names → Inner → Sequence → Name
 part s flags known inner q names at Absent = nextItem s flags known inner q names at
 part s flags known inner q names at Stray = refused at BadBraces
 part s flags known inner q names at Unfit = unfitFor q at
-part s flags known inner q names at (Times n m g next) = repeating q at n m g names next
+part s flags known inner q names at (Times n m g keeps next) = repeating q at n m g keeps names next
 
 -- a sequence ends at a bar, at a closing bracket and at the rule's end
 unfoldable pub ends : ℕ → Bool

@@ -50,11 +50,6 @@ groupLimit = 64
 unfoldable pub nestingLimit : ℕ
 nestingLimit = 24
 
--- how many levels of sequences and repeats stand one inside another: the rule itself and its groups are sequences, and each may be repeated
-unfoldable pub levelLimit : ℕ
-unfolding nestingLimit
-levelLimit = 2 * suc nestingLimit
-
 -- the greatest bound of a repeat
 unfoldable pub boundLimit : ℕ
 boundLimit = 255
@@ -107,10 +102,20 @@ unfoldable pub nameIndexNeed : ℕ
 unfolding groupLimit nameEntry
 nameIndexNeed = groupLimit * nameEntry
 
--- Registers -----------------------------------------------------------------------
+-- Nesting, and registers -----------------------------------------------------------
 
--- The machine's registers: the captures, and two for each level of groups and repeats, one inside another. Repeats nest one level deeper
--- than groups: the rule itself may stand under one.
+-- How deep those parts nest that keep something in registers. A level of brackets has three of them at most, one in another: a group, its repeat, and
+-- the part that holds on if the repeat is possessive. So has what stands inside all brackets: `\R*+`.
+unfoldable pub heightLimit : ℕ
+unfolding nestingLimit
+heightLimit = 3 * suc nestingLimit
+
+-- how many levels of sequences and repeats stand one inside another: each of those parts brings two at most
+unfoldable pub levelLimit : ℕ
+unfolding heightLimit
+levelLimit = 2 * heightLimit
+
+-- The machine's registers: the captures, and two for each part that keeps something, one inside another.
 unfoldable pub registers : ℕ
-unfolding spansLength nestingLimit
-registers = spansLength + 2 * (nestingLimit + suc nestingLimit)
+unfolding spansLength heightLimit
+registers = spansLength + 2 * heightLimit

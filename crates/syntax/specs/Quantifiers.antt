@@ -1,10 +1,9 @@
--- Quantifiers: `* + ? {n} {n,} {n,m}`, greedy and lazy.
+-- Quantifiers: `* + ? {n} {n,} {n,m}`, greedy, lazy and possessive.
 use mathlib.Core.List.{List}
-use mathlib.Core.Bool.{_&&_}
+use mathlib.Core.Bool.{true, false, _&&_}
 use Prim.Native.Nat.{ℕ, _+_}
 use lib.ListN.{length}
 use lib.Dec.{leb}
-use Rattle.syntax.specs.declared.Greed.{Greed}
 use Rattle.syntax.specs.declared.Greed.the-variants.{Greedy, Lazy}
 use Rattle.syntax.specs.declared.Most.{Most}
 use Rattle.syntax.specs.declared.Most.the-variants.{AtMost, Unlimited}
@@ -14,9 +13,12 @@ use Rattle.syntax.specs.Limits.{boundLimit}
 use Rattle.syntax.specs.Read.{if_then_else_, byte, is}
 use Rattle.syntax.specs.Numbers.{digits, value, isNone}
 
--- "greedy and lazy": a `?` behind the repeat makes it lazy
+-- "greedy and lazy": a `?` behind the repeat makes it lazy; 02, request l): "possessive `+` after a greedy repeat"
 unfoldable pub withGreed : List ℕ → ℕ → Most → ℕ → Quantifier
-withGreed s least most at = if is "?" (byte s at) then Times least most Lazy (at + 1) else Times least most Greedy at
+withGreed s least most at =
+    if is "?" (byte s at) then Times least most Lazy false (at + 1)
+    else if is "+" (byte s at) then Times least most Greedy true (at + 1)
+    else Times least most Greedy false at
 
 -- "a bound over 255, or n > m"
 unfoldable pub atLeast : List ℕ → ℕ → ℕ → Quantifier

@@ -9,7 +9,7 @@ use Rattle.syntax.specs.declared.Reason.{Reason}
 use Rattle.syntax.specs.declared.Reason.the-variants.{NoSuchGroup, UnopenedGroup, BarredReference, IdleRepeat}
 use Rattle.syntax.specs.Limits.{nestingLimit}
 use Rattle.syntax.specs.Read.{if_then_else_, byte, isEnd, Read, sound, refused, andThen}
-use Rattle.syntax.specs.Tree.{Item, byteIn, assert, reference, Rule, empty, item, seq, alt, group, repeat, Branches, one, also}
+use Rattle.syntax.specs.Tree.{Item, byteIn, assert, reference, Rule, empty, item, seq, alt, group, repeat, held, look, Branches, one, also}
 use Rattle.syntax.specs.Flags.{depot}
 use Rattle.syntax.specs.Lengths.{leastLength, unbounded}
 use Rattle.syntax.specs.Names.{Names}
@@ -48,6 +48,8 @@ unfoldable mutual
   unresolved groups (alt bs b) = firstOf (unresolvedIn groups bs) (unresolved groups b)
   unresolved groups (group n a) = unresolved groups a
   unresolved groups (repeat at n m g a) = unresolved groups a
+  unresolved groups (held at a) = unresolved groups a
+  unresolved groups (look at negative a) = unresolved groups a
 
   pub unresolvedIn : ℕ → Branches → Option ℕ
   unresolvedIn groups (one a) = unresolved groups a
@@ -64,6 +66,8 @@ unfoldable mutual
   idle (alt bs b) = firstOf (idleIn bs) (idle b)
   idle (group n a) = idle a
   idle (repeat at n m g a) = firstOf (idle a) (if unbounded m && eqb (leastLength a) 0 then some at else none)
+  idle (held at a) = idle a
+  idle (look at negative a) = idle a
 
   pub idleIn : Branches → Option ℕ
   idleIn (one a) = idle a

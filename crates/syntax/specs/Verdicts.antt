@@ -126,7 +126,6 @@ verdicts =
     ∷ "a{2}??" gives 19 at 5
     ∷ "a{2}?" holds 0
     ∷ "a**" gives 19 at 2
-    ∷ "a*+" gives 19 at 2
     -- A6: what can be repeated
     ∷ "(*" gives 17 at 1
     ∷ "(?*" gives 22 at 0
@@ -256,6 +255,31 @@ verdicts =
     ∷ "(?<!a)" gives 25 at 0
     ∷ "(?'a'b)" gives 22 at 0
     ∷ "(?P<a>b)" gives 22 at 0
+    -- 02 L6: possessive repeats
+    ∷ "a*+" holds 0
+    ∷ "a?+" holds 0
+    ∷ "a{2}+" holds 0
+    ∷ "a*+?" gives 19 at 3
+    ∷ "a*++" gives 19 at 3
+    ∷ "a*+{256}" gives 18 at 3
+    ∷ "a{,2}+" gives 18 at 1
+    ∷ "^*+" gives 17 at 1
+    -- 02 L7: looking ahead may be repeated
+    ∷ "(?=a)*" holds 0
+    ∷ "(?!a){2}" holds 0
+    ∷ "(?=*a)" gives 17 at 3
+    -- 02 L8: 24 counts the three openings, but neither `\R` nor a possessive repeat
+    ∷ "(?>(?>(?>(?>(?>(?>(?>(?>(?>(?>(?>(?>(?>(?>(?>(?>(?>(?>(?>(?>(?>(?>(?>(?>(?>" gives 24 at 72
+    ∷ "(?>(?=(?!((((((((((((((((((((((" gives 24 at 30
+    ∷ "((((((((((((((((((((((((\\R++))))))))))))))))))))))))" holds 24
+    ∷ "(?=" gives 20 at 0
+    ∷ "(?!a" gives 20 at 0
+    ∷ "(?=(a))\\1" holds 1
+    -- `\R`: no escape of a class, and what can be repeated
+    ∷ "[\\R]" gives 11 at 1
+    ∷ "[a-\\R]" gives 11 at 3
+    ∷ "\\R*" holds 0
+    ∷ "\\R{2}+" holds 0
     ∷ []
 
 pub verdicts-hold : map (read 0) verdicts ≡ verdicts
@@ -317,6 +341,10 @@ extendedVerdicts =
     ∷ "^ *" gives 17 at 2
     ∷ "( *)" gives 17 at 2
     ∷ "\\N {" gives 18 at 3
+    -- 02 L6: a `+` behind a blank is no possessive one
+    ∷ "a* +" gives 19 at 3
+    ∷ "(?> a)" holds 0
+    ∷ "(? >a)" gives 22 at 0
     -- 02 C15: classes
     ∷ "[ ]" holds 0
     ∷ "[#]" holds 0
@@ -374,6 +402,15 @@ depotVerdicts =
     ∷ "(a)(?:\\1){0}" gives 27 at 6
     ∷ "(?<n>a)\\k<n>" gives 27 at 7
     ∷ "(?<n>a)" holds 1
+    -- 02 L31: least lengths of held parts, looking ahead and `\R`; a possessive repeat has its repeat's place
+    ∷ "(?=a)*" gives 28 at 5
+    ∷ "(?!a)b" holds 0
+    ∷ "(?>a?)*" gives 28 at 6
+    ∷ "(?>a)*" holds 0
+    ∷ "(a?)*+" gives 28 at 4
+    ∷ "a*+" holds 0
+    ∷ "\\R*" holds 0
+    ∷ "(?=()*)" gives 28 at 5
     ∷ []
 
 pub depot-verdicts-hold : map (read 16) depotVerdicts ≡ depotVerdicts

@@ -2,8 +2,8 @@
 use Prim.Native.Nat.{ℕ, suc, max, _≤_}
 use Rattle.syntax.specs.declared.Most.{Most}
 use Rattle.syntax.specs.declared.Most.the-variants.{AtMost, Unlimited}
-use Rattle.syntax.specs.Limits.{groupLimit, boundLimit, nestingLimit}
-use Rattle.syntax.specs.Tree.{Item, byteIn, assert, reference, Rule, empty, item, seq, alt, group, repeat, Branches, one, also}
+use Rattle.syntax.specs.Limits.{groupLimit, boundLimit, heightLimit}
+use Rattle.syntax.specs.Tree.{Item, byteIn, assert, reference, Rule, empty, item, seq, alt, group, repeat, held, look, Branches, one, also}
 
 -- bounds are at most 255, and the minimum is at most the maximum
 abbrev pub BoundsFit : ℕ → Most → Type 0
@@ -19,6 +19,8 @@ abbrev mutual
   Proper groups (alt bs b) = Propers groups bs × Proper groups b
   Proper groups (group n a) = (1 ≤ n) × (n ≤ groups) × Proper groups a
   Proper groups (repeat at n m g a) = BoundsFit n m × Proper groups a
+  Proper groups (held at a) = Proper groups a
+  Proper groups (look at negative a) = Proper groups a
 
   pub Propers : ℕ → Branches → Type 0
   Propers groups (one a) = Proper groups a
@@ -38,38 +40,28 @@ abbrev mutual
   Resolved groups (alt bs b) = ResolvedIn groups bs × Resolved groups b
   Resolved groups (group n a) = Resolved groups a
   Resolved groups (repeat at n m g a) = Resolved groups a
+  Resolved groups (held at a) = Resolved groups a
+  Resolved groups (look at negative a) = Resolved groups a
 
   pub ResolvedIn : ℕ → Branches → Type 0
   ResolvedIn groups (one a) = Resolved groups a
   ResolvedIn groups (also bs b) = ResolvedIn groups bs × Resolved groups b
 
--- how deep capturing groups nest
+-- how deep those parts nest that keep something in registers: groups that capture, repeats, held parts and looking ahead
 abbrev mutual
-  pub groupDepth : Rule → ℕ
-  groupDepth empty = 0
-  groupDepth (item at i) = 0
-  groupDepth (seq a b) = max (groupDepth a) (groupDepth b)
-  groupDepth (alt bs b) = max (groupDepths bs) (groupDepth b)
-  groupDepth (group n a) = suc (groupDepth a)
-  groupDepth (repeat at n m g a) = groupDepth a
+  pub height : Rule → ℕ
+  height empty = 0
+  height (item at i) = 0
+  height (seq a b) = max (height a) (height b)
+  height (alt bs b) = max (heights bs) (height b)
+  height (group n a) = suc (height a)
+  height (repeat at n m g a) = suc (height a)
+  height (held at a) = suc (height a)
+  height (look at negative a) = suc (height a)
 
-  pub groupDepths : Branches → ℕ
-  groupDepths (one a) = groupDepth a
-  groupDepths (also bs b) = max (groupDepths bs) (groupDepth b)
-
--- how deep repeats nest
-abbrev mutual
-  pub repeatDepth : Rule → ℕ
-  repeatDepth empty = 0
-  repeatDepth (item at i) = 0
-  repeatDepth (seq a b) = max (repeatDepth a) (repeatDepth b)
-  repeatDepth (alt bs b) = max (repeatDepths bs) (repeatDepth b)
-  repeatDepth (group n a) = repeatDepth a
-  repeatDepth (repeat at n m g a) = suc (repeatDepth a)
-
-  pub repeatDepths : Branches → ℕ
-  repeatDepths (one a) = repeatDepth a
-  repeatDepths (also bs b) = max (repeatDepths bs) (repeatDepth b)
+  pub heights : Branches → ℕ
+  heights (one a) = height a
+  heights (also bs b) = max (heights bs) (height b)
 
 -- How many levels of sequences and repeats stand one inside another. Each part of a sequence stands one level deeper, and so does the body of a
 -- repeat. All kinds of groups count: one that does not capture is a sequence or an alternation that is itself a part.
@@ -81,6 +73,8 @@ abbrev mutual
   levels (alt bs b) = max (levelsIn bs) (levels b)
   levels (group n a) = levels a
   levels (repeat at n m g a) = suc (levels a)
+  levels (held at a) = levels a
+  levels (look at negative a) = levels a
 
   pub levelsIn : Branches → ℕ
   levelsIn (one a) = levels a
@@ -90,5 +84,4 @@ pub record WellFormed (groups : ℕ) (r : Rule) : Type 0 where
   pub few : groups ≤ groupLimit
   pub proper : Proper groups r
   pub resolved : Resolved groups r
-  pub groupsNest : groupDepth r ≤ nestingLimit
-  pub repeatsNest : repeatDepth r ≤ suc nestingLimit
+  pub nests : height r ≤ heightLimit

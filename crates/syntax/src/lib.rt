@@ -90,8 +90,22 @@ pub enum Quantifier {
     Stray,
     // a well-formed repeat with a bound over 255, or n > m
     Unfit,
-    // minimum, maximum, greed, and the position behind it
-    Times(u32, Most, Greed, usize),
+    // minimum, maximum, greed, whether it is possessive, and the position behind it
+    Times(u32, Most, Greed, bool, usize),
+}
+
+// What a group makes of its inside.
+pub enum Form {
+    // `(?:..)`
+    Grouped,
+    // `(..)` and `(?<name>..)`, by its number
+    Captured(u32),
+    // `(?>..)`
+    Held,
+    // `(?=..)`
+    Ahead,
+    // `(?!..)`
+    NotAhead,
 }
 
 // A refusal: the place in the rule, and the reason.

@@ -19,10 +19,11 @@ pub const NAME_ENTRY: usize = NAME_LIMIT + 1;
 
 pub const NAME_INDEX_NEED: usize = GROUP_LIMIT as usize * NAME_ENTRY;
 
-// how deep groups may nest, and the machine's registers: the captures, and two for each level of groups and repeats
+// how deep groups may nest, and the machine's registers: the captures, and two for each part that keeps something, of which there are three in each level
+// of groups
 pub const NESTING_LIMIT: u32 = 24;
 
-pub const REGISTERS: usize = SPANS_LENGTH + 2 * (2 * NESTING_LIMIT as usize + 1);
+pub const REGISTERS: usize = SPANS_LENGTH + 2 * 3 * (NESTING_LIMIT as usize + 1);
 
 // How many groups a rule can have.
 pub fn group_limit() -> u32

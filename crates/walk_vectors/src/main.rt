@@ -116,7 +116,7 @@ fn walk_from(
     start: usize,
     budget: u32,
 )
-    requires { ⌜ (start ≤ length (now sub)) × (length (now sub) < 2 ^ 32) × (length (now code) < 2 ^ 32) × (8 * budget ≤ length (now work)) × (groups ≤ groupLimit) × (pc < 2 ^ 32) ⌝ }
+    requires { ⌜ (start ≤ length (now sub)) × (length (now sub) < 2 ^ 32) × (length (now code) < 2 ^ 32) × (8 * budget ≤ length (now work)) × (groups ≤ groupLimit) × (pc < 2 ^ 32) × (2 * budget < 2 ^ 32) ⌝ }
     requires { ⌜ ((x : Rule) × Stands (now code) x pc) ⌝ }
 {
     let mut regs = [4294967295u32; REGISTERS];
@@ -134,7 +134,7 @@ fn tell(
     area: &mut [u32],
     work: &mut [u32],
 )
-    requires { ⌜ (length (now rule) ≤ ruleLimit) × (length (now area) ≡ ruleAreaNeed) × (length (now sub) < 2 ^ 32) × (8 * budget ≤ length (now work)) ⌝ }
+    requires { ⌜ (length (now rule) ≤ ruleLimit) × (length (now area) ≡ ruleAreaNeed) × (length (now sub) < 2 ^ 32) × (8 * budget ≤ length (now work)) × (2 * budget < 2 ^ 32) ⌝ }
 {
     if sub.len() < start {
         put(b"no such start\n");

@@ -1,19 +1,19 @@
 -- One node as the code carries it out, and the invariant of the loop that walks over nodes of one step. Assumes nothing.
 use mathlib.Core.Path.{_≡_, refl, ap, sym, _∙_}
-use mathlib.Core.List.{List}
+use mathlib.Core.List.{List, []}
 use mathlib.Core.Bool.{Bool, true, false}
-use Prim.Native.Nat.{ℕ, _+_, _*_, _-_, _≤_, _<_}
+use Prim.Native.Nat.{ℕ, zero, suc, _+_, _*_, _-_, _^_, _≤_, _<_}
 use native.Mathlib.Omega.{arith}
 use lib.ListN.{length, getD}
 use Rattle.syntax.specs.declared.Greed.the-variants.{Greedy, Lazy}
 use Rattle.semantics.specs.Repeats.{Next, round, leave, either}
 use Rattle.semantics.specs.Walk.{Trace}
 use Rattle.machine.specs.declared.Machine.{Machine}
-use Rattle.machine.specs.Code.{Program, decode, Fits}
+use Rattle.machine.specs.Code.{Program, decodeAs, decode, FitsAs, Fits}
 use Rattle.machine.specs.Moves.{Stack, Configuration, Now, idle, busy, begin, decided, decides, carryOut, move}
 use Rattle.machine.specs.Words.{stackOf, configurationOf, pickNow, nowOf, movedOn, carried}
 use Rattle.machine.specs.Ready.{Leads, stay, onward, StackFits, Ready}
-use Rattle.machine.specs.Laws.Loop.{Running, ready-led, leads-join, ReadyForSome, running-fits, running-stack, running-low}
+use Rattle.machine.specs.Laws.Loop.{Running, ready-led, leads-several, leads-join, ReadyForSome, running-fits, running-stack, running-low, running-short}
 
 pub moved-as : (p sub regs work : List ℕ) (m : Machine) (n : ℕ) → getD p (m .pc) 0 ≡ n → movedOn p sub regs work m ≡ carried n p sub regs work m
 unfolding move decode
@@ -32,6 +32,42 @@ only-loop n h a b c d e f g i = high n h (low n a b c d) e f g i
 -- one node
 pub one-node : (p sub regs work regs′ work′ : List ℕ) (m m′ : Machine) → m .live ≡ true → getD p (m .pc) 0 ≤ 8 → nowOf regs′ work′ m′ ≡ movedOn p sub regs work m → Leads p sub (nowOf regs work m) 1 (nowOf regs′ work′ m′)
 one-node p sub regs work regs′ work′ m m′ live k e = rw (e, live) (onward stay k)
+
+-- one node of a held part or of looking ahead
+marked-single : (p sub : List ℕ) (n pc at : ℕ) (regs : List ℕ) (st : Stack) → 13 ≤ n → FitsAs n p pc → carryOut p sub (decodeAs n p pc) at regs st .more ≡ []
+unfolding carryOut
+marked-single p sub zero pc at regs st h f = absurd (omega arith)
+marked-single p sub (suc zero) pc at regs st h f = absurd (omega arith)
+marked-single p sub (suc (suc zero)) pc at regs st h f = absurd (omega arith)
+marked-single p sub (suc (suc (suc zero))) pc at regs st h f = absurd (omega arith)
+marked-single p sub (suc (suc (suc (suc zero)))) pc at regs st h f = absurd (omega arith)
+marked-single p sub (suc (suc (suc (suc (suc zero))))) pc at regs st h f = absurd (omega arith)
+marked-single p sub (suc (suc (suc (suc (suc (suc zero)))))) pc at regs st h f = absurd (omega arith)
+marked-single p sub (suc (suc (suc (suc (suc (suc (suc zero))))))) pc at regs st h f = absurd (omega arith)
+marked-single p sub (suc (suc (suc (suc (suc (suc (suc (suc zero)))))))) pc at regs st h f = absurd (omega arith)
+marked-single p sub (suc (suc (suc (suc (suc (suc (suc (suc (suc zero))))))))) pc at regs st h f = absurd (omega arith)
+marked-single p sub (suc (suc (suc (suc (suc (suc (suc (suc (suc (suc zero)))))))))) pc at regs st h f = absurd (omega arith)
+marked-single p sub (suc (suc (suc (suc (suc (suc (suc (suc (suc (suc (suc zero))))))))))) pc at regs st h f = absurd (omega arith)
+marked-single p sub (suc (suc (suc (suc (suc (suc (suc (suc (suc (suc (suc (suc zero)))))))))))) pc at regs st h f = absurd (omega arith)
+marked-single p sub (suc (suc (suc (suc (suc (suc (suc (suc (suc (suc (suc (suc (suc zero))))))))))))) pc at regs st h f = refl
+marked-single p sub (suc (suc (suc (suc (suc (suc (suc (suc (suc (suc (suc (suc (suc (suc zero)))))))))))))) pc at regs st h f = refl
+marked-single p sub (suc (suc (suc (suc (suc (suc (suc (suc (suc (suc (suc (suc (suc (suc (suc zero))))))))))))))) pc at regs st h f = refl
+marked-single p sub (suc (suc (suc (suc (suc (suc (suc (suc (suc (suc (suc (suc (suc (suc (suc (suc zero)))))))))))))))) pc at regs st h f = refl
+marked-single p sub (suc (suc (suc (suc (suc (suc (suc (suc (suc (suc (suc (suc (suc (suc (suc (suc (suc zero))))))))))))))))) pc at regs st h f = refl
+marked-single p sub (suc (suc (suc (suc (suc (suc (suc (suc (suc (suc (suc (suc (suc (suc (suc (suc (suc (suc n)))))))))))))))))) pc at regs st h f = absurd f
+
+pub one-marked : (p sub regs work regs′ work′ : List ℕ) (m m′ : Machine) → m .live ≡ true → 13 ≤ getD p (m .pc) 0 → Fits p (m .pc) → nowOf regs′ work′ m′ ≡ movedOn p sub regs work m → Leads p sub (nowOf regs work m) 1 (nowOf regs′ work′ m′)
+unfolding move decode
+one-marked p sub regs work regs′ work′ m m′ live k f e =
+    let c = configurationOf regs work m in
+    rw (e, live) (rw (marked-single p sub (getD p (m .pc) 0) (m .pc) (m .at) regs (stackOf work (m .height)) k (f .node)) at (leads-several p sub c (move p sub c) (omega arith) refl))
+
+pub only-marked : (n : ℕ) → 10 ≤ n → (n ≡ 10 → ⊥) → (n ≡ 11 → ⊥) → (n ≡ 12 → ⊥) → 13 ≤ n
+only-marked n h x y z = omega arith
+
+-- what is no node of one step and no end
+pub several : (n : ℕ) → 8 < n → (n ≡ 9 → ⊥) → 10 ≤ n
+several n h x = omega arith
 
 -- Nodes that the machine is at work behind: the end of a group, and the end of a round.
 abbrev at-work : Now → Bool
@@ -144,6 +180,9 @@ module _ {p sub regs₀ work₀ : List ℕ} {m₀ : Machine} {left : ℕ} {regs 
 
     pub stepping-low : 4 * m .height + 8 * rest ≤ length work
     stepping-low = rw (g .wide) (rw (rest-again left rest (g .few)) at (running-low regs work m live running))
+
+    pub stepping-short : m .height < 2 ^ 32
+    stepping-short = running-short regs work m live running
 
 -- the second and the third node, with the steps left counted from the beginning
 module _ {p sub regs₀ work₀ : List ℕ} {m₀ : Machine} {left : ℕ} {regs work : List ℕ} {m : Machine} where

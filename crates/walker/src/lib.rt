@@ -4,14 +4,18 @@
 // each step the machine is ready for all that are left. It costs what its nodes cost: nothing is looked up, copied or cleared between them.
 use branches::take_branch;
 use machine::BRANCH;
+use machine::BREAK;
 use machine::BYTE;
 use machine::CLOSE;
 use machine::END;
 use machine::Machine;
+use machine::REFERENCE;
 use machine::RUN;
 use machine::Ran;
 use machine::Stop;
 use machine::fall_back;
+use marks::take_break;
+use marks::take_marked;
 use nodes::begin_last_branch;
 use nodes::close_group;
 use nodes::open_group;
@@ -266,7 +270,7 @@ fn advance(
     }
 }
 
-// Walks on until it comes to a run, a reference or an end, the steps are used or nothing is left. It is a loop of its own, apart from these, so that
+// Walks on until it comes to an end or a node above it, the steps are used or nothing is left. It is a loop of its own, apart from these, so that
 // the compiler keeps in registers what each step needs. The steps are counted down, since one number is then enough, and the machine is made
 // anew from its fields wherever it is kept, here and in `run_to_end`, so that the seven bytes which only fill it up are not carried along: they would be
 // copied as two words that overlap, and each such copy waits until the stores of the one before it are done. That took half of a short walk's time.
@@ -320,7 +324,8 @@ fn walk(
     }
 }
 
-// A run or a reference, which make several steps, if those that are left are enough.
+// A node above the end's number: a run, a reference or `\R`, which make several steps, if those that are left are enough; or one of a held part or of looking
+// ahead, which makes one.
 fn take_several(
     code: &[u32],
     sub: &[u8],
@@ -338,7 +343,14 @@ fn take_several(
     if kind == RUN {
         return take_run(code, sub, regs, work, m, left);
     }
-    take_reference(code, sub, regs, work, m, left)
+    if kind == REFERENCE {
+        return take_reference(code, sub, regs, work, m, left);
+    }
+    if kind == BREAK {
+        return take_break(code, sub, regs, work, m, left);
+    }
+    let next = take_marked(code, regs, work, kind, m);
+    Ran::Made(1, next)
 }
 
 // Walks on to the next end, within `budget` steps. To go on after an end, fall back and call again.

@@ -34,7 +34,19 @@ pub const PLAIN: u32 = 10;
 
 const REFERENCE: u32 = 11;
 
-const NAMED: u32 = 12;
+const NAMED: u32 = 2;
+
+pub const BREAK: u32 = 12;
+
+const MARK: u32 = 13;
+
+pub const HELD: u32 = 14;
+
+pub const AHEAD: u32 = 15;
+
+const FORBID: u32 = 16;
+
+const NOT_AHEAD: u32 = 17;
 
 // The maximum of a repeat that has none.
 const UNLIMITED: u32 = 4294967295;
@@ -99,7 +111,7 @@ pub fn put_named(
     len: u32,
 )
     requires { ⌜ at + 6 ≤ length (now area) ⌝ }
-    ensures { λ _. ⌜ Wrote (now (area .entry)) (now (area .exit)) at 6 (12 ∷ before ∷ place ∷ from ∷ folded ∷ len ∷ []) ⌝ }
+    ensures { λ _. ⌜ Wrote (now (area .entry)) (now (area .exit)) at 6 (2 ∷ before ∷ place ∷ from ∷ folded ∷ len ∷ []) ⌝ }
 {
     put_three(area, at, NAMED, before, place);
     put_three(area, at + 3, from, folded, len);
@@ -112,6 +124,24 @@ pub fn put_group(area: &mut [u32], at: usize, before: u32, number: u32, inside: 
 {
     put_four(area, at, CLOSE, before, 0, 2 * (number - 1));
     put_three(area, at + 4, OPEN, inside, 0);
+}
+
+// Writes a held part, or looking ahead, by its kind.
+pub fn put_marked(area: &mut [u32], at: usize, kind: u32, before: u32, inside: u32)
+    requires { ⌜ at + 7 ≤ length (now area) ⌝ }
+    ensures { λ _. ⌜ Wrote (now (area .entry)) (now (area .exit)) at 7 (kind ∷ before ∷ 0 ∷ 0 ∷ 13 ∷ inside ∷ 0 ∷ []) ⌝ }
+{
+    put_four(area, at, kind, before, 0, 0);
+    put_three(area, at + 4, MARK, inside, 0);
+}
+
+// Writes negative looking ahead.
+pub fn put_not_ahead(area: &mut [u32], at: usize, before: u32, place: u32, inside: u32)
+    requires { ⌜ at + 8 ≤ length (now area) ⌝ }
+    ensures { λ _. ⌜ Wrote (now (area .entry)) (now (area .exit)) at 8 (17 ∷ before ∷ 0 ∷ place ∷ 16 ∷ inside ∷ 0 ∷ 0 ∷ []) ⌝ }
+{
+    put_four(area, at, NOT_AHEAD, before, 0, place);
+    put_four(area, at + 4, FORBID, inside, 0, 0);
 }
 
 // The number of an assertion.

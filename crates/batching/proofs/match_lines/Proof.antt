@@ -9,6 +9,7 @@ use denote.Ref.{now}
 use lib.ListN.{length}
 use lib.Dec.{ltb}
 use Rattle.syntax.specs.Limits.{groupLimit, spansLength, rowLength, partLength, ruleAreaNeed, workPerStep}
+use Rattle.syntax.specs.Laws.Formation.{well-formed}
 use Rattle.semantics.specs.Calls.{workAreaNeed}
 use Rattle.semantics.specs.Batches.{linesOf, BatchRefused, lineless, partsNeed, batchRule, batchCall}
 use Rattle.frame.specs.Inputs.{callOf}
@@ -57,7 +58,8 @@ match-lines-held-requires c κs =
     let b = now (a .buffer) in
     let p = c .before .before .before .before .before .before .before .before .before .before .before .before .prepare .ensures (partsNeed (linesOf b)) [] (now (a .results)) refl (short-is b (now (a .results)) (c .before .before .before .before .before .before .before .before .before .before .before .before .before .before .before .before .count-lines .result) (c .before .before .before .before .before .before .before .before .before .before .before .before .before .before .before .before .count-lines .ensures)) in
     let q = is-ready p _ _ (c .before .before .before .before .entry .given .1) in
-    (readied-held q, results-long q)
+    let w = rw (q .reads) at (well-formed (now (a .rule)) (a .flags)) in
+    ((readied-held q, results-long q, w .few), (q .tree, q .stands, w .proper))
 
 finish-requires : tie.Need-finish-requires
 unfolding partLength rowLength spansLength groupLimit workAreaNeed workPerStep
@@ -66,7 +68,7 @@ finish-requires c κs =
     let b = now (a .buffer) in
     let p = c .before .before .before .before .before .before .before .before .before .before .before .before .before .before .before .before .before .before .before .prepare .ensures (partsNeed (linesOf b)) [] (now (a .results)) refl (short-is b (now (a .results)) (c .before .before .before .before .before .before .before .before .before .before .before .before .before .before .before .before .before .before .before .before .before .before .before .count-lines .result) (c .before .before .before .before .before .before .before .before .before .before .before .before .before .before .before .before .before .before .before .before .before .before .before .count-lines .ensures)) in
     let q = is-ready p _ _ (c .before .before .before .before .before .before .before .before .before .before .before .entry .given .1) in
-    (rule-area-long q, omega (arith, work-area-long q, c .before .before .before .before .before .before .match-lines-held .kept .1 .1 .1 .1 .0))
+    (rule-area-long q, omega (arith, work-area-long q, c .before .before .before .before .before .before .match-lines-held .kept .1 .1 .1 .1 .1 .0))
 
 same-length : tie.Need-same-length
 same-length c = search needs

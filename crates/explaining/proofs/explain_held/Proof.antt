@@ -24,7 +24,7 @@ tell-why-requires : tie.Need-tell-why-requires
 tell-why-requires c κs =
     let h = c .before .before .before .before .before .before .before .before .before .before .before .before .before .before .before .pre in
     let m = c .before .before .before .before .before .before .before .before .match-held in
-    (record { tree = h .tree; stands = h .stands; code-size = h .code-size; subject-fits = h .subject-fits; work-fits = omega (arith, h .work-fits, m .kept .1 .1 .1 .1 .0) }, λ x st. unmatched-too _ _ _ _ (m .ensures .0 x st) _ (c .before .before .before .steps2 .given .1))
+    (record { tree = h .tree; stands = h .stands; code-size = h .code-size; subject-fits = h .subject-fits; work-fits = omega (arith, h .work-fits, m .kept .1 .1 .1 .1 .0); budget-fits = h .budget-fits }, λ x st. unmatched-too _ _ _ _ (m .ensures .0 x st) _ (c .before .before .before .steps2 .given .1))
 
 enum-known-begin : tie.Need-enum-known-begin
 enum-known-begin c = search needs

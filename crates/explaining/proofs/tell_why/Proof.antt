@@ -5,7 +5,7 @@ use native.Mathlib.Omega.{arith}
 use borrow.Author.Needs.{needs}
 use denote.Ref.{now}
 use lib.Seq.{length-take-le, drop-at}
-use Rattle.syntax.specs.Limits.{subjectLimit, ruleAreaNeed, unset, registers, workPerStep}
+use Rattle.syntax.specs.Limits.{subjectLimit, budgetLimit, ruleAreaNeed, unset, registers, workPerStep}
 use Rattle.semantics.specs.Answers.{Answer}
 use Rattle.semantics.specs.Calls.{workAreaNeed}
 use Rattle.machine.specs.Theorem.{clear-all}
@@ -38,12 +38,12 @@ slice-aggregate-find-failures-3 : tie.Need-slice-aggregate-find-failures-3
 slice-aggregate-find-failures-3 c = sym (length-take-le (c .before .before .before .markable .result) (now (c .before .before .before .before .before .before .before .before .args .marks)) (omega (arith, c .before .before .before .markable .ensures)))
 
 find-failures-requires : tie.Need-find-failures-requires
-unfolding unset registers workAreaNeed workPerStep subjectLimit ruleAreaNeed
+unfolding unset registers workAreaNeed workPerStep subjectLimit ruleAreaNeed budgetLimit
 find-failures-requires c κs =
     let s = c .before .before .before .before .before .before .before .before in
     let h = s .pre .0 in
     let long = length-take-le (workAreaNeed (s .args .budget)) (now (s .args .work)) (h .work-fits) in
-    ((record { code-small = omega (arith, h .code-size); sub-small = omega (arith, h .subject-fits); work-fits = omega (arith, long) }, clear-all), ((h .tree, h .stands), λ x st. not-matched-fruitless (now (s .args .subject)) x (s .args .budget) (ap (λ (a : Answer). a .outcome) (s .pre .1 x st))))
+    ((record { code-small = omega (arith, h .code-size); sub-small = omega (arith, h .subject-fits); work-fits = omega (arith, long); budget-small = omega (arith, h .budget-fits) }, clear-all), ((h .tree, h .stands), λ x st. not-matched-fruitless (now (s .args .subject)) x (s .args .budget) (ap (λ (a : Answer). a .outcome) (s .pre .1 x st))))
 
 same-length : tie.Need-same-length
 same-length c = search needs

@@ -32,7 +32,7 @@ use Rattle.fields_line.specs.Laws.Listings.{verdict-told}
 
 -- a line that is not too long can be matched and listed
 pub lent-held : {code workArea : List ℕ} {entry budget : ℕ} → Lent code entry budget workArea → (line workArea′ : List ℕ) → length line ≤ subjectLimit → length workArea′ ≡ length workArea → Held code line workArea′ entry budget
-lent-held l line workArea′ short e = record { tree = l .tree; stands = l .stands; code-size = l .code-size; subject-fits = short; work-fits = rw e (l .work-area-fits) }
+lent-held l line workArea′ short e = record { tree = l .tree; stands = l .stands; code-size = l .code-size; subject-fits = short; work-fits = rw e (l .work-area-fits); budget-fits = l .budget-fits }
 
 -- with no match, no row is looked at
 field-unmatched : (index line standing : List ℕ) (x y : Row) (name : List ℕ) → fieldNamed index line standing 1 x name ≡ fieldNamed index line standing 1 y name

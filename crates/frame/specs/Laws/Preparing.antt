@@ -50,6 +50,7 @@ module _ {need : ℕ} {c : Call} {entry groups : ℕ} {ruleArea workArea names :
     code-size = length-take-le ruleAreaNeed ruleArea rule-area-long;
     subject-fits = fit .subject-fits;
     work-fits = work-area-long;
+    budget-fits = fit .budget-fits;
   }
 
 module _ {A : Type 0} (refusal : ℕ → Reason → A) (need : ℕ) (answered : Call → Rule → Return A) {c : Call} where

@@ -6,7 +6,7 @@ use native.Mathlib.Omega.{arith}
 use borrow.Author.Tests.{lt-ltb, le-ltb}
 use lib.ListN.{length, take, drop}
 use lib.Seq.{take-at}
-use Rattle.syntax.specs.Limits.{subjectLimit, rowLength}
+use Rattle.syntax.specs.Limits.{subjectLimit, budgetLimit, rowLength}
 use Rattle.syntax.specs.Tree.{Rule}
 use Rattle.semantics.specs.States.{row}
 use Rattle.semantics.specs.Answers.{Outcome, matched, notMatched, exhausted, Answer, answer}
@@ -34,10 +34,14 @@ module _ (r : Rule × ℕ) (s : List ℕ) where
 pub lentStill : {code workArea results workArea′ results′ : List ℕ} {entry groups : ℕ} → Lent code entry groups workArea results → length workArea′ ≡ length workArea → length results′ ≡ length results → Lent code entry groups workArea′ results′
 lentStill l f g = record { tree = l .tree; stands = l .stands; few = l .few; code-size = l .code-size; work-area-fits = rw f (l .work-area-fits); results-fit = rw g (l .results-fit) }
 
+budget-low : gatewayBudget ≤ budgetLimit
+unfolding gatewayBudget budgetLimit
+budget-low = omega arith
+
 -- a match has for its rule and its line what it asks for
 pub lentHeld : {code workArea results : List ℕ} {entry groups : ℕ} → Lent code entry groups workArea results → (line : List ℕ) → length line ≤ lineLimit → Held code line workArea entry gatewayBudget
 unfolding lineLimit subjectLimit
-lentHeld l line short = record { tree = l .tree; stands = l .stands; code-size = l .code-size; subject-fits = omega arith; work-fits = l .work-area-fits }
+lentHeld l line short = record { tree = l .tree; stands = l .stands; code-size = l .code-size; subject-fits = omega arith; work-fits = l .work-area-fits; budget-fits = budget-low }
 
 -- what is left of the result area
 module _ (tree : Rule) (line results : List ℕ) where

@@ -1,8 +1,8 @@
--- `follow` meets its contract: a sum that is held, and the first of two places twice.
+-- `follow` meets its contract: a sum that is capped, and the first of two places twice.
 use native.Mathlib.Omega.{arith}
 use borrow.Author.Needs.{needs}
 use Rattle.syntax.specs.Limits.{lengthLimit}
-use Rattle.syntax.specs.Lengths.{held}
+use Rattle.syntax.specs.Lengths.{capped}
 use Rattle.lengths.proofs.follow.Statement.{statement}
 use Rattle.lengths.proofs.follow.Tie as tie
 
@@ -20,7 +20,7 @@ first-requires-2 : tie.Need-first-requires-2
 first-requires-2 c κs = search needs
 
 returns : tie.Need-returns
-unfolding held lengthLimit
+unfolding capped lengthLimit
 returns c = record { least = c .before .before .smaller .ensures; reference = c .before .first .ensures; idle = c .first2 .ensures }
 
 pub follow-spec : {M : Type 1} → statement M

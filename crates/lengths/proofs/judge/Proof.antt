@@ -1,13 +1,12 @@
 -- `judge` meets its contract: what was found of the whole rule, references first.
-use native.Mathlib.Omega.{arith}
 use borrow.Author.Needs.{needs}
-use Rattle.syntax.specs.Limits.{levelLimit, nestingLimit}
+use Rattle.syntax.specs.Limits.{levelLimit, heightLimit, nestingLimit}
 use Rattle.lengths.proofs.Insides.{judged-reference, judged-idle, judged-passes}
 use Rattle.lengths.proofs.judge.Statement.{statement}
 use Rattle.lengths.proofs.judge.Tie as tie
 
 inside-requires : tie.Need-inside-requires
-unfolding levelLimit nestingLimit
+unfolding levelLimit heightLimit nestingLimit
 inside-requires c κs = c .before .pre
 
 sub-t7 : tie.Need-sub-t7

@@ -1,11 +1,11 @@
--- `repeated` meets its contract: a product that is held, and its own place behind those in its body.
+-- `repeated` meets its contract: a product that is capped, and its own place behind those in its body.
 use mathlib.Core.Path.{refl, _∙_}
 use Prim.Native.Nat.{_*_, _≤_}
 use native.Mathlib.Nat.{mul-le-mul}
 use native.Mathlib.Omega.{arith}
 use borrow.Author.Needs.{needs}
 use Rattle.syntax.specs.Limits.{lengthLimit}
-use Rattle.syntax.specs.Lengths.{held}
+use Rattle.syntax.specs.Lengths.{capped}
 use Rattle.lengths.proofs.repeated.Statement.{statement}
 use Rattle.lengths.proofs.repeated.Tie as tie
 
@@ -32,7 +32,7 @@ first-requires : tie.Need-first-requires
 first-requires c κs = search needs
 
 returns : tie.Need-returns
-unfolding held lengthLimit
+unfolding capped lengthLimit
 returns c = record { least = rw (← c .before .before .before .word .ensures .0) (c .before .smaller .ensures); reference = refl; idle = c .first .ensures ∙ rw (c .before .before .own-idle .ensures) }
 
 pub repeated-spec : {M : Type 1} → statement M

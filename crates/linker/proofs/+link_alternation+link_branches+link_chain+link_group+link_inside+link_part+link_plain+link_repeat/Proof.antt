@@ -43,6 +43,6 @@ pub +link-alternation+link-branches+link-chain+link-group+link-inside+link-part+
     (λ t. link-chain-lts.spec (link-chain-calls t) (link-chain-at t) link-chain.Post needs-link-chain.Inv-loop needs-link-chain.μ-loop (needs-link-chain.loop-holds t) (needs-link-chain.before-of-requires t) (needs-link-chain.link-part-requires t) (needs-link-chain.loop-less t) (needs-link-chain.loop-again t) (needs-link-chain.same-length t) (needs-link-chain.returns t))
     (λ t. link-group-lts.spec (link-group-calls t) (link-group-at t) link-group.Post (needs-link-group.add-word t) (needs-link-group.word-requires t) (needs-link-group.add-link-inside t) (needs-link-group.link-inside-requires t) (needs-link-group.close-group-requires t) (needs-link-group.add-opening t) (needs-link-group.same-length t) (needs-link-group.returns t))
     (λ t. link-inside-lts.spec (link-inside-calls t) (link-inside-at t) link-inside.Post (needs-link-inside.returns t) (needs-link-inside.word-requires t) (needs-link-inside.link-alternation-requires t) (needs-link-inside.same-length t) (needs-link-inside.returns-2 t) (needs-link-inside.link-chain-requires t) (needs-link-inside.same-length-2 t) (needs-link-inside.returns-3 t))
-    (λ t. link-part-lts.spec (link-part-calls t) (link-part-at t) link-part.Post (needs-link-part.word-requires t) (needs-link-part.link-group-requires t) (needs-link-part.same-length t) (needs-link-part.returns t) (needs-link-part.link-repeat-requires t) (needs-link-part.same-length-2 t) (needs-link-part.returns-2 t) (needs-link-part.link-plain-requires t) (needs-link-part.same-length-3 t) (needs-link-part.returns-3 t) (needs-link-part.link-reference-requires t) (needs-link-part.same-length-4 t) (needs-link-part.returns-4 t) (needs-link-part.link-named-requires t) (needs-link-part.same-length-5 t) (needs-link-part.returns-5 t) (needs-link-part.add-put t) (needs-link-part.put-requires t) (needs-link-part.same-length-6 t) (needs-link-part.returns-6 t))
+    (λ t. link-part-lts.spec (link-part-calls t) (link-part-at t) link-part.Post (needs-link-part.word-requires t) (needs-link-part.is-bracketed-requires t) (needs-link-part.link-group-requires t) (needs-link-part.same-length t) (needs-link-part.returns t) (needs-link-part.link-repeat-requires t) (needs-link-part.same-length-2 t) (needs-link-part.returns-2 t) (needs-link-part.link-plain-requires t) (needs-link-part.same-length-3 t) (needs-link-part.returns-3 t) (needs-link-part.link-reference-requires t) (needs-link-part.same-length-4 t) (needs-link-part.returns-4 t) (needs-link-part.link-named-requires t) (needs-link-part.same-length-5 t) (needs-link-part.returns-5 t) (needs-link-part.add-put t) (needs-link-part.put-requires t) (needs-link-part.same-length-6 t) (needs-link-part.returns-6 t))
     (λ t. link-plain-lts.spec (link-plain-calls t) (link-plain-at t) link-plain.Post (needs-link-plain.add-word t) (needs-link-plain.word-requires t) (needs-link-plain.link-inside-requires t) (needs-link-plain.same-length t) (needs-link-plain.returns t))
     (λ t. link-repeat-lts.spec (link-repeat-calls t) (link-repeat-at t) link-repeat.Post (needs-link-repeat.add-word t) (needs-link-repeat.word-requires t) (needs-link-repeat.entry-kind-requires t) (needs-link-repeat.add-link-part t) (needs-link-repeat.add-link-part-2 t) (needs-link-repeat.link-part-requires t) (needs-link-repeat.close-repeat-requires t) (needs-link-repeat.same-length t) (needs-link-repeat.returns t))

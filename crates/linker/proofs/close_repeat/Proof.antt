@@ -1,7 +1,7 @@
 -- `close_repeat` meets its contract: the kind, then two numbers, then the one behind them.
 use native.Mathlib.Omega.{arith}
 use borrow.Author.Needs.{needs}
-use Rattle.syntax.specs.Limits.{ruleAreaNeed, registers, spansLength, groupLimit, nestingLimit}
+use Rattle.syntax.specs.Limits.{ruleAreaNeed, registers, spansLength, groupLimit, heightLimit, nestingLimit}
 use Rattle.linker.proofs.Stores.{repeat-closed}
 use Rattle.linker.proofs.close_repeat.Statement.{statement}
 use Rattle.linker.proofs.close_repeat.Tie as tie
@@ -14,7 +14,7 @@ add-put-two : tie.Need-add-put-two
 add-put-two c = search needs
 
 put-two-requires : tie.Need-put-two-requires
-unfolding ruleAreaNeed registers spansLength groupLimit nestingLimit
+unfolding ruleAreaNeed registers spansLength groupLimit heightLimit nestingLimit
 put-two-requires c κs = (omega arith, omega arith, omega arith)
 
 add-put : tie.Need-add-put

@@ -32,7 +32,7 @@ unfolding unset registers ruleAreaNeed workAreaNeed workPerStep
 list-starts-requires c κs =
     let h = c .before .before .before .before .before .before .before .before .pre in
     let long = length-take-le (workAreaNeed (c .before .before .before .before .before .before .before .before .args .budget)) (now (c .before .before .before .before .before .before .before .before .args .work)) (h .work-fits) in
-    ((clear-all, h .subject-fits, omega (arith, h .code-size), omega (arith, long), omega (arith, c .before .before .before .spans-of .ensures)), (h .tree, h .stands))
+    ((clear-all, h .subject-fits, omega (arith, h .code-size), omega (arith, long), omega (arith, c .before .before .before .spans-of .ensures), h .budget-fits), (h .tree, h .stands))
 
 same-length : tie.Need-same-length
 same-length c = search needs

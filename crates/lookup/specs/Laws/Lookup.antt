@@ -14,12 +14,12 @@ use lib.Seq.{slice, take-all, take-length, take-nil, getD-drop}
 use Rattle.syntax.specs.Limits.{groupLimit, rowLength, slot}
 use Rattle.syntax.specs.Read.{if_then_else_}
 use Rattle.semantics.specs.States.{Row}
-use Rattle.semantics.specs.Demands.{spanFrom, spanTo, IsUnset, RowFacts}
+use Rattle.semantics.specs.Demands.{spanFrom, spanTo, IsUnset}
 use Rattle.semantics.specs.Laws.Cases.{clash, le-or}
 use Rattle.lookup.specs.declared.Found.{Found}
 use Rattle.lookup.specs.declared.Found.the-variants.{Taken, Standing, Nothing}
 use Rattle.lookup.specs.Names.{groupNamed}
-use Rattle.lookup.specs.Rows.{isUnset, isRow}
+use Rattle.lookup.specs.Rows.{isUnset, isRow, RowRules}
 use Rattle.lookup.specs.Lookup.{ofSpan, ofGroup, lookup, PartOf, Lent, fieldOf}
 use Rattle.lookup.specs.Laws.Names.{named-within}
 use Rattle.lookup.specs.Laws.Rows.{unset-test, set-test, is-row-exactly}
@@ -73,21 +73,20 @@ short-row line numbers h = rw (take-all rowLength numbers (omega arith), ne-eqb 
 
 -- Parts ---------------------------------------------------------------------------
 
-span-within : (from to start end : ℕ) (told : Bool) → isUnset from to ≡ told → IsUnset from to ⊎ ((start ≤ from) × (from ≤ to) × (to ≤ end)) → (f t : ℕ) → (if told then Standing else Taken from to) ≡ Taken f t → (f ≤ t) × (t ≤ end)
-span-within from to start end true u h f t e = absurd (clash (cc))
-span-within from to start end false u (inl h) f t e = absurd (clash (cc (unset-test from to h)))
-span-within from to start end false u (inr h) f t e =
+span-within : (from to size : ℕ) (told : Bool) → isUnset from to ≡ told → IsUnset from to ⊎ ((from ≤ to) × (to ≤ size)) → (f t : ℕ) → (if told then Standing else Taken from to) ≡ Taken f t → (f ≤ t) × (t ≤ size)
+span-within from to size true u h f t e = absurd (clash (cc))
+span-within from to size false u (inl h) f t e = absurd (clash (cc (unset-test from to h)))
+span-within from to size false u (inr h) f t e =
     let a : from ≡ f = cc in
     let b : to ≡ t = cc in
     (omega arith, omega arith)
 
-group-within : (line : List ℕ) (group : ℕ) (row : Row) (told : Bool) → eqb group 0 ≡ told → group ≤ groupLimit → RowFacts line groupLimit row → (f t : ℕ) → (if told then Nothing else ofSpan (spanFrom row group) (spanTo row group)) ≡ Taken f t → (f ≤ t) × (t ≤ length line)
+group-within : (line : List ℕ) (group : ℕ) (row : Row) (told : Bool) → eqb group 0 ≡ told → group ≤ groupLimit → RowRules line row → (f t : ℕ) → (if told then Nothing else ofSpan (spanFrom row group) (spanTo row group)) ≡ Taken f t → (f ≤ t) × (t ≤ length line)
 unfolding ofSpan
 group-within line group row true n l r f t e = absurd (clash (cc))
 group-within line group row false n l r f t e =
     let some : 1 ≤ group = positive group (eqb-false group 0 n) in
-    let z = span-within (spanFrom row group) (spanTo row group) (getD row 0 0) (getD row 1 0) (isUnset (spanFrom row group) (spanTo row group)) refl (r .spans group some l) f t e in
-    (z .0, omega (arith, r .inside))
+    span-within (spanFrom row group) (spanTo row group) (length line) (isUnset (spanFrom row group) (spanTo row group)) refl (r .spans group some l) f t e
   where
     positive : (g : ℕ) → (g ≡ 0 → ⊥) → 1 ≤ g
     positive g h = elim (le-or 1 g) [ inl k ↦ k | inr k ↦ absurd (h (omega arith)) ]

@@ -1,8 +1,7 @@
 -- Reading nodes: what is written for an assertion, a bound or a greed is read back, and a node of a known kind is read as that kind.
 use mathlib.Core.Path.{_≡_, refl}
-use mathlib.Core.Logic.{_⊎_, inl, inr}
 use mathlib.Core.Bool.{Bool, true, false}
-use Prim.Native.Nat.{ℕ, zero, suc, _+_, _≤_, _<_}
+use Prim.Native.Nat.{ℕ, _+_, _≤_, _<_}
 use native.Mathlib.Omega.{arith}
 use lib.ListN.{length, getD}
 use borrow.Author.Tests.{eq-eqb, ne-eqb}
@@ -67,19 +66,3 @@ fits-at p pc kind e f = rw e at (f .node)
 
 pub fits : (p : Program) (pc kind : ℕ) → getD p pc 0 ≡ kind → pc < length p → FitsAs kind p pc → Fits p pc
 fits p pc kind e l f = record { here = l; node = rw e f }
-
--- what is no plain node and no end is a run or a reference
-pub several : (n : ℕ) (p : Program) (pc : ℕ) → FitsAs n p pc → 8 < n → (n ≡ 9 → ⊥) → (n ≡ 10) ⊎ (n ≡ 11)
-several zero p pc f h x = absurd (omega arith)
-several (suc zero) p pc f h x = absurd (omega arith)
-several (suc (suc zero)) p pc f h x = absurd (omega arith)
-several (suc (suc (suc zero))) p pc f h x = absurd (omega arith)
-several (suc (suc (suc (suc zero)))) p pc f h x = absurd (omega arith)
-several (suc (suc (suc (suc (suc zero))))) p pc f h x = absurd (omega arith)
-several (suc (suc (suc (suc (suc (suc zero)))))) p pc f h x = absurd (omega arith)
-several (suc (suc (suc (suc (suc (suc (suc zero))))))) p pc f h x = absurd (omega arith)
-several (suc (suc (suc (suc (suc (suc (suc (suc zero)))))))) p pc f h x = absurd (omega arith)
-several (suc (suc (suc (suc (suc (suc (suc (suc (suc zero))))))))) p pc f h x = absurd (x refl)
-several (suc (suc (suc (suc (suc (suc (suc (suc (suc (suc zero)))))))))) p pc f h x = inl refl
-several (suc (suc (suc (suc (suc (suc (suc (suc (suc (suc (suc zero))))))))))) p pc f h x = inr refl
-several (suc (suc (suc (suc (suc (suc (suc (suc (suc (suc (suc (suc n)))))))))))) p pc f h x = absurd f

@@ -3,7 +3,7 @@ use mathlib.Core.Path.{_≡_, refl, ap, sym, _∙_, subst}
 use mathlib.Core.Logic.{_⊎_, inl, inr, ⊎-elim}
 use mathlib.Core.List.{List, [], _∷_, _++_}
 use mathlib.Core.Bool.{Bool, true, false}
-use Prim.Native.Nat.{ℕ, zero, suc, _+_, _*_, _-_, _≤_, _<_}
+use Prim.Native.Nat.{ℕ, zero, suc, _+_, _*_, _-_, _^_, _≤_, _<_}
 use native.Mathlib.Omega.{arith}
 use native.Mathlib.Numerals.{add-one}
 use lib.ListN.{length, getD, take}
@@ -17,7 +17,7 @@ use Rattle.semantics.specs.Walk.{Event, step, miss, end, Trace}
 use Rattle.semantics.specs.Laws.Loops.{Quiet}
 use Rattle.machine.specs.declared.Machine.{Machine}
 use Rattle.machine.specs.Code.{foldedOf, Program, sameAs, Repeat, repeatAt, decodeAs, decode, FitsAs, Fits}
-use Rattle.machine.specs.Moves.{Stack, Configuration, Now, idle, busy, Move, emitting, paid, state, shown, tested, price, strides, stopped, fall, tried, ran, bytesOf, carryOut, move, Emits}
+use Rattle.machine.specs.Moves.{Stack, Configuration, Now, idle, busy, Move, emitting, paid, state, shown, Shows, tested, price, takes, strides, stopped, isReturn, isFeed, isBreak, fall, tried, ran, brokeAlone, broke, bytesOf, carryOut, move, Emits}
 use Rattle.machine.specs.Words.{stackOf, configurationOf, nowOf}
 use Rattle.machine.specs.Ready.{ended, nothing, spent, until, Several, Leads, stay, onward, along, StackFits, Ready}
 use Rattle.machine.specs.Laws.Stack.{length-stackOf, fall-leaves, move-leaves}
@@ -94,7 +94,7 @@ until-spent (miss place at ∷ t) (suc left) used e =
     (miss place at ∷ z .0, z .1, z .2, z .3, ap (λ (es : Trace). miss place at ∷ es) (z .4), ap suc (z .5))
 until-spent (end u ∷ t) (suc left) used e = absurd (clash (cc))
 
-quiet-shown : (o e : Event) (os es : Trace) → o ≡ shown e → Quiet (o ∷ os) → Quiet es → Quiet (e ∷ es)
+quiet-shown : (o e : Event) (os es : Trace) → Shows o e → Quiet (o ∷ os) → Quiet es → Quiet (e ∷ es)
 quiet-shown o step os es q m n = n
 quiet-shown o (miss place at) os es q m n = n
 quiet-shown o (end s) os es q m n = rw q at m
@@ -188,9 +188,43 @@ module _ (p : Program) (sub : List ℕ) where
   unfolding move decode carryOut
   move-reference c e = rw e
 
-  quiet-several : (c : Configuration) → Several (getD p (c .pc) 0) → Quiet (move p sub c .first ∷ move p sub c .more)
-  quiet-several c (inl e) = rw (move-run c e) (quiet-ran (repeatAt p (c .pc + 2)) (bytesOf p sub (repeatAt p (c .pc + 2)) 0 (c .at)) (c .at) (c .regs) (c .stack))
-  quiet-several c (inr e) = rw (move-reference c e) (quiet-paid _ _ (quiet-tried _ _ _ (c .at) (c .regs) (c .stack) .no-end))
+  quiet-broke-alone : (b : Bool) (place next at : ℕ) (regs : List ℕ) (st : Stack) (before : Trace → Trace) → ((es : Trace) → Quiet es → Quiet (before es))
+      → Quiet (brokeAlone p b place next at regs st before .first ∷ brokeAlone p b place next at regs st before .more)
+  unfolding brokeAlone
+  quiet-broke-alone true place next at regs st before q = q _ tt
+  quiet-broke-alone false place next at regs st before q = q _ tt
+
+  quiet-broke : (b c d : Bool) (place next at : ℕ) (regs : List ℕ) (st : Stack) → Quiet (broke p b c d place next at regs st .first ∷ broke p b c d place next at regs st .more)
+  unfolding broke
+  quiet-broke true true d place next at regs st = tt
+  quiet-broke true false d place next at regs st = quiet-broke-alone d place next at regs st _ (λ es q. q)
+  quiet-broke false c d place next at regs st = quiet-broke-alone d place next at regs st _ (λ es q. q)
+
+  quiet-high : (n pc at : ℕ) (regs : List ℕ) (st : Stack) → Several n → FitsAs n p pc → Quiet (carryOut p sub (decodeAs n p pc) at regs st .first ∷ carryOut p sub (decodeAs n p pc) at regs st .more)
+  unfolding carryOut
+  quiet-high zero pc at regs st h f = absurd (omega arith)
+  quiet-high (suc zero) pc at regs st h f = absurd (omega arith)
+  quiet-high (suc (suc zero)) pc at regs st h f = absurd (omega arith)
+  quiet-high (suc (suc (suc zero))) pc at regs st h f = absurd (omega arith)
+  quiet-high (suc (suc (suc (suc zero)))) pc at regs st h f = absurd (omega arith)
+  quiet-high (suc (suc (suc (suc (suc zero))))) pc at regs st h f = absurd (omega arith)
+  quiet-high (suc (suc (suc (suc (suc (suc zero)))))) pc at regs st h f = absurd (omega arith)
+  quiet-high (suc (suc (suc (suc (suc (suc (suc zero))))))) pc at regs st h f = absurd (omega arith)
+  quiet-high (suc (suc (suc (suc (suc (suc (suc (suc zero)))))))) pc at regs st h f = absurd (omega arith)
+  quiet-high (suc (suc (suc (suc (suc (suc (suc (suc (suc zero))))))))) pc at regs st h f = absurd (omega arith)
+  quiet-high (suc (suc (suc (suc (suc (suc (suc (suc (suc (suc zero)))))))))) pc at regs st h f = quiet-ran _ _ at regs st
+  quiet-high (suc (suc (suc (suc (suc (suc (suc (suc (suc (suc (suc zero))))))))))) pc at regs st h f = quiet-paid _ _ (quiet-tried _ _ _ at regs st .no-end)
+  quiet-high (suc (suc (suc (suc (suc (suc (suc (suc (suc (suc (suc (suc zero)))))))))))) pc at regs st h f = quiet-broke (takes sub isReturn at) (takes sub isFeed (suc at)) (takes sub isBreak at) _ _ at regs st
+  quiet-high (suc (suc (suc (suc (suc (suc (suc (suc (suc (suc (suc (suc (suc zero))))))))))))) pc at regs st h f = tt
+  quiet-high (suc (suc (suc (suc (suc (suc (suc (suc (suc (suc (suc (suc (suc (suc zero)))))))))))))) pc at regs st h f = tt
+  quiet-high (suc (suc (suc (suc (suc (suc (suc (suc (suc (suc (suc (suc (suc (suc (suc zero))))))))))))))) pc at regs st h f = tt
+  quiet-high (suc (suc (suc (suc (suc (suc (suc (suc (suc (suc (suc (suc (suc (suc (suc (suc zero)))))))))))))))) pc at regs st h f = tt
+  quiet-high (suc (suc (suc (suc (suc (suc (suc (suc (suc (suc (suc (suc (suc (suc (suc (suc (suc zero))))))))))))))))) pc at regs st h f = tt
+  quiet-high (suc (suc (suc (suc (suc (suc (suc (suc (suc (suc (suc (suc (suc (suc (suc (suc (suc (suc n)))))))))))))))))) pc at regs st h f = absurd f
+
+  quiet-several : (c : Configuration) → Several (getD p (c .pc) 0) → Fits p (c .pc) → Quiet (move p sub c .first ∷ move p sub c .more)
+  unfolding move decode
+  quiet-several c h f = quiet-high (getD p (c .pc) 0) (c .pc) (c .at) (c .regs) (c .stack) h (f .node)
 
   -- Nodes in a row ---------------------------------------------------------------------
 
@@ -201,7 +235,7 @@ module _ (p : Program) (sub : List ℕ) where
       rw (e, z) at l
 
   pub leads-run : (c : Configuration) (m : Move) → getD p (c .pc) 0 ≡ 10 → move p sub c ≡ m → Leads p sub (busy c) (suc (length (m .more))) (m .after)
-  leads-run c m is e = leads-several c m (inl is) e
+  leads-run c m is e = leads-several c m (omega arith) e
 
   pub leads-join : {a b c : Now} {n k : ℕ} → Leads p sub a n b → Leads p sub b k c → Leads p sub a (n + k) c
   leads-join {n = n} l stay = let z : n + 0 ≡ n = omega arith in rw z l
@@ -248,7 +282,7 @@ module _ (p : Program) (sub : List ℕ) where
             let w = move-leaves p sub c (fits-now c (g .rest) (g .ready .emits)) (g .ready .fits) in
             record {
               rest = s .rest;
-              ready = record { emits = s .emits; fits = w .fits; low = omega (arith, w .low, g .ready .low); back = w .back ∙ g .ready .back };
+              ready = record { emits = s .emits; fits = w .fits; low = omega (arith, w .low, g .ready .low); short = omega (arith, w .low, g .ready .short); back = w .back ∙ g .ready .back };
               same = rw z (sym (rw l at e) ∙ (rw (s .whole) at (g .same)));
             }
 
@@ -286,7 +320,10 @@ module _ (p : Program) (sub : List ℕ) where
           f : (v : Trace) → Emits p sub [] (busy c) v → until (budget - used) used v ≡ until budget 0 t₀ → Ended
           f [] x y = absurd x
           f (step ∷ v) x y = let z : _≡_ {A = Event} (end (state (c .at) (c .regs))) step = sym (ap (λ (j : Move). j .first) m) ∙ x .1 in absurd (clash (cc))
-          f (miss place at ∷ v) x y = let z : _≡_ {A = Event} (end (state (c .at) (c .regs))) (miss place at) = sym (ap (λ (j : Move). j .first) m) ∙ x .1 in absurd (clash (cc))
+          f (miss place at ∷ v) x y = elim (x .1) [
+            | inl o ↦ let z : _≡_ {A = Event} (end (state (c .at) (c .regs))) (miss place at) = sym (ap (λ (j : Move). j .first) m) ∙ o in absurd (clash (cc))
+            | inr o ↦ let z : _≡_ {A = Event} (end (state (c .at) (c .regs))) step = sym (ap (λ (j : Move). j .first) m) ∙ o in absurd (clash (cc))
+          ]
           f (end s ∷ v) x y =
               let z : budget - used ≡ suc (budget - suc used) = omega arith in
               let e = at-end s (sym (ap (λ (j : Move). j .first) m) ∙ x .1) in
@@ -297,7 +334,7 @@ module _ (p : Program) (sub : List ℕ) where
                 until-is = rw (add-one used) (sym (rw z at y));
                 at = sym (ap (λ (j : State). j .at) e);
                 spans = sym (ap (λ (j : State). j .spans) e);
-                ready = record { emits = subst (λ (j : Move). Emits p sub (j .more) (j .after) v) m (x .2); fits = w .fits; low = omega (arith, w .low, g .ready .low); back = w .back ∙ g .ready .back };
+                ready = record { emits = subst (λ (j : Move). Emits p sub (j .more) (j .after) v) m (x .2); fits = w .fits; low = omega (arith, w .low, g .ready .low); short = omega (arith, w .low, g .ready .short); back = w .back ∙ g .ready .back };
               }
 
     -- nodes in a row
@@ -308,7 +345,8 @@ module _ (p : Program) (sub : List ℕ) where
         rw z (running-on (used + k) c (running-led used k now (busy c) l (omega arith) g) (omega arith) e)
     running-led used n now there (along {n = k} {c = c} l e) h g =
         let z : used + (k + suc (length (move p sub c .more))) ≡ used + k + suc (length (move p sub c .more)) = omega arith in
-        rw z (running-run (used + k) c (running-led used k now (busy c) l (omega arith) g) (quiet-several c e) (omega arith))
+        let r = running-led used k now (busy c) l (omega arith) g in
+        rw z (running-run (used + k) c r (quiet-several c e (fits-now c (r .rest) (r .ready .emits))) (omega arith))
 
     -- the budget ends among them
     pub running-led-cut : (used n : ℕ) (now there : Now) → Leads p sub now n there → used ≤ budget → budget < used + n → Running used now → until budget 0 t₀ ≡ spent
@@ -316,7 +354,7 @@ module _ (p : Program) (sub : List ℕ) where
     running-led-cut used n now there (onward {n = k} {c = c} l e) b h g =
         ⊎-elim (λ x. running-led-cut used k now (busy c) l b x g) (λ x. running-out (used + k) c (running-led used k now (busy c) l x g) (omega arith)) (before-or budget (used + k))
     running-led-cut used n now there (along {n = k} {c = c} l e) b h g =
-        ⊎-elim (λ x. running-led-cut used k now (busy c) l b x g) (λ x. running-cut (used + k) c (running-led used k now (busy c) l x g) (quiet-several c e) x (omega arith)) (before-or budget (used + k))
+        ⊎-elim (λ x. running-led-cut used k now (busy c) l b x g) (λ x. let r = running-led used k now (busy c) l x g in running-cut (used + k) c r (quiet-several c e (fits-now c (r .rest) (r .ready .emits))) x (omega arith)) (before-or budget (used + k))
 
     pub ready-led : {n : ℕ} {now there : Now} → Ready p sub room budget first now t₀ → Leads p sub now n there → n ≤ budget → Running n there
     ready-led {n} {now} {there} x l h = let z : 0 + n ≡ n = omega arith in rw z at (running-led 0 n now there l (omega arith) (running-start now x))
@@ -343,3 +381,7 @@ module _ {p sub : List ℕ} {room budget : ℕ} {first : List ℕ} {t : Trace} {
 
   pub running-low : 4 * m .height + 8 * (budget - used) ≤ room
   running-low = omega (arith, at-work .ready .low, length-stackOf work (m .height))
+
+  -- the height fits into a register
+  pub running-short : m .height < 2 ^ 32
+  running-short = omega (arith, at-work .ready .short, length-stackOf work (m .height))

@@ -1,12 +1,14 @@
--- `search` meets its contract: all starts make the match's answer, so that what is told of them is that answer, with a match's row written.
-use mathlib.Core.Path.{refl}
+-- `search` meets its contract: all starts make the match's answer, so that what is told of them is that answer, with a match's row written. The registers
+-- are fresh by the row of a match, by what a walk that finds nothing leaves, or since all groups are unset.
+use mathlib.Core.Path.{refl, _∙_}
 use native.Mathlib.Omega.{arith}
 use borrow.Author.Needs.{needs}
 use denote.Ref.{now}
-use Rattle.syntax.specs.Limits.{spansLength, registers}
+use Rattle.syntax.specs.Limits.{groupLimit, spansLength, registers}
 use Rattle.frame.specs.Inputs.{between}
 use Rattle.seeking.specs.Laws.Starts.{seeks-begin}
 use Rattle.matching.specs.Laws.Outcomes.{found-reports}
+use Rattle.matching.specs.Laws.Registers.{clear-fresh, unset-clear, unset-all, found-fresh}
 use Rattle.matching.proofs.search.Statement.{statement}
 use Rattle.matching.proofs.search.Tie as tie
 
@@ -26,6 +28,10 @@ enum-known-steps c = search needs
 enum-known-begin-2 : tie.Need-enum-known-begin-2
 enum-known-begin-2 c = search needs
 
+unset-groups-requires : tie.Need-unset-groups-requires
+unfolding spansLength registers groupLimit
+unset-groups-requires c κs = omega (arith, c .before .before .before .before .before .before .before .before .seek .kept .1 .1 .1 .1 .0, c .before .before .before .before .before .before .before .before .before .before .before .before .before .before .before .before .before .before .pre .1 .1 .size)
+
 same-length : tie.Need-same-length
 same-length c = search needs
 
@@ -39,7 +45,9 @@ returns : tie.Need-returns
 unfolding spansLength registers
 returns c =
     let a = c .before .before .before .before .before .before .before .before .before .before .before .before .before .before .before .before .before .before .before .before .before .before .args in
-    λ x st. found-reports (rw (c .before .before .before .before .before .before .begin .given .1) at (c .before .before .before .before .before .before .before .before .before .before .before .before .seek .ensures x _ st (seeks-begin (between (now (a .text)) (a .from) (a .to)) x (a .budget)))) (now (a .results)) (c .before .before .write-row .ensures) (omega (arith, c .before .before .before .before .before .before .before .before .before .before .before .before .seek .kept .1 .1 .1 .1 .0, c .before .before .before .before .before .before .before .before .before .before .before .before .before .before .before .before .before .before .before .before .before .before .pre .1 .1 .size))
+    let line = between (now (a .text)) (a .from) (a .to) in
+    let size = c .before .before .before .before .before .before .before .before .before .before .before .before .seek .kept .1 .1 .1 .1 .0 ∙ c .before .before .before .before .before .before .before .before .before .before .before .before .before .before .before .before .before .before .before .before .before .before .pre .1 .1 .size in
+    (λ x st. found-reports (rw (c .before .before .before .before .before .before .begin .given .1) at (c .before .before .before .before .before .before .before .before .before .before .before .before .seek .ensures .0 x _ st (seeks-begin line x (a .budget)))) (now (a .results)) (c .before .before .write-row .ensures) (omega (arith, size)), λ x st p few. found-fresh line x (a .budget) (rw (c .before .before .before .before .before .before .begin .given .1) at (c .before .before .before .before .before .before .before .before .before .before .before .before .seek .ensures .0 x _ st (seeks-begin line x (a .budget)))) p few size)
 
 same-length-4 : tie.Need-same-length-4
 same-length-4 c = search needs
@@ -48,7 +56,9 @@ same-length-5 : tie.Need-same-length-5
 same-length-5 c = search needs
 
 returns-2 : tie.Need-returns-2
-returns-2 c = let a = c .before .before .before .before .before .before .before .before .before .before .before .before .before .before .before .before .before .args in λ x st. (rw (c .before .steps .given .1) at (c .before .before .before .before .before .before .before .seek .ensures x _ st (seeks-begin (between (now (a .text)) (a .from) (a .to)) x (a .budget))), refl)
+returns-2 c =
+    let a = c .before .before .before .before .before .before .before .before .before .before .before .before .before .before .before .before .before .args in
+    (λ x st. (rw (c .before .steps .given .1) at (c .before .before .before .before .before .before .before .seek .ensures .0 x _ st (seeks-begin (between (now (a .text)) (a .from) (a .to)) x (a .budget))), refl), λ x st p few. clear-fresh (a .groups) (rw (rw (c .before .steps .given .1) at (c .before .before .before .before .before .before .before .seek .ensures .1)) (c .before .before .before .before .before .before .before .before .before .before .before .before .before .before .before .before .before .pre .1 .1)))
 
 same-length-6 : tie.Need-same-length-6
 same-length-6 c = search needs
@@ -57,7 +67,11 @@ same-length-7 : tie.Need-same-length-7
 same-length-7 c = search needs
 
 returns-3 : tie.Need-returns-3
-returns-3 c = let a = c .before .before .before .before .before .before .before .before .before .before .before .before .before .before .before .before .before .args in λ x st. (rw (c .before .begin2 .given .1) at (c .before .before .before .before .before .before .before .seek .ensures x _ st (seeks-begin (between (now (a .text)) (a .from) (a .to)) x (a .budget))), refl)
+unfolding spansLength groupLimit
+returns-3 c =
+    let a = c .before .before .before .before .before .before .before .before .before .before .before .before .before .before .before .before .before .before .before .before .before .args in
+    let size = c .before .before .before .before .before .before .before .before .before .before .before .seek .kept .1 .1 .1 .1 .0 ∙ c .before .before .before .before .before .before .before .before .before .before .before .before .before .before .before .before .before .before .before .before .before .pre .1 .1 .size in
+    (λ x st. (rw (c .before .before .before .before .before .begin2 .given .1) at (c .before .before .before .before .before .before .before .before .before .before .before .seek .ensures .0 x _ st (seeks-begin (between (now (a .text)) (a .from) (a .to)) x (a .budget))), refl), λ x st p few. clear-fresh (a .groups) (unset-clear groupLimit (c .before .before .before .before .before .before .before .before .before .before .before .seek .last .1 .1 .1 .1 .0) (c .before .before .unset-groups .ensures) (omega arith) (unset-all _ size)))
 
 pub search-spec : {M : Type 1} → statement M
 search-spec =
@@ -68,6 +82,7 @@ search-spec =
     write-row-requires
     enum-known-steps
     enum-known-begin-2
+    unset-groups-requires
     same-length
     same-length-2
     same-length-3

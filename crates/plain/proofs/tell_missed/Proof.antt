@@ -74,6 +74,12 @@ tell-item-requires-3 c κs =
     let f = fits-at (now (s .args .code)) (s .args .m .pc) 11 (c .before .match .keys4) (s .pre .1) in
     omega (arith, f .0)
 
+tell-break-requires : tie.Need-tell-break-requires
+tell-break-requires c κs =
+    let s = c .before .before .before .before .before .before in
+    let f = fits-at (now (s .args .code)) (s .args .m .pc) 12 (c .match .keys5) (s .pre .1) in
+    (c .match .keys5, f, s .pre .0 .1)
+
 returns : tie.Need-returns
 returns c =
     let s = c .before .before .before .before .before .before .before .before .before in
@@ -93,10 +99,13 @@ returns-4 c =
     tells-reference (now (s .args .code)) (now (s .args .sub)) (now (s .args .regs)) (s .args .m) _ (c .before .refer .result .holds) (c .tell-item3 .ensures .0) (c .tell-item3 .ensures .1) (c .tell-item3 .ensures .2) (c .before .before .match .keys4) (c .before .refer .result) refl (c .before .refer .ensures)
 
 returns-5 : tie.Need-returns-5
-returns-5 c =
+returns-5 c = search needs
+
+returns-6 : tie.Need-returns-6
+returns-6 c =
     let s = c .before .before .before .before .before .before in
     let n = c .match .rest in
-    tells-none (now (s .args .code)) (now (s .args .sub)) (now (s .args .regs)) (s .args .m) _ (n .0 .0 .0 .1) (n .0 .0 .1) (n .0 .1) (n .1) refl
+    tells-none (now (s .args .code)) (now (s .args .sub)) (now (s .args .regs)) (s .args .m) _ (n .0 .0 .0 .0 .1) (n .0 .0 .0 .1) (n .0 .0 .1) (n .0 .1) (n .1) refl
 
 pub tell-missed-spec : {M : Type 1} → statement M
 tell-missed-spec =
@@ -117,8 +126,10 @@ tell-missed-spec =
     tell-run-requires
     refer-requires
     tell-item-requires-3
+    tell-break-requires
     returns
     returns-2
     returns-3
     returns-4
-    returns-5)
+    returns-5
+    returns-6)

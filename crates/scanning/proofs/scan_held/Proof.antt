@@ -29,7 +29,7 @@ unfolding unset registers workAreaNeed workPerStep
 scan-searches-requires c κs =
     let h = c .before .before .before .before .before .before .before .pre in
     let long = length-take-le (workAreaNeed (c .before .before .before .before .before .before .before .args .budget)) (now (c .before .before .before .before .before .before .before .args .work)) (h .work-fits) in
-    (record { tree = h .tree; stands = h .stands; code-size = h .code-size; subject-fits = h .subject-fits; work-fits = omega (arith, long) }, clear-all)
+    (record { tree = h .tree; stands = h .stands; code-size = h .code-size; subject-fits = h .subject-fits; work-fits = omega (arith, long); budget-fits = h .budget-fits }, clear-all)
 
 same-length : tie.Need-same-length
 same-length c = search needs

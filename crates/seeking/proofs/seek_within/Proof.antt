@@ -52,7 +52,7 @@ same-length-2 : tie.Need-same-length-2 Inv-loop μ-loop
 same-length-2 c = c .before .before .before .before .before .before .before .try-start .kept .1 .1 .1 .0 ∙ c .before .before .before .before .before .before .before .before .before .before .before .loop .inv .wide
 
 returns : tie.Need-returns Inv-loop μ-loop
-returns c = seeking-end (c .before .before .before .before .before .before .before .before .before .before .before .loop .inv) (c .before .before .before .before .before .before .before .before .before .before .loop-test .taken) (c .before .before .before .before .before .before .before .try-start .ensures) _ _ (c .before .used .given .1)
+returns c = (seeking-end (c .before .before .before .before .before .before .before .before .before .before .before .loop .inv) (c .before .before .before .before .before .before .before .before .before .before .loop-test .taken) (c .before .before .before .before .before .before .before .try-start .ensures) _ _ (c .before .used .given .1), tt)
 
 enum-known-used-2 : tie.Need-enum-known-used-2 Inv-loop μ-loop
 enum-known-used-2 c = search needs
@@ -97,7 +97,7 @@ same-length-4 : tie.Need-same-length-4 Inv-loop μ-loop
 same-length-4 c = c .before .before .before .before .before .before .try-start .kept .1 .1 .1 .0 ∙ c .before .before .before .before .before .before .before .before .before .before .loop .inv .wide
 
 returns-2 : tie.Need-returns-2 Inv-loop μ-loop
-returns-2 c = seeking-spent (c .before .before .before .before .before .before .before .before .before .before .loop .inv) (c .before .before .before .before .before .before .before .before .before .loop-test .taken) (c .before .before .before .before .before .before .try-start .ensures) (c .enum-told .given .1)
+returns-2 c = (seeking-spent (c .before .before .before .before .before .before .before .before .before .before .loop .inv) (c .before .before .before .before .before .before .before .before .before .loop-test .taken) (c .before .before .before .before .before .before .try-start .ensures) (c .enum-told .given .1), tt)
 
 same-length-5 : tie.Need-same-length-5 Inv-loop μ-loop
 same-length-5 c = ap (λ (r : List ℕ). length r) (c .before .loop .inv .same)
@@ -106,7 +106,7 @@ same-length-6 : tie.Need-same-length-6 Inv-loop μ-loop
 same-length-6 c = c .before .loop .inv .wide
 
 returns-3 : tie.Need-returns-3 Inv-loop μ-loop
-returns-3 c = seeking-none (c .before .loop .inv) (omega (arith, c .loop-test .left))
+returns-3 c = (seeking-none (c .before .loop .inv) (omega (arith, c .loop-test .left)), c .before .loop .inv .same)
 
 pub seek-within-spec : {M : Type 1} → statement M
 seek-within-spec =

@@ -3,10 +3,11 @@
 use mathlib.Core.Path.{_≡_, refl, sym, subst}
 use mathlib.Core.List.{List, [], _∷_, append-nil}
 use mathlib.Core.Logic.{inl, inr}
-use Prim.Native.Nat.{ℕ, suc, _+_, _*_, _-_, _≤_, _<_}
+use Prim.Native.Nat.{ℕ, suc, _+_, _*_, _-_, _^_, _≤_, _<_}
 use native.Mathlib.Omega.{arith}
 use native.Mathlib.Numerals.{add-one}
 use lib.ListN.{length}
+use Rattle.syntax.specs.Limits.{budgetLimit}
 use Rattle.syntax.specs.Tree.{Rule}
 use Rattle.semantics.specs.States.{State, row}
 use Rattle.semantics.specs.Walk.{Trace, end, trace}
@@ -95,8 +96,12 @@ module _ {p sub r w : List ℕ} {entry budget : ℕ} {o : Opening} (g : Lent p s
   unfolding workAreaNeed
   room = enough-room budget (length w) (g .held .work-fits)
 
+  short : 2 * budget < 2 ^ 32
+  unfolding budgetLimit
+  short = omega (arith, g .held .budget-fits)
+
   pub lent-ready : (x : Rule) → Stands p x entry → (begin wide : ℕ) → wide ≡ length w → begin ≤ length sub → Ready p sub wide budget r (go entry begin r []) (trace sub x begin)
-  lent-ready x st begin wide e h = begins p sub x entry begin budget wide r st (g .bytes) (g .clear) h (omega (arith, room))
+  lent-ready x st begin wide e h = begins p sub x entry begin budget wide r st (g .bytes) (g .clear) h (omega (arith, room)) short
 
   module _ (begin from steps : ℕ) (passed : Passed (o .set) (o .any) sub (o .cost) begin from) where
     -- what an opening says of a start is what its walk finds

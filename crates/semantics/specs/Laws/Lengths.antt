@@ -10,8 +10,8 @@ use lib.Dec.{ltb}
 use borrow.Author.Tests.{ltb-false}
 use Rattle.syntax.specs.declared.Greed.{Greed}
 use Rattle.syntax.specs.declared.Most.{Most}
-use Rattle.syntax.specs.Tree.{Item, byteIn, assert, reference, Rule, empty, item, seq, alt, group, repeat, Branches, one, also}
-use Rattle.syntax.specs.Lengths.{held, itemLength, leastLength, shortest}
+use Rattle.syntax.specs.Tree.{Item, byteIn, assert, reference, Rule, empty, item, seq, alt, group, repeat, held, look, Branches, one, also}
+use Rattle.syntax.specs.Lengths.{capped, itemLength, leastLength, shortest}
 use Rattle.semantics.specs.States.{State, chose, moved, closed}
 use Rattle.semantics.specs.Items.{goes, refer, try}
 use Rattle.semantics.specs.Repeats.{Next, round, leave, either, isFull, allowed, decision}
@@ -70,13 +70,13 @@ rounds-take length least most g f (turn {n = n} {idle = idle} {s = s} {t = t} {u
 
 -- Rules ---------------------------------------------------------------------
 
-held-less : (n : ℕ) → held n ≤ n
-unfolding held
-held-less n = omega arith
+capped-less : (n : ℕ) → capped n ≤ n
+unfolding capped
+capped-less n = omega arith
 
 module _ (sub : List ℕ) where
   mutual
-    unfolding leastLength shortest chose closed
+    unfolding leastLength shortest chose moved closed
 
     -- 02, request k): "Show that no derivation takes fewer bytes than the least length."
     pub takes-least : (r : Rule) (s t : State) → Derives sub r s t → s .at + leastLength r ≤ t .at
@@ -85,14 +85,17 @@ module _ (sub : List ℕ) where
     takes-least (seq a b) s t d =
         let x = takes-least a s (d .0) (d .1) in
         let y = takes-least b (d .0) t (d .2) in
-        omega (arith, held-less (leastLength a + leastLength b))
+        omega (arith, capped-less (leastLength a + leastLength b))
     takes-least (alt bs b) s t (inl d) = let x = takes-shortest bs s t d in omega arith
     takes-least (alt bs b) s t (inr d) = let x = takes-least b _ t d in omega arith
     takes-least (group n a) s t d = let x = takes-least a s (d .0) (d .1) in omega (arith, ap (λ (u : State). u .at) (d .2))
     takes-least (repeat place least most g a) s t d =
         let z : least - 0 ≡ least = omega arith in
         let x = rw z at (rounds-take (leastLength a) least most g (λ u v. takes-least a u v) d) in
-        omega (arith, x, held-less (least * leastLength a))
+        omega (arith, x, capped-less (least * leastLength a))
+    takes-least (held place a) s t d = takes-least a s t (d .0)
+    takes-least (look place false a) s t d = omega (arith, ap (λ (u : State). u .at) (d .2))
+    takes-least (look place true a) s t d = omega (arith, ap (λ (u : State). u .at) (d .1))
 
     takes-shortest : (bs : Branches) (s t : State) → Picks sub bs s t → s .at + shortest bs ≤ t .at
     takes-shortest (one a) s t d = takes-least a _ t d

@@ -3,7 +3,7 @@
 use mathlib.Core.Path.{_≡_, refl}
 use mathlib.Core.List.{List, [], _∷_, _++_}
 use mathlib.Core.Logic.{_⊎_, inl, inr}
-use mathlib.Core.Bool.{Bool, false}
+use mathlib.Core.Bool.{Bool, true, false}
 use Prim.Native.Nat.{ℕ, zero, suc, _≤_, _<_}
 use native.Mathlib.Omega.{arith}
 use lib.ListN.{length}
@@ -11,17 +11,17 @@ use lib.Dec.{eqb}
 use Rattle.syntax.specs.declared.Greed.{Greed}
 use Rattle.syntax.specs.declared.Greed.the-variants.{Greedy, Lazy}
 use Rattle.syntax.specs.declared.Most.{Most}
-use Rattle.syntax.specs.Tree.{Rule, empty, item, seq, alt, group, repeat, Branches, one, also}
-use Rattle.semantics.specs.States.{branch, again, goOn, State, starting, chose, closed}
+use Rattle.syntax.specs.Tree.{Rule, empty, item, seq, alt, group, repeat, held, look, Branches, one, also}
+use Rattle.semantics.specs.States.{branch, again, goOn, State, starting, chose, moved, closed}
 use Rattle.semantics.specs.Items.{Tried, fails, goes, toll, try}
 use Rattle.semantics.specs.Repeats.{Next, round, leave, either, decision}
 use Rattle.semantics.specs.Derivations.{branchCount, Again, Derives, Derivation}
-use Rattle.semantics.specs.Walk.{step, miss, end, Trace, Go, _▹_, done, tried, paying, decide, rounds, enough, walk, walks, trace}
+use Rattle.semantics.specs.Walk.{step, miss, end, Trace, Go, _▹_, done, tried, paying, decide, toFirst, ending, entering, rounds, enough, walk, walks, trace}
 use Rattle.semantics.specs.Explanations.{Failure, failures, position, furthest, reach, closest}
 use Rattle.semantics.specs.Demands.{In, Start, NoDerivation}
 use Rattle.semantics.specs.Laws.Cases.{clash}
 use Rattle.semantics.specs.Laws.Members.{in-left, in-right, in-or}
-use Rattle.semantics.specs.Laws.Traces.{Ends, ends-left, bind-join, ends-reaches}
+use Rattle.semantics.specs.Laws.Traces.{Ends, ends-left, bind-join, other-first, ends-reaches}
 use Rattle.semantics.specs.Laws.Right.{Right, again-reach}
 use Rattle.semantics.specs.Laws.Rounds.{unlessIdle, left, fewer-states}
 use Rattle.semantics.specs.Laws.Walk.{right}
@@ -59,6 +59,18 @@ bind-miss-behind (step ∷ es) k t place at h i = inr (bind-miss-behind es k t p
 bind-miss-behind (miss p a ∷ es) k t place at h i = inr (bind-miss-behind es k t place at h i)
 bind-miss-behind (end u ∷ es) k t place at (inl e) i = in-left (miss place at) (k u) (es ▹ k) (rw e i)
 bind-miss-behind (end u ∷ es) k t place at (inr h) i = in-right (miss place at) (k u) (es ▹ k) (bind-miss-behind es k t place at h i)
+
+-- Misses of toFirst --------------------------------------------------------------
+
+first-miss-or : (es : Trace) (k : Go) (other : Trace) (place at : ℕ) → In (miss place at) (toFirst es k other) → In (miss place at) es ⊎ (((t : State) × Ends es t × In (miss place at) (k t)) ⊎ In (miss place at) other)
+unfolding toFirst
+first-miss-or [] k other place at i = inr (inr i)
+first-miss-or (step ∷ es) k other place at (inl e) = absurd (clash (cc))
+first-miss-or (step ∷ es) k other place at (inr i) = elim (first-miss-or es k other place at i) [ inl j ↦ inl (inr j) | inr j ↦ inr j ]
+first-miss-or (miss p a ∷ es) k other place at (inl e) = inl (inl e)
+first-miss-or (miss p a ∷ es) k other place at (inr i) = elim (first-miss-or es k other place at i) [ inl j ↦ inl (inr j) | inr j ↦ inr j ]
+first-miss-or (end t ∷ es) k other place at (inl e) = absurd (clash (cc))
+first-miss-or (end t ∷ es) k other place at (inr i) = inr (inl (t, inl refl, i))
 
 -- What a trace from s tells -------------------------------------------------------
 
@@ -122,6 +134,46 @@ module _ {N : ℕ} {s : State} where
     ];
   }
 
+  -- an inner walk up to its first end, and on from there
+  tells-first : {es : Trace} {k : Go} → Tells N s es → ((t : State) → Ends es t → Tells N s (k t)) → Tells N s (toFirst es k [])
+  unfolding toFirst
+  tells-first {es} {k} x y = record {
+    between = λ p a i. elim (first-miss-or es k [] p a i) [
+      | inl j ↦ x .between p a j
+      | inr j ↦ elim j [ inl h ↦ y (h .0) (h .1) .between p a (h .2) | inr h ↦ absurd h ]
+    ];
+    end-or-miss = by es (x .end-or-miss) (λ t e. y t e .end-or-miss);
+  }
+    where
+      by : (es : Trace) → HasEnd es ⊎ HasMiss es → ((t : State) → Ends es t → HasEnd (k t) ⊎ HasMiss (k t)) → HasEnd (toFirst es k []) ⊎ HasMiss (toFirst es k [])
+      by [] (inl e) f = absurd (e .1)
+      by [] (inr m) f = absurd (m .2)
+      by (step ∷ es) (inl e) f = elim (by es (inl e) f) [ inl h ↦ inl h | inr m ↦ inr (m .0, m .1, inr (m .2)) ]
+      by (step ∷ es) (inr m) f = elim (m .2) [ inl e ↦ absurd (clash (cc)) | inr i ↦ elim (by es (inr (m .0, m .1, i)) f) [ inl h ↦ inl h | inr n ↦ inr (n .0, n .1, inr (n .2)) ] ]
+      by (miss p a ∷ es) h f = inr (p, a, inl refl)
+      by (end t ∷ es) h f = elim (f t (inl refl)) [ inl e ↦ inl e | inr m ↦ inr (m .0, m .1, inr (m .2)) ]
+
+  -- negative looking ahead, whose inside has an end or not
+  tells-lacking : (place : ℕ) {es : Trace} → s .at ≤ N → Tells N s es → (b : Bool) → ending es ≡ b → Tells N s (entering place s b ∷ toFirst es (λ t. []) (done s))
+  unfolding entering done
+  tells-lacking place {es} l x true e = record {
+    between = λ p a i. elim i [ inl q ↦ (let z : s .at ≡ a = cc in (omega (arith, z), omega (arith, z))) | inr j ↦ within p a j ];
+    end-or-miss = inr (place, s .at, inl refl);
+  }
+    where
+      within : (p a : ℕ) → In (miss p a) (toFirst es (λ t. []) (done s)) → (s .at ≤ a) × (a ≤ N)
+      within p a j = elim (first-miss-or es (λ t. []) (done s) p a j) [
+        | inl h ↦ x .between p a h
+        | inr h ↦ elim h [ inl z ↦ absurd (z .2) | inr z ↦ elim z [ inl q ↦ absurd (clash (cc)) | inr y ↦ absurd y ] ]
+      ]
+  tells-lacking place {es} l x false e = tells-step (record {
+    between = λ p a j. elim (first-miss-or es (λ t. []) (done s) p a j) [
+      | inl h ↦ x .between p a h
+      | inr h ↦ elim h [ inl z ↦ absurd (z .2) | inr z ↦ elim z [ inl q ↦ absurd (clash (cc)) | inr y ↦ absurd y ] ]
+    ];
+    end-or-miss = inl (s, other-first es (λ t. []) (done s) s e (inl refl));
+  })
+
 tells-decide : {N : ℕ} (d : Next) (s : State) (r : Go) → s .at ≤ N → ((t : State) → Again d s t → Tells N t (r t)) → Tells N s (decide d s r)
 unfolding decide
 tells-decide round s r l f = f s refl
@@ -156,6 +208,9 @@ module _ (sub : List ℕ) where
     tells (alt bs b) s l = tells-append (tells-branches bs s l) (tells-step (tells-from (omega arith) (tells b (chose (branch (branchCount bs)) s) l)))
     tells (group n a) s l = tells-step (tells-bind (tells a s l) (λ t e. (let x = right sub a s l in (x .reach t (x .sound t e) .up, tells-step (tells-done (closed n (s .at) t))))))
     tells (repeat place least most g a) s l = tells-rounds (walk sub a) (Derives sub a) least most g (right sub a) (tells a) (enough sub least (s .at)) 0 false s l (omega arith)
+    tells (held place a) s l = tells-step (tells-first (tells a s l) (λ t e. tells-done t))
+    tells (look place false a) s l = tells-step (tells-first (tells a s l) (λ t e. tells-done (moved (s .at) t)))
+    tells (look place true a) s l = tells-lacking place l (tells a s l) (ending (walk sub a s)) refl
 
     tells-branches : (bs : Branches) (s : State) → s .at ≤ length sub → Tells (length sub) s (walks sub bs s)
     tells-branches (one a) s l = tells-step (tells-from (omega arith) (tells a (chose (branch 0) s) l))

@@ -1,21 +1,21 @@
 -- What Profile says holds of every rule that the profile accepts. Rounds: where no repeat without upper bound has a body of least length 0, each round takes
 -- a byte. Calls: they see the flags in the refusals, in the reading of the rule and in its names, and these three are the same.
-use mathlib.Core.Path.{_≡_, refl, sym, _∙_}
+use mathlib.Core.Path.{_≡_, refl}
 use mathlib.Core.List.{List, [], _∷_}
-use mathlib.Core.Bool.{Bool, true, false, _&&_}
+use mathlib.Core.Bool.{Bool, true, _&&_}
 use mathlib.Core.Option.{Option, none, some}
-use Prim.Native.Nat.{ℕ, zero, suc, min, _+_, _-_, _^_, _%_, _≤_, _<_}
+use Prim.Native.Nat.{ℕ, zero, suc, min, _+_, _^_, _%_, _≤_, _<_}
 use native.Mathlib.Omega.{arith}
 use lib.ListN.{length, take, drop}
-use lib.Dec.{eqb, leb}
+use lib.Dec.{eqb}
 use borrow.Author.Tests.{eqb-false, lt-leb}
 use Rattle.syntax.specs.declared.Greed.{Greed}
 use Rattle.syntax.specs.declared.Most.{Most}
 use Rattle.syntax.specs.declared.Reason.{Reason}
 use Rattle.syntax.specs.Limits.{flagBits, depotBit, rowLength, partLength}
-use Rattle.syntax.specs.Read.{Read, sound, refused, if_then_else_}
+use Rattle.syntax.specs.Read.{sound, if_then_else_}
 use Rattle.syntax.specs.Flags.{depot}
-use Rattle.syntax.specs.Tree.{Rule, empty, item, seq, alt, group, repeat, Branches, one, also}
+use Rattle.syntax.specs.Tree.{Rule, empty, item, seq, alt, group, repeat, held, look, Branches, one, also}
 use Rattle.syntax.specs.Lengths.{leastLength, unbounded}
 use Rattle.syntax.specs.Reading.{namesOf, idle, idleIn, reading}
 use Rattle.syntax.specs.Laws.Forward.{Given, given-less}
@@ -70,6 +70,8 @@ module _ (sub : List ℕ) where
     all-advance (repeat place least most g a) e =
         let n = first-none (idle a) (if unbounded most && eqb (leastLength a) 0 then some place else none) e in
         (λ u. advances least most g a (not-idle place most a (n .1) u), all-advance a (n .0))
+    all-advance (held place a) e = all-advance a e
+    all-advance (look place negative a) e = all-advance a e
 
     each-advances : (bs : Branches) → idleIn bs ≡ none → EachAdvances sub bs
     each-advances (one a) e = all-advance a e

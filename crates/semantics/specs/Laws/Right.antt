@@ -13,9 +13,9 @@ use Rattle.syntax.specs.Tree.{Item, byteIn, assert, reference}
 use Rattle.semantics.specs.States.{Choice, again, goOn, Sooner, roundFirst, goOnFirst, State, chose, moved}
 use Rattle.semantics.specs.Items.{Tried, fails, goes, when, refer, try}
 use Rattle.semantics.specs.Repeats.{Next, round, leave, either}
-use Rattle.semantics.specs.Derivations.{Again, On}
-use Rattle.semantics.specs.Walk.{step, Trace, Go, _▹_, done, tried, paying, decide}
-use Rattle.semantics.specs.Laws.Traces.{Ends, Ordered, Extends, before-extends, fork, ends-split, ends-left, ends-right, ordered-append, bind-split, bind-join, bind-ordered}
+use Rattle.semantics.specs.Derivations.{Again, On, First}
+use Rattle.semantics.specs.Walk.{step, Trace, Go, _▹_, done, tried, paying, decide, toFirst, ending, entering}
+use Rattle.semantics.specs.Laws.Traces.{Ends, Ordered, Extends, before-extends, fork, ends-split, ends-left, ends-right, ordered-append, bind-split, bind-join, bind-ordered, first-split, first-join, first-ordered, first-none, first-other, other-first, ending-true, ending-false}
 
 -- Reach ------------------------------------------------------------------
 
@@ -85,6 +85,31 @@ module _ {N : ℕ} {s : State} where
         let d = q u (y .sound u h) in
         rw (c .2 .1, d .2 .1) (before-extends (c .2 .0) (d .2 .0) (fork (s .path) (c .0) (d .0) (f (c .0) (d .0) (c .1) (d .1)))));
     reach = λ u d. elim d [ inl h ↦ x .reach u h | inr h ↦ y .reach u h ];
+  }
+
+  -- a held part, or looking ahead: the first end alone, and on from there
+  pub right-first : {es : Trace} {k : Go} {D : State → Type 0} {E : State → State → Type 0} → Right N s es D → ((t : State) → D t → Right N s (k t) (E t)) → Right N s (step ∷ toFirst es k []) (λ u. (t : State) × First D t × E t u)
+  right-first {es} {k} x y = record {
+    sound = λ u h. let z = first-split es k u (x .ordered) h in let d = x .sound (z .0) (z .1) in (z .0, (d, λ v e. z .2 v (x .complete v e)), y (z .0) d .sound u (z .3));
+    complete = λ u d. first-join es k (d .0) u (x .ordered) (x .complete (d .0) (d .1 .0)) (λ v e. d .1 .1 v (x .sound v e)) (y (d .0) (d .1 .0) .complete u (d .2));
+    ordered = first-ordered es k [] (λ t e. y t (x .sound t e) .ordered) tt;
+    reach = λ u d. y (d .0) (d .1 .0) .reach u (d .2);
+  }
+
+  -- negative looking ahead, whose inside has an end or not
+  pub right-lacking : (place : ℕ) {es : Trace} {D : State → Type 0} → s .at ≤ N → Right N s es D → (b : Bool) → ending es ≡ b → Right N s (entering place s b ∷ toFirst es (λ t. []) (done s)) (λ u. ((m : State) → ¬ D m) × (u ≡ s))
+  unfolding entering done
+  right-lacking place {es} l x true e = let t = ending-true es e in record {
+    sound = λ u h. absurd (first-none es _ u e h);
+    complete = λ u d. absurd (d .0 (t .0) (x .sound (t .0) (t .1)));
+    ordered = first-ordered es _ _ (λ t e. tt) (λ u z. absurd z, tt);
+    reach = λ u d. rw (d .1) (reach-self N s l);
+  }
+  right-lacking place {es} l x false e = record {
+    sound = λ u h. (λ m d. ending-false es m e (x .complete m d), elim (first-other es _ _ u e h) [ inl q ↦ sym q | inr z ↦ absurd z ]);
+    complete = λ u d. other-first es _ _ u e (inl (sym (d .1)));
+    ordered = first-ordered es _ _ (λ t e. tt) (λ u z. absurd z, tt);
+    reach = λ u d. rw (d .1) (reach-self N s l);
   }
 
   -- steps before a trace reach no end

@@ -3,7 +3,7 @@
 use mathlib.Core.Path.{_≡_, refl, ap, _∙_}
 use mathlib.Core.List.{List}
 use mathlib.Core.Logic.{_⊎_, inl, inr}
-use mathlib.Core.Bool.{Bool}
+use mathlib.Core.Bool.{Bool, true, false}
 use Prim.Native.Nat.{ℕ, suc, _+_, _≤_, _<_}
 use native.Mathlib.Omega.{arith}
 use lib.ListN.{length, getD, set, replicate, length-set, length-replicate, getD-replicate}
@@ -11,7 +11,7 @@ use lib.Seq.{getD-set-same, getD-set-other}
 use Rattle.syntax.specs.declared.Greed.{Greed}
 use Rattle.syntax.specs.declared.Most.{Most}
 use Rattle.syntax.specs.Limits.{groupLimit, unset, spansLength, rowLength, slot}
-use Rattle.syntax.specs.Tree.{Item, byteIn, assert, reference, Rule, empty, item, seq, alt, group, repeat, Branches, one, also}
+use Rattle.syntax.specs.Tree.{Item, byteIn, assert, reference, Rule, empty, item, seq, alt, group, repeat, held, look, Branches, one, also}
 use Rattle.syntax.specs.WellFormed.{Proper, Propers}
 use Rattle.semantics.specs.States.{Choice, again, goOn, State, starting, chose, moved, closed, row}
 use Rattle.semantics.specs.Items.{goes, refer, try}
@@ -24,9 +24,9 @@ use Rattle.semantics.specs.Laws.Walk.{right}
 
 -- Spans ------------------------------------------------------------------------
 
--- unset, or a part of what lies between start and at
+-- unset, or a part of what lies between start and the line's end
 abbrev Span : ℕ → ℕ → ℕ → ℕ → Type 0
-Span start at from to = IsUnset from to ⊎ ((start ≤ from) × (from ≤ to) × (to ≤ at))
+Span start last from to = IsUnset from to ⊎ ((start ≤ from) × (from ≤ to) × (to ≤ last))
 
 -- the two numbers of group g
 abbrev opens : List ℕ → ℕ → ℕ
@@ -34,10 +34,6 @@ opens spans g = getD spans (slot g) 0
 
 abbrev closes : List ℕ → ℕ → ℕ
 closes spans g = getD spans (slot g + 1) 0
-
-span-later : (start at later from to : ℕ) → at ≤ later → Span start at from to → Span start later from to
-span-later start at later from to l (inl u) = inl u
-span-later start at later from to l (inr h) = inr (h .0, h .1, omega arith)
 
 slot-fits : (g : ℕ) → 1 ≤ g → g ≤ groupLimit → slot g + 1 < spansLength
 unfolding slot spansLength groupLimit
@@ -69,7 +65,7 @@ module _ (sub : List ℕ) (start groups : ℕ) (few : groups ≤ groupLimit) whe
     from : start ≤ s .at
     inside : s .at ≤ length sub
     size : length (s .spans) ≡ spansLength
-    spans : (g : ℕ) → 1 ≤ g → g ≤ groupLimit → Span start (s .at) (opens (s .spans) g) (closes (s .spans) g)
+    spans : (g : ℕ) → 1 ≤ g → g ≤ groupLimit → Span start (length sub) (opens (s .spans) g) (closes (s .spans) g)
     missing : (g : ℕ) → groups < g → g ≤ groupLimit → IsUnset (opens (s .spans) g) (closes (s .spans) g)
 
   -- the same spans, further on
@@ -78,7 +74,7 @@ module _ (sub : List ℕ) (start groups : ℕ) (few : groups ≤ groupLimit) whe
     from = omega (arith, h .from);
     inside = l;
     size = rw e (h .size);
-    spans = λ g a b. rw e (span-later start (s .at) (t .at) _ _ up (h .spans g a b));
+    spans = λ g a b. rw e (h .spans g a b);
     missing = λ g a b. rw e (h .missing g a b);
   }
 
@@ -109,11 +105,16 @@ module _ (sub : List ℕ) (start groups : ℕ) (few : groups ≤ groupLimit) whe
         inside = b .inside;
         size = simp length-set (b .size);
         spans = λ g p q. elim (same-or g n) [
-          | inl e ↦ rw e (rw (opens-own (t .spans) n (s .at) (t .at) fits, closes-own (t .spans) n (s .at) (t .at) fits) (inr (a .from, up, omega arith)))
+          | inl e ↦ rw e (rw (opens-own (t .spans) n (s .at) (t .at) fits, closes-own (t .spans) n (s .at) (t .at) fits) (inr (a .from, up, b .inside)))
           | inr v ↦ rw (opens-other (t .spans) g n (s .at) (t .at) p l v, closes-other (t .spans) g n (s .at) (t .at) p l v) (b .spans g p q)
         ];
         missing = λ g p q. (let v : ¬ (g ≡ n) = λ e. omega arith in rw (opens-other (t .spans) g n (s .at) (t .at) (omega arith) l v, closes-other (t .spans) g n (s .at) (t .at) (omega arith) l v) (b .missing g p q));
       }
+
+  -- looking ahead from s to t: back at s, with the captures of t
+  kept-back : (s t : State) → Kept s → Kept t → Kept (moved (s .at) t)
+  unfolding moved
+  kept-back s t a b = record { from = a .from; inside = a .inside; size = b .size; spans = b .spans; missing = b .missing }
 
   kept-again : (d : Next) (s t : State) → Again d s t → Kept s → Kept t
   kept-again round s t e h = rw e h
@@ -141,6 +142,9 @@ module _ (sub : List ℕ) (start groups : ℕ) (few : groups ≤ groupLimit) whe
         let up = right sub a s (h .inside) .reach m (d .1) .up in
         rw (d .2) (kept-closed n s m (p .0) (p .1) up h (kept a (p .2) s m (d .1) h))
     kept (repeat place least most g a) p s t d h = kept-rounds least most g (λ u v. kept a (p .1) u v) d h
+    kept (held place a) p s t d h = kept a p s t (d .0) h
+    kept (look place false a) p s t d h = rw (d .2) (kept-back s (d .0) h (kept a p s (d .0) (d .1 .0) h))
+    kept (look place true a) p s t d h = rw (d .1) h
 
     kept-picked : (bs : Branches) → Propers groups bs → (s t : State) → Picks sub bs s t → Kept s → Kept t
     kept-picked (one a) p s t d h = kept a p _ t d (kept-chose _ s h)

@@ -2,10 +2,11 @@
 use mathlib.Core.Path.{_≡_, refl, ap, sym, _∙_}
 use mathlib.Core.List.{List, [], _∷_, _++_, map, append-assoc, append-nil}
 use mathlib.Core.Logic.{_⊎_, inl, inr}
+use mathlib.Core.Bool.{true, false}
 use Prim.Native.Nat.{ℕ, zero, suc, _<_}
 use native.Mathlib.Omega.{arith}
 use Rattle.semantics.specs.States.{Choice, Sooner, earlier, roundFirst, goOnFirst, Before, here, there, code, State}
-use Rattle.semantics.specs.Walk.{step, miss, end, Trace, Go, _▹_, done, Reaches}
+use Rattle.semantics.specs.Walk.{step, miss, end, Trace, Go, _▹_, done, toFirst, ending, Reaches}
 use Rattle.semantics.specs.Laws.Cases.{clash}
 
 -- u is among the ends of a trace
@@ -149,6 +150,72 @@ bind-end [] = refl
 bind-end (step ∷ es) = rw (bind-end es)
 bind-end (miss p q ∷ es) = rw (bind-end es)
 bind-end (end t ∷ es) = rw (bind-end es)
+
+-- toFirst
+pub first-split : (es : Trace) (k : Go) (u : State) → Ordered es → Ends (toFirst es k []) u → (t : State) × Ends es t × ((v : State) → Ends es v → (t ≡ v) ⊎ Before (t .path) (v .path)) × Ends (k t) u
+unfolding toFirst
+first-split [] k u o h = absurd h
+first-split (step ∷ es) k u o h = first-split es k u o h
+first-split (miss p a ∷ es) k u o h = first-split es k u o h
+first-split (end t ∷ es) k u o h = (t, inl refl, λ v e. elim e [ inl q ↦ inl q | inr x ↦ inr (o .0 v x) ], h)
+
+pub first-join : (es : Trace) (k : Go) (t u : State) → Ordered es → Ends es t → ((v : State) → Ends es v → (t ≡ v) ⊎ Before (t .path) (v .path)) → Ends (k t) u → Ends (toFirst es k []) u
+unfolding toFirst
+first-join [] k t u o h f x = absurd h
+first-join (step ∷ es) k t u o h f x = first-join es k t u o h f x
+first-join (miss p a ∷ es) k t u o h f x = first-join es k t u o h f x
+first-join (end v ∷ es) k t u o (inl e) f x = rw (← e) at x
+first-join (end v ∷ es) k t u o (inr h) f x = elim (f v (inl refl)) [ inl e ↦ rw e at x | inr b ↦ absurd (not-both b (o .0 t h)) ]
+
+pub first-ordered : (es : Trace) (k : Go) (other : Trace) → ((t : State) → Ends es t → Ordered (k t)) → Ordered other → Ordered (toFirst es k other)
+unfolding toFirst
+first-ordered [] k other x y = y
+first-ordered (step ∷ es) k other x y = first-ordered es k other x y
+first-ordered (miss p a ∷ es) k other x y = first-ordered es k other x y
+first-ordered (end t ∷ es) k other x y = x t (inl refl)
+
+-- nothing behind the first end, and the other way only where there is none
+pub first-none : (es : Trace) (other : Trace) (u : State) → ending es ≡ true → Ends (toFirst es (λ t. []) other) u → ⊥
+unfolding toFirst ending
+first-none [] other u e h = clash (cc)
+first-none (step ∷ es) other u e h = first-none es other u e h
+first-none (miss p a ∷ es) other u e h = first-none es other u e h
+first-none (end t ∷ es) other u e h = h
+
+pub first-other : (es : Trace) (k : Go) (other : Trace) (u : State) → ending es ≡ false → Ends (toFirst es k other) u → Ends other u
+unfolding toFirst ending
+first-other [] k other u e h = h
+first-other (step ∷ es) k other u e h = first-other es k other u e h
+first-other (miss p a ∷ es) k other u e h = first-other es k other u e h
+first-other (end t ∷ es) k other u e h = absurd (clash (cc))
+
+pub other-first : (es : Trace) (k : Go) (other : Trace) (u : State) → ending es ≡ false → Ends other u → Ends (toFirst es k other) u
+unfolding toFirst ending
+other-first [] k other u e h = h
+other-first (step ∷ es) k other u e h = other-first es k other u e h
+other-first (miss p a ∷ es) k other u e h = other-first es k other u e h
+other-first (end t ∷ es) k other u e h = absurd (clash (cc))
+
+pub ending-true : (es : Trace) → ending es ≡ true → (t : State) × Ends es t
+unfolding ending
+ending-true [] e = absurd (clash (cc))
+ending-true (step ∷ es) e = ending-true es e
+ending-true (miss p a ∷ es) e = ending-true es e
+ending-true (end t ∷ es) e = (t, inl refl)
+
+pub ending-false : (es : Trace) (t : State) → ending es ≡ false → Ends es t → ⊥
+unfolding ending
+ending-false [] t e h = h
+ending-false (step ∷ es) t e h = ending-false es t e h
+ending-false (miss p a ∷ es) t e h = ending-false es t e h
+ending-false (end v ∷ es) t e h = clash (cc)
+
+pub first-bind : (es : Trace) (j k : Go) (other : Trace) → toFirst es j other ▹ k ≡ toFirst es (λ t. j t ▹ k) (other ▹ k)
+unfolding toFirst _▹_
+first-bind [] j k other = refl
+first-bind (step ∷ es) j k other = rw (first-bind es j k other)
+first-bind (miss p a ∷ es) j k other = rw (first-bind es j k other)
+first-bind (end t ∷ es) j k other = refl
 
 -- Ends by their place in the trace -----------------------------------------------
 

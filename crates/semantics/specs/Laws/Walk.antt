@@ -3,21 +3,21 @@
 use mathlib.Core.Path.{_≡_, refl, ap}
 use mathlib.Core.List.{List, _∷_, _++_}
 use mathlib.Core.Logic.{_⊎_, inl, inr}
-use mathlib.Core.Bool.{Bool, false}
+use mathlib.Core.Bool.{Bool, true, false}
 use Prim.Native.Nat.{ℕ, suc, _≤_, _<_}
 use native.Mathlib.Omega.{arith}
 use lib.ListN.{length}
 use lib.Dec.{eqb}
 use Rattle.syntax.specs.declared.Greed.{Greed}
 use Rattle.syntax.specs.declared.Most.{Most}
-use Rattle.syntax.specs.Tree.{Rule, empty, item, seq, alt, group, repeat, Branches, one, also}
-use Rattle.semantics.specs.States.{Choice, branch, earlier, State, chose, closed}
+use Rattle.syntax.specs.Tree.{Rule, empty, item, seq, alt, group, repeat, held, look, Branches, one, also}
+use Rattle.semantics.specs.States.{Choice, branch, earlier, State, chose, moved, closed}
 use Rattle.semantics.specs.Items.{toll, try}
 use Rattle.semantics.specs.Repeats.{decision}
 use Rattle.semantics.specs.Derivations.{branchCount, Derives, Picks}
-use Rattle.semantics.specs.Walk.{step, Trace, _▹_, decide, rounds, enough, walk, walks}
+use Rattle.semantics.specs.Walk.{step, Trace, _▹_, decide, ending, rounds, enough, walk, walks}
 use Rattle.semantics.specs.Laws.Traces.{bind-same}
-use Rattle.semantics.specs.Laws.Right.{reach-still, reach-self, Right, Makes, right-step, right-done, right-bind, right-append, right-paying, right-tried, right-chose, makes-chose, try-reach, again-reach}
+use Rattle.semantics.specs.Laws.Right.{reach-still, reach-self, Right, Makes, right-step, right-as, right-done, right-bind, right-append, right-first, right-lacking, right-paying, right-tried, right-chose, makes-chose, try-reach, again-reach}
 use Rattle.semantics.specs.Laws.Rounds.{unlessIdle, left, fewer-states, decide-same, right-rounds, rounds-same}
 
 -- a branch whose number is below n
@@ -38,7 +38,7 @@ right-also {n = n} {s = s} l x y =
 
 module _ (sub : List ℕ) where
   mutual
-    unfolding walk chose closed branchCount enough left unlessIdle
+    unfolding walk chose moved closed branchCount enough left unlessIdle
 
     pub right : (r : Rule) (s : State) → s .at ≤ length sub → Right (length sub) s (walk sub r s) (Derives sub r s)
     right empty s l = right-done s (reach-self _ s l)
@@ -47,6 +47,9 @@ module _ (sub : List ℕ) where
     right (alt bs b) s l = right-also l (rights bs s l) (right b (chose (branch (branchCount bs)) s) l) .0
     right (group n a) s l = let x = right a s l in right-step (right-bind x (λ t d. right-step (right-done (closed n (s .at) t) (reach-still (x .reach t d .inside) refl refl))))
     right (repeat place least most g a) s l = right-rounds (walk sub a) (Derives sub a) least most g (right a) (enough sub least (s .at)) 0 false s l (omega arith)
+    right (held place a) s l = let x = right a s l in right-as (λ u d. rw (← (d .2)) at (d .1)) (λ u d. (u, d, refl)) (right-first x (λ t d. right-done t (x .reach t d)))
+    right (look place false a) s l = let x = right a s l in right-first x (λ t d. right-done (moved (s .at) t) (record { up = omega arith; inside = l; path = x .reach t d .path }))
+    right (look place true a) s l = right-lacking place l (right a s l) (ending (walk sub a s)) refl
 
     rights : (bs : Branches) (s : State) → s .at ≤ length sub → Right (length sub) s (walks sub bs s) (Picks sub bs s) × Makes s (BranchBelow (branchCount bs)) (Picks sub bs s)
     rights (one a) s l =

@@ -3,29 +3,31 @@ use mathlib.Core.Path.{_≡_, refl}
 use mathlib.Core.List.{List, [], _∷_}
 use mathlib.Core.Bool.{Bool, true, false, not, _||_}
 use mathlib.Core.Option.{Option, none, some}
-use Prim.Native.Nat.{ℕ, zero, suc, _+_, _*_, _≤_, _<_}
+use Prim.Native.Nat.{ℕ, zero, suc, _+_, _*_, _-_, _≤_, _<_}
 use native.Mathlib.Omega.{arith}
 use lib.ListN.{length}
 use lib.Dec.{eqb, leb, ltb}
 use borrow.Author.Tests.{ltb-true, leb-true, eqb-false, not-false}
+use Rattle.syntax.specs.declared.Form.{Form}
+use Rattle.syntax.specs.declared.Form.the-variants.{Grouped, Captured, Held, Ahead, NotAhead}
 use Rattle.syntax.specs.declared.Greed.{Greed}
 use Rattle.syntax.specs.declared.Most.{Most}
 use Rattle.syntax.specs.declared.Quantifier.{Quantifier}
 use Rattle.syntax.specs.declared.Quantifier.the-variants.{Absent, Stray, Unfit, Times}
 use Rattle.syntax.specs.declared.Reason.{Reason}
 use Rattle.syntax.specs.declared.Reason.the-variants.{NoSuchGroup, BarredReference, IdleRepeat}
-use Rattle.syntax.specs.Limits.{groupLimit, nestingLimit, levelLimit}
+use Rattle.syntax.specs.Limits.{groupLimit, nestingLimit, heightLimit, levelLimit}
 use Rattle.syntax.specs.Read.{if_then_else_, byte, isEnd, is, Read, sound, andThen}
-use Rattle.syntax.specs.Tree.{Item, byteIn, assert, reference, Rule, empty, item, seq, alt, group, repeat, Branches, one, also, alternatives}
+use Rattle.syntax.specs.Tree.{Item, byteIn, assert, reference, Rule, empty, item, seq, alt, group, repeat, held, look, Branches, one, also, alternatives, enclosed, possessive, lineBreak}
 use Rattle.syntax.specs.Quantifiers.{quantifier}
 use Rattle.syntax.specs.Names.{Name, Names}
-use Rattle.syntax.specs.Grammar.{behindBlanks, atom, Inner, closing, capturing, grouped, Sequence, unrepeatable, repeatable, repeated, whole, withItem, unfitFor, repeating, nextItem, part, ends, sequence, branch, further, alternation, inside}
+use Rattle.syntax.specs.Grammar.{behindBlanks, atom, Inner, closing, capturing, uncaptured, grouped, Sequence, unrepeatable, repeatable, repeated, whole, withItem, unfitFor, repeating, breaksLine, nextItem, part, ends, sequence, branch, further, alternation, inside}
 use Rattle.syntax.specs.Flags.{depot}
 use Rattle.syntax.specs.Reading.{namesOf, parsed, firstOf, dangling, unresolved, unresolvedIn, idle, unless, profiled, settled, reading}
-use Rattle.syntax.specs.WellFormed.{BoundsFit, Proper, Propers, Refers, Resolved, ResolvedIn, groupDepth, groupDepths, repeatDepth, repeatDepths, levels, levelsIn, WellFormed}
+use Rattle.syntax.specs.WellFormed.{BoundsFit, Proper, Propers, Refers, Resolved, ResolvedIn, height, heights, levels, levelsIn, WellFormed}
 use Rattle.syntax.specs.Laws.Forward.{Given, any-given, if-given, test-given, then-given, given-less, Holding, Bounded, quantifier-on}
 
--- Trees among so many groups, in which groups and repeats nest so deep ---------
+-- Trees among so many groups, and so high -------------------------------------
 
 mutual
   proper-more : (t : Rule) (g h : ℕ) → g ≤ h → Proper g t → Proper h t
@@ -35,70 +37,98 @@ mutual
   proper-more (alt bs b) g h l p = (propers-more bs g h l (p .0), proper-more b g h l (p .1))
   proper-more (group n a) g h l p = (p .0, omega (arith, p .1), proper-more a g h l (p .2))
   proper-more (repeat at n m x a) g h l p = (p .0, proper-more a g h l (p .1))
+  proper-more (held at a) g h l p = proper-more a g h l p
+  proper-more (look at negative a) g h l p = proper-more a g h l p
 
   propers-more : (bs : Branches) (g h : ℕ) → g ≤ h → Propers g bs → Propers h bs
   propers-more (one a) g h l p = proper-more a g h l p
   propers-more (also bs b) g h l p = (propers-more bs g h l (p .0), proper-more b g h l (p .1))
 
-pub record Fits (g d e : ℕ) (t : Rule) : Type 0 where
+pub record Fits (g h : ℕ) (t : Rule) : Type 0 where
   pub proper : Proper g t
-  pub groups : groupDepth t ≤ d
-  pub repeats : repeatDepth t ≤ e
-  pub nested : levels t ≤ 2 * e
+  pub nests : height t ≤ h
+  pub nested : levels t ≤ 2 * h
 
-fits-more : (t : Rule) (g h d e : ℕ) → g ≤ h → Fits g d e t → Fits h d e t
-fits-more t g h d e l f = record { proper = proper-more t g h l (f .proper); groups = f .groups; repeats = f .repeats; nested = f .nested }
+fits-more : (t : Rule) (g g′ h : ℕ) → g ≤ g′ → Fits g h t → Fits g′ h t
+fits-more t g g′ h l f = record { proper = proper-more t g g′ l (f .proper); nests = f .nests; nested = f .nested }
 
-fits-empty : (g d e : ℕ) → Fits g d e empty
-fits-empty g d e = record { proper = tt; groups = omega arith; repeats = omega arith; nested = omega arith }
+fits-empty : (g h : ℕ) → Fits g h empty
+fits-empty g h = record { proper = tt; nests = omega arith; nested = omega arith }
 
-fits-item : (g d e at : ℕ) (i : Item) → Fits g d e (item at i)
-fits-item g d e at i = record { proper = tt; groups = omega arith; repeats = omega arith; nested = omega arith }
+fits-item : (g h at : ℕ) (i : Item) → Fits g h (item at i)
+fits-item g h at i = record { proper = tt; nests = omega arith; nested = omega arith }
 
 -- a part stands one level deeper
-fits-seq : (g d e : ℕ) (a b : Rule) → Fits g d e a → Fits g d e b → suc (levels b) ≤ 2 * e → Fits g d e (seq a b)
-fits-seq g d e a b f h k = record { proper = (f .proper, h .proper); groups = omega (arith, f .groups, h .groups); repeats = omega (arith, f .repeats, h .repeats); nested = omega (arith, f .nested) }
+fits-seq : (g h : ℕ) (a b : Rule) → Fits g h a → Fits g h b → suc (levels b) ≤ 2 * h → Fits g h (seq a b)
+fits-seq g h a b x y k = record { proper = (x .proper, y .proper); nests = omega (arith, x .nests, y .nests); nested = omega (arith, x .nested) }
 
-fits-group : (g d e n : ℕ) (a : Rule) → 1 ≤ n → n ≤ g → suc (groupDepth a) ≤ d → Fits g d e a → Fits g d e (group n a)
-fits-group g d e n a l m k f = record { proper = (l, m, f .proper); groups = k; repeats = f .repeats; nested = f .nested }
+fits-repeat : (g h at n : ℕ) (m : Most) (x : Greed) (a : Rule) → BoundsFit n m → Fits g h a → Fits g (suc h) (repeat at n m x a)
+fits-repeat g h at n m x a b f = record { proper = (b, f .proper); nests = omega (arith, f .nests); nested = omega (arith, f .nested) }
 
-fits-repeat : (g d e at n : ℕ) (m : Most) (x : Greed) (a : Rule) → BoundsFit n m → Fits g d e a → Fits g d (suc e) (repeat at n m x a)
-fits-repeat g d e at n m x a b f = record { proper = (b, f .proper); groups = f .groups; repeats = omega (arith, f .repeats); nested = omega (arith, f .nested) }
+fits-wider : (g h k : ℕ) (a : Rule) → h ≤ k → Fits g h a → Fits g k a
+fits-wider g h k a l f = record { proper = f .proper; nests = omega (arith, f .nests); nested = omega (arith, f .nested) }
 
-fits-wider : (g d e : ℕ) (a : Rule) → Fits g d e a → Fits g d (suc e) a
-fits-wider g d e a f = record { proper = f .proper; groups = f .groups; repeats = omega (arith, f .repeats); nested = omega (arith, f .nested) }
+-- a group's number is that of one of its groups
+abbrev Numbered : ℕ → Form → Type 0
+Numbered g Grouped = Unit {0}
+Numbered g (Captured n) = (1 ≤ n) × (n ≤ g)
+Numbered g Held = Unit {0}
+Numbered g Ahead = Unit {0}
+Numbered g NotAhead = Unit {0}
+
+fits-enclosed : (g h : ℕ) (form : Form) (at : ℕ) (a : Rule) → Numbered g form → Fits g h a → Fits g (suc h) (enclosed form at a)
+unfolding enclosed
+fits-enclosed g h Grouped at a n f = fits-wider g h (suc h) a (omega arith) f
+fits-enclosed g h (Captured n) at a l f = record { proper = (l .0, l .1, f .proper); nests = omega (arith, f .nests); nested = omega (arith, f .nested) }
+fits-enclosed g h Held at a n f = record { proper = f .proper; nests = omega (arith, f .nests); nested = omega (arith, f .nested) }
+fits-enclosed g h Ahead at a n f = record { proper = f .proper; nests = omega (arith, f .nests); nested = omega (arith, f .nested) }
+fits-enclosed g h NotAhead at a n f = record { proper = f .proper; nests = omega (arith, f .nests); nested = omega (arith, f .nested) }
+
+fits-possessive : (g h : ℕ) (keeps : Bool) (at : ℕ) (a : Rule) → Fits g h a → Fits g (suc h) (possessive keeps at a) × (levels (possessive keeps at a) ≤ suc (levels a))
+unfolding possessive
+fits-possessive g h true at a f = (record { proper = (tt, f .proper); nests = omega (arith, f .nests); nested = omega (arith, f .nested) }, omega arith)
+fits-possessive g h false at a f = (fits-wider g h (suc h) a (omega arith) f, omega arith)
+
+fits-break : (g at : ℕ) → Fits g 1 (lineBreak at)
+unfolding lineBreak
+fits-break g at = record { proper = (((tt, tt), tt), (tt, tt)); nests = omega arith; nested = omega arith }
 
 -- branches of an alternation
-pub record AllFit (g d e : ℕ) (bs : Branches) : Type 0 where
+pub record AllFit (g h : ℕ) (bs : Branches) : Type 0 where
   pub proper : Propers g bs
-  pub groups : groupDepths bs ≤ d
-  pub repeats : repeatDepths bs ≤ e
-  pub nested : levelsIn bs ≤ 2 * e
+  pub nests : heights bs ≤ h
+  pub nested : levelsIn bs ≤ 2 * h
 
-all-more : (bs : Branches) (g h d e : ℕ) → g ≤ h → AllFit g d e bs → AllFit h d e bs
-all-more bs g h d e l f = record { proper = propers-more bs g h l (f .proper); groups = f .groups; repeats = f .repeats; nested = f .nested }
+all-more : (bs : Branches) (g g′ h : ℕ) → g ≤ g′ → AllFit g h bs → AllFit g′ h bs
+all-more bs g g′ h l f = record { proper = propers-more bs g g′ l (f .proper); nests = f .nests; nested = f .nested }
 
-all-one : (g d e : ℕ) (a : Rule) → Fits g d e a → AllFit g d e (one a)
-all-one g d e a f = record { proper = f .proper; groups = f .groups; repeats = f .repeats; nested = f .nested }
+all-one : (g h : ℕ) (a : Rule) → Fits g h a → AllFit g h (one a)
+all-one g h a f = record { proper = f .proper; nests = f .nests; nested = f .nested }
 
-all-also : (g d e : ℕ) (bs : Branches) (b : Rule) → AllFit g d e bs → Fits g d e b → AllFit g d e (also bs b)
-all-also g d e bs b f h = record { proper = (f .proper, h .proper); groups = omega (arith, f .groups, h .groups); repeats = omega (arith, f .repeats, h .repeats); nested = omega (arith, f .nested, h .nested) }
+all-also : (g h : ℕ) (bs : Branches) (b : Rule) → AllFit g h bs → Fits g h b → AllFit g h (also bs b)
+all-also g h bs b x y = record { proper = (x .proper, y .proper); nests = omega (arith, x .nests, y .nests); nested = omega (arith, x .nested, y .nested) }
 
-alternatives-fit : (g d e : ℕ) (bs : Branches) → AllFit g d e bs → Fits g d e (alternatives bs)
+alternatives-fit : (g h : ℕ) (bs : Branches) → AllFit g h bs → Fits g h (alternatives bs)
 unfolding alternatives
-alternatives-fit g d e (one a) f = record { proper = f .proper; groups = f .groups; repeats = f .repeats; nested = f .nested }
-alternatives-fit g d e (also bs b) f = record { proper = f .proper; groups = f .groups; repeats = f .repeats; nested = f .nested }
+alternatives-fit g h (one a) f = record { proper = f .proper; nests = f .nests; nested = f .nested }
+alternatives-fit g h (also bs b) f = record { proper = f .proper; nests = f .nests; nested = f .nested }
 
--- a sequence whose groups nest d deep: its last item may still be repeated
+-- how high a part and a sequence are, in which brackets nest d deep: a part may still be repeated, and held on to
+abbrev lone : ℕ → ℕ
+lone d = 3 * d + 1
+
+abbrev high : ℕ → ℕ
+high d = 3 * suc d
+
 abbrev FitsIn : ℕ → ℕ → Sequence → Type 0
-FitsIn g d (unrepeatable t) = Fits g d (suc d) t
-FitsIn g d (repeatable b l) = Fits g d (suc d) b × Fits g d d l
-FitsIn g d (repeated t) = Fits g d (suc d) t
+FitsIn g d (unrepeatable t) = Fits g (high d) t
+FitsIn g d (repeatable b l) = Fits g (high d) b × Fits g (lone d) l
+FitsIn g d (repeated t) = Fits g (high d) t
 
-whole-fits : (g d : ℕ) (q : Sequence) → FitsIn g d q → Fits g d (suc d) (whole q)
+whole-fits : (g d : ℕ) (q : Sequence) → FitsIn g d q → Fits g (high d) (whole q)
 unfolding whole
 whole-fits g d (unrepeatable t) f = f
-whole-fits g d (repeatable b l) f = fits-seq g d (suc d) b l (f .0) (fits-wider g d d l (f .1)) (omega (arith, f .1 .nested))
+whole-fits g d (repeatable b l) f = fits-seq g (high d) b l (f .0) (fits-wider g (lone d) (high d) l (omega arith) (f .1)) (omega (arith, f .1 .nested))
 whole-fits g d (repeated t) f = f
 
 -- What readings give ---------------------------------------------------------
@@ -107,57 +137,70 @@ whole-fits g d (repeated t) f = f
 abbrev Grown : ℕ → ℕ → Type 0
 Grown old new = (old ≤ new) × (new ≤ groupLimit)
 
-abbrev Good : ℕ → ℕ → ℕ → (Rule × Names) → ℕ → Type 0
-Good old d e r p = Grown old (length (r .1)) × Fits (length (r .1)) d e (r .0)
+abbrev Good : ℕ → ℕ → (Rule × Names) → ℕ → Type 0
+Good old h r p = Grown old (length (r .1)) × Fits (length (r .1)) h (r .0)
 
 abbrev GoodIn : ℕ → ℕ → (Sequence × Names) → ℕ → Type 0
 GoodIn old d r p = Grown old (length (r .1)) × FitsIn (length (r .1)) d (r .0)
-
--- the inside of a group whose own nesting counts
-abbrev GoodInside : ℕ → ℕ → (Rule × Names) → ℕ → Type 0
-GoodInside old d r p = Grown old (length (r .1)) × Fits (length (r .1)) d d (r .0) × (suc (groupDepth (r .0)) ≤ d)
 
 -- the head of a group leaves so many groups opened
 abbrev Heads : ℕ → Names → ℕ → Type 0
 Heads opened names at = length names ≡ opened
 
+-- the inside of a group where brackets nest d deep, this one counted
 unfoldable InnerFits : ℕ → Inner → Type 0
-InnerFits d inner = (opening opened : ℕ) (head : Read Names) → opened ≤ groupLimit → Given head (Heads opened) → Given (inner opening head) (GoodInside opened d)
+InnerFits d inner = (opening opened : ℕ) (head : Read Names) → opened ≤ groupLimit → Given head (Heads opened) → Given (inner opening head) (Good opened (3 * d))
 
-closing-fits : (s : List ℕ) (opening : ℕ) (t : Rule) (old : ℕ) (new : Names) (at d e : ℕ) → Grown old (length new) → Fits (length new) d e t → Given (closing s opening t new at) (Good old d e)
+closing-fits : (s : List ℕ) (opening : ℕ) (t : Rule) (old : ℕ) (new : Names) (at h : ℕ) → Grown old (length new) → Fits (length new) h t → Given (closing s opening t new at) (Good old h)
 unfolding closing
-closing-fits s opening t old new at d e g f = if-given _ _ _ (is ")" (byte s at)) (g, f) tt
+closing-fits s opening t old new at h g f = if-given _ _ _ (is ")" (byte s at)) (g, f) tt
 
-capturing-fits : (s : List ℕ) (inner : Inner) (at : ℕ) (opened : Names) (name : Read Name) (d : ℕ) → InnerFits d inner → Given (capturing s inner at opened name) (Good (length opened) d d)
+-- the end of a group, whose height is one more than its inside's
+enclosed-fits : (s : List ℕ) (form : Form) (opening : ℕ) (t : Rule) (old : ℕ) (new : Names) (at d : ℕ) → Numbered (length new) form → Grown old (length new) → Fits (length new) (3 * d) t
+    → Given (closing s opening (enclosed form opening t) new at) (Good old (lone d))
+enclosed-fits s form opening t old new at d n g f = closing-fits s opening (enclosed form opening t) old new at (lone d) g (fits-wider (length new) (suc (3 * d)) (lone d) (enclosed form opening t) (omega arith) (fits-enclosed (length new) (3 * d) form opening t n f))
+
+capturing-fits : (s : List ℕ) (inner : Inner) (at : ℕ) (opened : Names) (name : Read Name) (d : ℕ) → InnerFits d inner → Given (capturing s inner at opened name) (Good (length opened) (lone d))
 unfolding capturing InnerFits
 capturing-fits s inner at opened name d h =
     let n = suc (length opened) in
     test-given _ _ _ (ltb (length opened) groupLimit) (λ e. let k : length opened < groupLimit = ltb-true (length opened) groupLimit e in
-    then-given (GoodInside n d) (Good (length opened) d d) (inner at (andThen name (λ x p. sound (x ∷ opened) p))) _
+    then-given (Good n (3 * d)) (Good (length opened) (lone d)) (inner at (andThen name (λ x p. sound (x ∷ opened) p))) _
     (h at n _ (omega arith) (then-given (λ x p. Unit) (Heads n) name _ (any-given name) (λ x p u. refl))) (λ r p f.
-    closing-fits s at (group n (r .0)) (length opened) (r .1) p d d (omega (arith, f .0 .0), f .0 .1) (fits-group (length (r .1)) d d n (r .0) (omega arith) (f .0 .0) (f .2) (f .1))))
+    enclosed-fits s (Captured n) at (r .0) (length opened) (r .1) p d (omega arith, f .0 .0) (omega (arith, f .0 .0), f .0 .1) (f .1)))
     (λ e. tt)
 
-grouped-fits : (s : List ℕ) (inner : Inner) (at : ℕ) (opened : Names) (d : ℕ) → InnerFits d inner → length opened ≤ groupLimit → Given (grouped s inner at opened) (Good (length opened) d d)
-unfolding grouped InnerFits
+uncaptured-fits : (s : List ℕ) (inner : Inner) (at : ℕ) (opened : Names) (form : Form) (d : ℕ) → ((g : ℕ) → Numbered g form) → InnerFits d inner → length opened ≤ groupLimit → Given (uncaptured s inner at opened form) (Good (length opened) (lone d))
+unfolding uncaptured InnerFits
+uncaptured-fits s inner at opened form d n h l =
+    then-given (Good (length opened) (3 * d)) (Good (length opened) (lone d)) (inner at (sound opened (at + 3))) _ (h at (length opened) (sound opened (at + 3)) l refl) (λ r p f.
+    enclosed-fits s form at (r .0) (length opened) (r .1) p d (n (length (r .1))) (f .0) (f .1))
+
+grouped-fits : (s : List ℕ) (inner : Inner) (at : ℕ) (opened : Names) (d : ℕ) → InnerFits d inner → length opened ≤ groupLimit → Given (grouped s inner at opened) (Good (length opened) (lone d))
+unfolding grouped
 grouped-fits s inner at opened d h l =
-    if-given _ _ _ (not (is "?" (byte s (at + 1)))) (capturing-fits s inner at opened _ d (unfold InnerFits in h))
-    (if-given _ _ _ (is ":" (byte s (at + 2)))
-    (then-given (GoodInside (length opened) d) (Good (length opened) d d) (inner at (sound opened (at + 3))) _ (h at (length opened) (sound opened (at + 3)) l refl) (λ r p f. closing-fits s at (r .0) (length opened) (r .1) p d d (f .0) (f .1)))
-    (if-given _ _ _ (is "<" (byte s (at + 2))) (capturing-fits s inner at opened _ d (unfold InnerFits in h)) tt))
+    let b = byte s (at + 2) in
+    if-given _ _ _ (not (is "?" (byte s (at + 1)))) (capturing-fits s inner at opened _ d h)
+    (if-given _ _ _ (is ":" b) (uncaptured-fits s inner at opened Grouped d (λ g. tt) h l)
+    (if-given _ _ _ (is ">" b) (uncaptured-fits s inner at opened Held d (λ g. tt) h l)
+    (if-given _ _ _ (is "=" b) (uncaptured-fits s inner at opened Ahead d (λ g. tt) h l)
+    (if-given _ _ _ (is "!" b) (uncaptured-fits s inner at opened NotAhead d (λ g. tt) h l)
+    (if-given _ _ _ (is "<" b) (capturing-fits s inner at opened _ d h) tt)))))
 
 withItem-fits : (g d : ℕ) (q : Sequence) (at : ℕ) (i : Item) → FitsIn g d q → FitsIn g d (withItem q at i)
 unfolding withItem
-withItem-fits g d q at (byteIn folded c) f = (whole-fits g d q f, fits-item g d d at (byteIn folded c))
-withItem-fits g d q at (assert a) f = fits-seq g d (suc d) (whole q) (item at (assert a)) (whole-fits g d q f) (fits-item g d (suc d) at (assert a)) (omega arith)
-withItem-fits g d q at (reference folded n) f = (whole-fits g d q f, fits-item g d d at (reference folded n))
+withItem-fits g d q at (byteIn folded c) f = (whole-fits g d q f, fits-item g (lone d) at (byteIn folded c))
+withItem-fits g d q at (assert a) f = fits-seq g (high d) (whole q) (item at (assert a)) (whole-fits g d q f) (fits-item g (high d) at (assert a)) (omega arith)
+withItem-fits g d q at (reference folded n) f = (whole-fits g d q f, fits-item g (lone d) at (reference folded n))
 
 nextItem-fits : (s : List ℕ) (flags : ℕ) (known : Names) (inner : Inner) (q : Sequence) (opened : Names) (at d : ℕ) → InnerFits d inner → length opened ≤ groupLimit → FitsIn (length opened) d q → Given (nextItem s flags known inner q opened at) (GoodIn (length opened) d)
 unfolding nextItem
 nextItem-fits s flags known inner q opened at d h l f = if-given _ _ _ (is "(" (byte s at))
-    (then-given (Good (length opened) d d) (GoodIn (length opened) d) (grouped s inner at opened) _ (grouped-fits s inner at opened d h l) (λ r p k.
-    (k .0, (fits-more (whole q) (length opened) (length (r .1)) d (suc d) (k .0 .0) (whole-fits (length opened) d q f), k .1))))
-    (then-given (λ i p. Unit) (GoodIn (length opened) d) (atom s flags known (length opened) at) _ (any-given (atom s flags known (length opened) at)) (λ i p k. ((omega arith, l), withItem-fits (length opened) d q at i f)))
+    (then-given (Good (length opened) (lone d)) (GoodIn (length opened) d) (grouped s inner at opened) _ (grouped-fits s inner at opened d h l) (λ r p k.
+    (k .0, (fits-more (whole q) (length opened) (length (r .1)) (high d) (k .0 .0) (whole-fits (length opened) d q f), k .1))))
+    (if-given _ _ _ (breaksLine s at)
+    ((omega arith, l), (whole-fits (length opened) d q f, fits-wider (length opened) 1 (lone d) (lineBreak at) (omega arith) (fits-break (length opened) at)))
+    (then-given (λ i p. Unit) (GoodIn (length opened) d) (atom s flags known (length opened) at) _ (any-given (atom s flags known (length opened) at)) (λ i p k. ((omega arith, l), withItem-fits (length opened) d q at i f))))
 
 unfitFor-fits : (q : Sequence) (at opened d : ℕ) → Given (unfitFor q at) (GoodIn opened d)
 unfolding unfitFor
@@ -165,12 +208,15 @@ unfitFor-fits (unrepeatable t) at opened d = tt
 unfitFor-fits (repeatable b l) at opened d = tt
 unfitFor-fits (repeated t) at opened d = tt
 
-repeating-fits : (q : Sequence) (at n : ℕ) (m : Most) (x : Greed) (opened : Names) (next d : ℕ) → length opened ≤ groupLimit → BoundsFit n m → FitsIn (length opened) d q → Given (repeating q at n m x opened next) (GoodIn (length opened) d)
+repeating-fits : (q : Sequence) (at n : ℕ) (m : Most) (x : Greed) (keeps : Bool) (opened : Names) (next d : ℕ) → length opened ≤ groupLimit → BoundsFit n m → FitsIn (length opened) d q → Given (repeating q at n m x keeps opened next) (GoodIn (length opened) d)
 unfolding repeating
-repeating-fits (unrepeatable t) at n m x opened next d l b f = tt
-repeating-fits (repeatable before last) at n m x opened next d l b f =
-    ((omega arith, l), fits-seq (length opened) d (suc d) before (repeat at n m x last) (f .0) (fits-repeat (length opened) d d at n m x last b (f .1)) (omega (arith, f .1 .nested)))
-repeating-fits (repeated t) at n m x opened next d l b f = tt
+repeating-fits (unrepeatable t) at n m x keeps opened next d l b f = tt
+repeating-fits (repeatable before last) at n m x keeps opened next d l b f =
+    let g = length opened in
+    let r = repeat at n m x last in
+    let k = fits-possessive g (suc (lone d)) keeps (next - 1) r (fits-repeat g (lone d) at n m x last b (f .1)) in
+    ((omega arith, l), fits-seq g (high d) before (possessive keeps (next - 1) r) (f .0) (fits-wider g (suc (suc (lone d))) (high d) (possessive keeps (next - 1) r) (omega arith) (k .0)) (omega (arith, k .1, f .1 .nested)))
+repeating-fits (repeated t) at n m x keeps opened next d l b f = tt
 
 part-fits : (s : List ℕ) (flags : ℕ) (known : Names) (inner : Inner) (q : Sequence) (opened : Names) (at d : ℕ) (x : Quantifier) → InnerFits d inner → length opened ≤ groupLimit → FitsIn (length opened) d q → Holding x (Bounded (at + 1))
     → Given (part s flags known inner q opened at x) (GoodIn (length opened) d)
@@ -178,41 +224,41 @@ unfolding part
 part-fits s flags known inner q opened at d Absent h l f b = nextItem-fits s flags known inner q opened at d h l f
 part-fits s flags known inner q opened at d Stray h l f b = tt
 part-fits s flags known inner q opened at d Unfit h l f b = unfitFor-fits q at (length opened) d
-part-fits s flags known inner q opened at d (Times n m x next) h l f b = repeating-fits q at n m x opened next d l (b .0) f
+part-fits s flags known inner q opened at d (Times n m x keeps next) h l f b = repeating-fits q at n m x keeps opened next d l (b .0) f
 
-sequence-fits : (k : ℕ) (s : List ℕ) (flags : ℕ) (known : Names) (inner : Inner) (q : Sequence) (old : ℕ) (opened : Names) (at d : ℕ) → InnerFits d inner → Grown old (length opened) → FitsIn (length opened) d q → Given (sequence k s flags known inner q opened at) (Good old d (suc d))
+sequence-fits : (k : ℕ) (s : List ℕ) (flags : ℕ) (known : Names) (inner : Inner) (q : Sequence) (old : ℕ) (opened : Names) (at d : ℕ) → InnerFits d inner → Grown old (length opened) → FitsIn (length opened) d q → Given (sequence k s flags known inner q opened at) (Good old (high d))
 unfolding sequence
 sequence-fits zero s flags known inner q old opened at d h l f = (l, whole-fits (length opened) d q f)
 sequence-fits (suc k) s flags known inner q old opened start d h l f =
     let at = behindBlanks s flags start in
     if-given _ _ _ (ends (byte s at)) (l, whole-fits (length opened) d q f)
-    (then-given (GoodIn (length opened) d) (Good old d (suc d)) (part s flags known inner q opened at (quantifier s at)) _ (part-fits s flags known inner q opened at d (quantifier s at) h (l .1) f (quantifier-on s at))
+    (then-given (GoodIn (length opened) d) (Good old (high d)) (part s flags known inner q opened at (quantifier s at)) _ (part-fits s flags known inner q opened at d (quantifier s at) h (l .1) f (quantifier-on s at))
     (λ r p g. sequence-fits k s flags known inner (r .0) old (r .1) p d h (omega (arith, l .0, g .0 .0), g .0 .1) (g .1)))
 
-branch-fits : (s : List ℕ) (flags : ℕ) (known : Names) (inner : Inner) (old : ℕ) (opened : Names) (at d : ℕ) → InnerFits d inner → Grown old (length opened) → Given (branch s flags known inner opened at) (Good old d (suc d))
+branch-fits : (s : List ℕ) (flags : ℕ) (known : Names) (inner : Inner) (old : ℕ) (opened : Names) (at d : ℕ) → InnerFits d inner → Grown old (length opened) → Given (branch s flags known inner opened at) (Good old (high d))
 unfolding branch
-branch-fits s flags known inner old opened at d h l = sequence-fits (length s) s flags known inner (unrepeatable empty) old opened at d h l (fits-empty (length opened) d (suc d))
+branch-fits s flags known inner old opened at d h l = sequence-fits (length s) s flags known inner (unrepeatable empty) old opened at d h l (fits-empty (length opened) (high d))
 
-further-fits : (k : ℕ) (s : List ℕ) (flags : ℕ) (known : Names) (inner : Inner) (bs : Branches) (old : ℕ) (opened : Names) (at d : ℕ) → InnerFits d inner → Grown old (length opened) → AllFit (length opened) d (suc d) bs → Given (further k s flags known inner bs opened at) (Good old d (suc d))
+further-fits : (k : ℕ) (s : List ℕ) (flags : ℕ) (known : Names) (inner : Inner) (bs : Branches) (old : ℕ) (opened : Names) (at d : ℕ) → InnerFits d inner → Grown old (length opened) → AllFit (length opened) (high d) bs → Given (further k s flags known inner bs opened at) (Good old (high d))
 unfolding further
-further-fits zero s flags known inner bs old opened at d h l f = (l, alternatives-fit (length opened) d (suc d) bs f)
+further-fits zero s flags known inner bs old opened at d h l f = (l, alternatives-fit (length opened) (high d) bs f)
 further-fits (suc k) s flags known inner bs old opened at d h l f = if-given _ _ _ (is "|" (byte s at))
-    (then-given (Good (length opened) d (suc d)) (Good old d (suc d)) (branch s flags known inner opened (at + 1)) _ (branch-fits s flags known inner (length opened) opened (at + 1) d h (omega arith, l .1)) (λ r p g.
-    further-fits k s flags known inner (also bs (r .0)) old (r .1) p d h (omega (arith, l .0, g .0 .0), g .0 .1) (all-also (length (r .1)) d (suc d) bs (r .0) (all-more bs (length opened) (length (r .1)) d (suc d) (g .0 .0) f) (g .1))))
-    (l, alternatives-fit (length opened) d (suc d) bs f)
+    (then-given (Good (length opened) (high d)) (Good old (high d)) (branch s flags known inner opened (at + 1)) _ (branch-fits s flags known inner (length opened) opened (at + 1) d h (omega arith, l .1)) (λ r p g.
+    further-fits k s flags known inner (also bs (r .0)) old (r .1) p d h (omega (arith, l .0, g .0 .0), g .0 .1) (all-also (length (r .1)) (high d) bs (r .0) (all-more bs (length opened) (length (r .1)) (high d) (g .0 .0) f) (g .1))))
+    (l, alternatives-fit (length opened) (high d) bs f)
 
-alternation-fits : (s : List ℕ) (flags : ℕ) (known : Names) (inner : Inner) (opened : Names) (at d : ℕ) → InnerFits d inner → length opened ≤ groupLimit → Given (alternation s flags known inner opened at) (Good (length opened) d (suc d))
+alternation-fits : (s : List ℕ) (flags : ℕ) (known : Names) (inner : Inner) (opened : Names) (at d : ℕ) → InnerFits d inner → length opened ≤ groupLimit → Given (alternation s flags known inner opened at) (Good (length opened) (high d))
 unfolding alternation
-alternation-fits s flags known inner opened at d h l = then-given (Good (length opened) d (suc d)) (Good (length opened) d (suc d)) (branch s flags known inner opened at) _ (branch-fits s flags known inner (length opened) opened at d h (omega arith, l)) (λ r p g.
-    further-fits (length s) s flags known inner (one (r .0)) (length opened) (r .1) p d h (g .0) (all-one (length (r .1)) d (suc d) (r .0) (g .1)))
+alternation-fits s flags known inner opened at d h l = then-given (Good (length opened) (high d)) (Good (length opened) (high d)) (branch s flags known inner opened at) _ (branch-fits s flags known inner (length opened) opened at d h (omega arith, l)) (λ r p g.
+    further-fits (length s) s flags known inner (one (r .0)) (length opened) (r .1) p d h (g .0) (all-one (length (r .1)) (high d) (r .0) (g .1)))
 
 inside-fits : (d : ℕ) (s : List ℕ) (flags : ℕ) (known : Names) → InnerFits d (inside d s flags known)
 unfolding inside InnerFits
 inside-fits zero s flags known opening opened head l g = tt
-inside-fits (suc d) s flags known opening opened head l g = then-given (Heads opened) (GoodInside opened (suc d)) head _ g (λ names at e.
-    given-less (Good (length names) d (suc d)) (GoodInside opened (suc d)) (alternation s flags known (inside d s flags known) names at)
+inside-fits (suc d) s flags known opening opened head l g = then-given (Heads opened) (Good opened (3 * suc d)) head _ g (λ names at e.
+    given-less (Good (length names) (high d)) (Good opened (3 * suc d)) (alternation s flags known (inside d s flags known) names at)
     (alternation-fits s flags known (inside d s flags known) names at d (inside-fits d s flags known) (omega (arith, e)))
-    (λ r p f. ((omega (arith, e, f .0 .0), f .0 .1), record { proper = f .1 .proper; groups = omega (arith, f .1 .groups); repeats = f .1 .repeats; nested = f .1 .nested }, omega (arith, f .1 .groups))))
+    (λ r p f. ((omega (arith, e, f .0 .0), f .0 .1), f .1)))
 
 -- References -----------------------------------------------------------------
 
@@ -258,6 +304,8 @@ mutual
   resolves groups (alt bs b) e = let n = first-none (unresolvedIn groups bs) (unresolved groups b) e in (resolvesIn groups bs (n .0), resolves groups b (n .1))
   resolves groups (group n a) e = resolves groups a e
   resolves groups (repeat at n m g a) e = resolves groups a e
+  resolves groups (held at a) e = resolves groups a e
+  resolves groups (look at negative a) e = resolves groups a e
 
   resolvesIn : (groups : ℕ) (bs : Branches) → unresolvedIn groups bs ≡ none → ResolvedIn groups bs
   resolvesIn groups (one a) e = resolves groups a e
@@ -265,15 +313,15 @@ mutual
 
 -- The whole rule -------------------------------------------------------------
 
-parsed-fits : (s : List ℕ) (flags : ℕ) (known : Names) → Given (parsed s flags known) (Good 0 nestingLimit (suc nestingLimit))
-unfolding parsed
-parsed-fits s flags known = then-given (Good 0 nestingLimit (suc nestingLimit)) (Good 0 nestingLimit (suc nestingLimit)) (alternation s flags known (inside nestingLimit s flags known) [] 0) _
+parsed-fits : (s : List ℕ) (flags : ℕ) (known : Names) → Given (parsed s flags known) (Good 0 heightLimit)
+unfolding parsed heightLimit
+parsed-fits s flags known = then-given (Good 0 (high nestingLimit)) (Good 0 (high nestingLimit)) (alternation s flags known (inside nestingLimit s flags known) [] 0) _
     (alternation-fits s flags known (inside nestingLimit s flags known) [] 0 nestingLimit (inside-fits nestingLimit s flags known) (omega arith)) (λ r p g. if-given _ _ _ (isEnd (byte s p)) g tt)
 
 -- the same of a rule whose references are not resolved yet
-pub parsed-formed : (s : List ℕ) (flags : ℕ) (known : Names) → Given (parsed s flags known) (λ r at. (length (r .1) ≤ groupLimit) × Proper (length (r .1)) (r .0) × (groupDepth (r .0) ≤ nestingLimit) × (repeatDepth (r .0) ≤ suc nestingLimit) × (levels (r .0) ≤ levelLimit))
+pub parsed-formed : (s : List ℕ) (flags : ℕ) (known : Names) → Given (parsed s flags known) (λ r at. (length (r .1) ≤ groupLimit) × Proper (length (r .1)) (r .0) × (height (r .0) ≤ heightLimit) × (levels (r .0) ≤ levelLimit))
 unfolding levelLimit
-parsed-formed s flags known = given-less (Good 0 nestingLimit (suc nestingLimit)) _ (parsed s flags known) (parsed-fits s flags known) (λ r p g. (g .0 .1, g .1 .proper, g .1 .groups, g .1 .repeats, g .1 .nested))
+parsed-formed s flags known = given-less (Good 0 heightLimit) _ (parsed s flags known) (parsed-fits s flags known) (λ r p g. (g .0 .1, g .1 .proper, g .1 .nests, g .1 .nested))
 
 -- what a tree has that the depot profile lets pass
 pub record Narrow (t : Rule) : Type 0 where
@@ -300,5 +348,5 @@ settled-given P flags t groups at h = unless-given P (unresolved groups t) NoSuc
 
 pub well-formed : (s : List ℕ) (flags : ℕ) → Given (reading s flags) (λ r at. WellFormed (r .1) (r .0))
 unfolding reading
-well-formed s flags = then-given (Good 0 nestingLimit (suc nestingLimit)) _ (parsed s flags (namesOf s flags)) _ (parsed-fits s flags (namesOf s flags)) (λ r at g.
-    settled-given _ flags (r .0) (length (r .1)) at (λ e n. record { few = g .0 .1; proper = g .1 .proper; resolved = resolves (length (r .1)) (r .0) e; groupsNest = g .1 .groups; repeatsNest = g .1 .repeats }))
+well-formed s flags = then-given (Good 0 heightLimit) _ (parsed s flags (namesOf s flags)) _ (parsed-fits s flags (namesOf s flags)) (λ r at g.
+    settled-given _ flags (r .0) (length (r .1)) at (λ e n. record { few = g .0 .1; proper = g .1 .proper; resolved = resolves (length (r .1)) (r .0) e; nests = g .1 .nests }))

@@ -4,11 +4,13 @@ use mathlib.Core.List.{List, [], _∷_}
 use mathlib.Core.Bool.{Bool, true, false, not, _&&_, _||_}
 use mathlib.Core.Option.{Option, none, some}
 use Prim.Native.Char.{Char}
-use Prim.Native.Nat.{ℕ, zero, suc, _+_, _-_, _≤_}
+use Prim.Native.Nat.{ℕ, zero, suc, _+_, _-_, _≤_, _<_}
 use native.Mathlib.Omega.{arith}
 use lib.ListN.{length, take}
 use lib.Dec.{ltb, leb, eqb}
 use borrow.Author.Tests.{leb-true}
+use Rattle.syntax.specs.declared.Form.{Form}
+use Rattle.syntax.specs.declared.Form.the-variants.{Grouped, Captured, Held, Ahead, NotAhead}
 use Rattle.syntax.specs.declared.Greed.{Greed}
 use Rattle.syntax.specs.declared.Most.{Most}
 use Rattle.syntax.specs.declared.Most.the-variants.{AtMost, Unlimited}
@@ -20,14 +22,14 @@ use Rattle.charset.specs.declared.Named.{Named}
 use Rattle.charset.specs.declared.Named.the-variants.{Word}
 use Rattle.charset.specs.Named.{inNamed}
 use Rattle.syntax.specs.Sets.{setNamed, Member}
-use Rattle.syntax.specs.Tree.{Rule, empty, Branches, group, one, also}
+use Rattle.syntax.specs.Tree.{Rule, empty, Branches, one, also, enclosed}
 use Rattle.syntax.specs.Numbers.{digits, value, isNone}
 use Rattle.syntax.specs.Names.{Name, Names, wordAt, isName, nameUpTo, isUsed, fresh}
 use Rattle.syntax.specs.Flags.{ignoreCase, depot}
 use Rattle.syntax.specs.Escapes.{called, callsByName, Meaning, _means_, meanings, byteOf, braced, hex, bracedOctal, octal, control, letter, common, classEscape, decimal, signed, groupNumber, escape}
 use Rattle.syntax.specs.Classes.{letters, posixMember, posixName, posix, element, rangeEnd, alike, rangeOf, makesRange, member, members, class}
 use Rattle.syntax.specs.Quantifiers.{withGreed, atLeast, fromTo, upper, braces, quantifier}
-use Rattle.syntax.specs.Grammar.{behindBlanks, atom, Inner, closing, capturing, grouped, Sequence, unrepeatable, repeatable, repeated, unfitFor, repeating, nextItem, part, ends, sequence, branch, further, alternation, inside}
+use Rattle.syntax.specs.Grammar.{behindBlanks, atom, Inner, closing, capturing, uncaptured, grouped, Sequence, unrepeatable, repeatable, repeated, unfitFor, repeating, breaksLine, nextItem, part, ends, sequence, branch, further, alternation, inside}
 use Rattle.syntax.specs.WellFormed.{BoundsFit}
 use Rattle.syntax.specs.Laws.Blanks.{blanks-on}
 
@@ -218,24 +220,28 @@ class-on s strict from = if-given _ _ _ (is "^" (byte s (from + 1)))
 
 -- Repeats --------------------------------------------------------------------
 
--- P holds of a repeat's bounds and of the position behind it
-abbrev pub Holding : Quantifier → (ℕ → Most → ℕ → Type 0) → Type 0
+-- P holds of a repeat's bounds, of whether it is possessive, and of the position behind it
+abbrev pub Holding : Quantifier → (ℕ → Most → Bool → ℕ → Type 0) → Type 0
 Holding Absent P = Unit
 Holding Stray P = Unit
 Holding Unfit P = Unit
-Holding (Times n m g next) P = P n m next
+Holding (Times n m g keeps next) P = P n m keeps next
 
-pub if-holding : (P : ℕ → Most → ℕ → Type 0) (x y : Quantifier) (b : Bool) → (b ≡ true → Holding x P) → (b ≡ false → Holding y P) → Holding (if b then x else y) P
+pub if-holding : (P : ℕ → Most → Bool → ℕ → Type 0) (x y : Quantifier) (b : Bool) → (b ≡ true → Holding x P) → (b ≡ false → Holding y P) → Holding (if b then x else y) P
 if-holding P x y true g h = g refl
 if-holding P x y false g h = h refl
 
--- a repeat's bounds fit, and it ends at a position or behind it
-abbrev pub Bounded : ℕ → ℕ → Most → ℕ → Type 0
-Bounded p n m next = BoundsFit n m × (p ≤ next)
+-- a repeat's bounds fit, and it ends at a position or behind it, a possessive one behind it
+abbrev pub Bounded : ℕ → ℕ → Most → Bool → ℕ → Type 0
+Bounded p n m keeps next = BoundsFit n m × (p ≤ next) × (keeps ≡ true → p < next)
+
+clash : false ≡ true → ⊥
+clash e = let bad : _≡_ {A = ℕ} 0 1 = cc in omega arith
 
 withGreed-on : (s : List ℕ) (n : ℕ) (m : Most) (at p : ℕ) → BoundsFit n m → p ≤ at → Holding (withGreed s n m at) (Bounded p)
 unfolding withGreed
-withGreed-on s n m at p h l = if-holding _ _ _ (is "?" (byte s at)) (λ e. (h, omega arith)) (λ e. (h, l))
+withGreed-on s n m at p h l = if-holding _ _ _ (is "?" (byte s at)) (λ e. (h, omega arith, λ k. omega arith)) (λ e.
+    if-holding _ _ _ (is "+" (byte s at)) (λ e. (h, omega arith, λ k. omega arith)) (λ e. (h, l, λ k. absurd (clash k))))
 
 atLeast-on : (s : List ℕ) (n at p : ℕ) → p ≤ at → Holding (atLeast s n at) (Bounded p)
 unfolding atLeast
@@ -298,22 +304,31 @@ capturing-on : (s : List ℕ) (inner : Inner) (at : ℕ) (opened : Names) (name 
 unfolding capturing Forward
 capturing-on s inner at opened name h g = if-given _ _ _ (ltb (length opened) groupLimit)
     (then-given (Past (at + 1)) (Past (at + 1)) (inner at (andThen name (λ n p. sound (n ∷ opened) p))) _ (h at (at + 1) _ (then-given (Past (at + 1)) (Past (at + 1)) name _ g (λ n p l. l)))
-    (λ r p l. closing-on s at (group (suc (length opened)) (r .0)) (r .1) p (at + 1) l))
+    (λ r p l. closing-on s at (enclosed (Captured (suc (length opened))) at (r .0)) (r .1) p (at + 1) l))
     tt
 
+uncaptured-on : (s : List ℕ) (inner : Inner) (at : ℕ) (opened : Names) (form : Form) → Forward inner → Given (uncaptured s inner at opened form) (Past (at + 1))
+unfolding uncaptured Forward
+uncaptured-on s inner at opened form h =
+    then-given (Past (at + 3)) (Past (at + 1)) (inner at (sound opened (at + 3))) _ (h at (at + 3) (sound opened (at + 3)) (omega arith)) (λ r p l. closing-on s at (enclosed form at (r .0)) (r .1) p (at + 1) (omega arith))
+
 grouped-on : (s : List ℕ) (inner : Inner) (at : ℕ) (opened : Names) → Forward inner → Given (grouped s inner at opened) (Past (at + 1))
-unfolding grouped Forward
+unfolding grouped
 grouped-on s inner at opened h =
-    if-given _ _ _ (not (is "?" (byte s (at + 1)))) (capturing-on s inner at opened _ (unfold Forward in h) (omega arith))
-    (if-given _ _ _ (is ":" (byte s (at + 2)))
-    (then-given (Past (at + 3)) (Past (at + 1)) (inner at (sound opened (at + 3))) _ (h at (at + 3) (sound opened (at + 3)) (omega arith)) (λ r p l. closing-on s at (r .0) (r .1) p (at + 1) (omega arith)))
-    (if-given _ _ _ (is "<" (byte s (at + 2))) (capturing-on s inner at opened _ (unfold Forward in h) (fresh-on at opened _ (at + 1) (nameUpTo-on ">" s at (at + 3) (at + 1) (omega arith)))) tt))
+    let b = byte s (at + 2) in
+    if-given _ _ _ (not (is "?" (byte s (at + 1)))) (capturing-on s inner at opened _ h (omega arith))
+    (if-given _ _ _ (is ":" b) (uncaptured-on s inner at opened Grouped h)
+    (if-given _ _ _ (is ">" b) (uncaptured-on s inner at opened Held h)
+    (if-given _ _ _ (is "=" b) (uncaptured-on s inner at opened Ahead h)
+    (if-given _ _ _ (is "!" b) (uncaptured-on s inner at opened NotAhead h)
+    (if-given _ _ _ (is "<" b) (capturing-on s inner at opened _ h (fresh-on at opened _ (at + 1) (nameUpTo-on ">" s at (at + 3) (at + 1) (omega arith)))) tt)))))
 
 nextItem-on : (s : List ℕ) (flags : ℕ) (known : Names) (inner : Inner) (q : Sequence) (opened : Names) (at : ℕ) → Forward inner → Given (nextItem s flags known inner q opened at) (Past (at + 1))
 unfolding nextItem
 nextItem-on s flags known inner q opened at h = if-given _ _ _ (is "(" (byte s at))
     (then-given (Past (at + 1)) (Past (at + 1)) (grouped s inner at opened) _ (grouped-on s inner at opened h) (λ r p l. l))
-    (then-given (Past (at + 1)) (Past (at + 1)) (atom s flags known (length opened) at) _ (atom-on s flags known (length opened) at) (λ i p l. l))
+    (if-given _ _ _ (breaksLine s at) (omega arith)
+    (then-given (Past (at + 1)) (Past (at + 1)) (atom s flags known (length opened) at) _ (atom-on s flags known (length opened) at) (λ i p l. l)))
 
 unfitFor-on : (q : Sequence) (at n : ℕ) → Given (unfitFor q at) (Past n)
 unfolding unfitFor
@@ -321,18 +336,18 @@ unfitFor-on (unrepeatable t) at n = tt
 unfitFor-on (repeatable b l) at n = tt
 unfitFor-on (repeated t) at n = tt
 
-repeating-on : (q : Sequence) (at n : ℕ) (m : Most) (g : Greed) (opened : Names) (next p : ℕ) → p ≤ next → Given (repeating q at n m g opened next) (Past p)
+repeating-on : (q : Sequence) (at n : ℕ) (m : Most) (g : Greed) (keeps : Bool) (opened : Names) (next p : ℕ) → p ≤ next → Given (repeating q at n m g keeps opened next) (Past p)
 unfolding repeating
-repeating-on (unrepeatable t) at n m g opened next p h = tt
-repeating-on (repeatable b l) at n m g opened next p h = h
-repeating-on (repeated t) at n m g opened next p h = tt
+repeating-on (unrepeatable t) at n m g keeps opened next p h = tt
+repeating-on (repeatable b l) at n m g keeps opened next p h = h
+repeating-on (repeated t) at n m g keeps opened next p h = tt
 
 part-by : (s : List ℕ) (flags : ℕ) (known : Names) (inner : Inner) (q : Sequence) (opened : Names) (at : ℕ) (x : Quantifier) → Forward inner → Holding x (Bounded (at + 1)) → Given (part s flags known inner q opened at x) (Past (at + 1))
 unfolding part
 part-by s flags known inner q opened at Absent h k = nextItem-on s flags known inner q opened at h
 part-by s flags known inner q opened at Stray h k = tt
 part-by s flags known inner q opened at Unfit h k = unfitFor-on q at (at + 1)
-part-by s flags known inner q opened at (Times n m g next) h k = repeating-on q at n m g opened next (at + 1) (k .1)
+part-by s flags known inner q opened at (Times n m g keeps next) h k = repeating-on q at n m g keeps opened next (at + 1) (k .1)
 
 pub part-on : (s : List ℕ) (flags : ℕ) (known : Names) (inner : Inner) (q : Sequence) (opened : Names) (at : ℕ) → Forward inner → Given (part s flags known inner q opened at (quantifier s at)) (Past (at + 1))
 part-on s flags known inner q opened at h = part-by s flags known inner q opened at (quantifier s at) h (quantifier-on s at)

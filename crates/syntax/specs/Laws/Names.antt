@@ -2,27 +2,29 @@
 -- else only hand on the names that they were given. So names have at most `nameLimit` bytes, and none is used twice.
 use mathlib.Core.Path.{_≡_}
 use mathlib.Core.List.{List, [], _∷_}
-use mathlib.Core.Bool.{true, false, not, _&&_}
+use mathlib.Core.Bool.{Bool, true, false, not, _&&_}
 use Prim.Native.Char.{Char}
 use Prim.Native.Nat.{ℕ, zero, suc, _+_, _≤_}
 use native.Mathlib.Omega.{arith}
 use lib.ListN.{length, getD}
 use lib.Dec.{ltb, leb}
 use borrow.Author.Tests.{leb-true}
+use Rattle.syntax.specs.declared.Form.{Form}
+use Rattle.syntax.specs.declared.Form.the-variants.{Grouped, Captured, Held, Ahead, NotAhead}
 use Rattle.syntax.specs.declared.Greed.{Greed}
 use Rattle.syntax.specs.declared.Most.{Most}
 use Rattle.syntax.specs.declared.Quantifier.{Quantifier}
 use Rattle.syntax.specs.declared.Quantifier.the-variants.{Absent, Stray, Unfit, Times}
 use Rattle.charset.specs.declared.Named.the-variants.{Digit}
 use Rattle.charset.specs.Named.{inNamed}
-use Rattle.syntax.specs.Limits.{groupLimit, nameLimit, nestingLimit, levelLimit}
+use Rattle.syntax.specs.Limits.{groupLimit, nameLimit, nestingLimit, heightLimit, levelLimit}
 use Rattle.syntax.specs.Read.{byte, isEnd, is, Read, sound, refused, andThen}
-use Rattle.syntax.specs.Tree.{Rule, empty, group, Branches, one, also}
+use Rattle.syntax.specs.Tree.{Rule, empty, Branches, one, also, enclosed}
 use Rattle.syntax.specs.Names.{Name, Names, wordAt, isName, nameUpTo, isUsed, fresh}
 use Rattle.syntax.specs.Quantifiers.{quantifier}
-use Rattle.syntax.specs.Grammar.{behindBlanks, atom, Inner, closing, capturing, grouped, Sequence, unrepeatable, repeatable, repeated, unfitFor, repeating, nextItem, part, ends, sequence, branch, further, alternation, inside}
+use Rattle.syntax.specs.Grammar.{behindBlanks, atom, Inner, closing, capturing, uncaptured, grouped, Sequence, unrepeatable, repeatable, repeated, unfitFor, repeating, breaksLine, nextItem, part, ends, sequence, branch, further, alternation, inside}
 use Rattle.syntax.specs.Reading.{parsed, namesRead, namesOf}
-use Rattle.syntax.specs.WellFormed.{Proper, groupDepth, repeatDepth, levels}
+use Rattle.syntax.specs.WellFormed.{Proper, height, levels}
 use Rattle.syntax.specs.Laws.Formation.{parsed-formed}
 use Rattle.syntax.specs.Laws.Forward.{Given, any-given, if-given, test-given, then-given, and-left, and-right}
 
@@ -64,16 +66,23 @@ module _ (P : Name → Names → Type 0) (unnamed : (ns : Names) → P [] ns) (n
   capturing-all s inner at names name h k g = if-given _ _ _ (ltb (length names) groupLimit)
       (then-given Kept Kept (inner at (andThen name (λ n p. sound (n ∷ names) p))) _
       (h at _ (then-given (λ n p. P n names) (λ ns p. All P ns) name _ g (λ n p l. (l, k)))) (λ r p l.
-      closing-all s at (group (suc (length names)) (r .0)) (r .1) p l))
+      closing-all s at (enclosed (Captured (suc (length names))) at (r .0)) (r .1) p l))
       tt
 
+  uncaptured-all : (s : List ℕ) (inner : Inner) (at : ℕ) (names : Names) (form : Form) → InnerAll inner → All P names → Given (uncaptured s inner at names form) Kept
+  unfolding uncaptured InnerAll
+  uncaptured-all s inner at names form h k = then-given Kept Kept (inner at (sound names (at + 3))) _ (h at (sound names (at + 3)) k) (λ r p l. closing-all s at (enclosed form at (r .0)) (r .1) p l)
+
   grouped-all : (s : List ℕ) (inner : Inner) (at : ℕ) (names : Names) → InnerAll inner → All P names → Given (grouped s inner at names) Kept
-  unfolding grouped InnerAll
+  unfolding grouped
   grouped-all s inner at names h k =
-      if-given _ _ _ (not (is "?" (byte s (at + 1)))) (capturing-all s inner at names _ (unfold InnerAll in h) k (unnamed names))
-      (if-given _ _ _ (is ":" (byte s (at + 2)))
-      (then-given Kept Kept (inner at (sound names (at + 3))) _ (h at (sound names (at + 3)) k) (λ r p l. closing-all s at (r .0) (r .1) p l))
-      (if-given _ _ _ (is "<" (byte s (at + 2))) (capturing-all s inner at names _ (unfold InnerAll in h) k (fresh-all at names _ (nameUpTo-named ">" s at (at + 3)))) tt))
+      let b = byte s (at + 2) in
+      if-given _ _ _ (not (is "?" (byte s (at + 1)))) (capturing-all s inner at names _ h k (unnamed names))
+      (if-given _ _ _ (is ":" b) (uncaptured-all s inner at names Grouped h k)
+      (if-given _ _ _ (is ">" b) (uncaptured-all s inner at names Held h k)
+      (if-given _ _ _ (is "=" b) (uncaptured-all s inner at names Ahead h k)
+      (if-given _ _ _ (is "!" b) (uncaptured-all s inner at names NotAhead h k)
+      (if-given _ _ _ (is "<" b) (capturing-all s inner at names _ h k (fresh-all at names _ (nameUpTo-named ">" s at (at + 3)))) tt)))))
 
   -- Sequences and alternations ----------------------------------------------------
 
@@ -81,7 +90,8 @@ module _ (P : Name → Names → Type 0) (unnamed : (ns : Names) → P [] ns) (n
   unfolding nextItem
   nextItem-all s flags known inner q names at h k = if-given _ _ _ (is "(" (byte s at))
       (then-given Kept Kept (grouped s inner at names) _ (grouped-all s inner at names h k) (λ r p l. l))
-      (then-given (λ i p. Unit) Kept (atom s flags known (length names) at) _ (any-given (atom s flags known (length names) at)) (λ i p l. k))
+      (if-given _ _ _ (breaksLine s at) k
+      (then-given (λ i p. Unit) Kept (atom s flags known (length names) at) _ (any-given (atom s flags known (length names) at)) (λ i p l. k)))
 
   unfitFor-all : (q : Sequence) (at : ℕ) → Given (unfitFor q at) Kept
   unfolding unfitFor
@@ -89,18 +99,18 @@ module _ (P : Name → Names → Type 0) (unnamed : (ns : Names) → P [] ns) (n
   unfitFor-all (repeatable b l) at = tt
   unfitFor-all (repeated t) at = tt
 
-  repeating-all : (q : Sequence) (at n : ℕ) (m : Most) (x : Greed) (names : Names) (next : ℕ) → All P names → Given (repeating q at n m x names next) Kept
+  repeating-all : (q : Sequence) (at n : ℕ) (m : Most) (x : Greed) (keeps : Bool) (names : Names) (next : ℕ) → All P names → Given (repeating q at n m x keeps names next) Kept
   unfolding repeating
-  repeating-all (unrepeatable t) at n m x names next k = tt
-  repeating-all (repeatable b l) at n m x names next k = k
-  repeating-all (repeated t) at n m x names next k = tt
+  repeating-all (unrepeatable t) at n m x keeps names next k = tt
+  repeating-all (repeatable b l) at n m x keeps names next k = k
+  repeating-all (repeated t) at n m x keeps names next k = tt
 
   part-all : (s : List ℕ) (flags : ℕ) (known : Names) (inner : Inner) (q : Sequence) (names : Names) (at : ℕ) (x : Quantifier) → InnerAll inner → All P names → Given (part s flags known inner q names at x) Kept
   unfolding part
   part-all s flags known inner q names at Absent h k = nextItem-all s flags known inner q names at h k
   part-all s flags known inner q names at Stray h k = tt
   part-all s flags known inner q names at Unfit h k = unfitFor-all q at
-  part-all s flags known inner q names at (Times n m x next) h k = repeating-all q at n m x names next k
+  part-all s flags known inner q names at (Times n m x keeps next) h k = repeating-all q at n m x keeps names next k
 
   sequence-all : (f : ℕ) (s : List ℕ) (flags : ℕ) (known : Names) (inner : Inner) (q : Sequence) (names : Names) (from : ℕ) → InnerAll inner → All P names → Given (sequence f s flags known inner q names from) Kept
   unfolding sequence
@@ -186,7 +196,7 @@ namesOf-apart s flags = aparts (namesOf s flags) (namesOf-all (λ n ms. 1 ≤ le
 
 -- There are no more than groups may be opened ---------------------------------------
 
-read-few : (a : Read (Rule × Names)) → Given a (λ r at. (length (r .1) ≤ groupLimit) × Proper (length (r .1)) (r .0) × (groupDepth (r .0) ≤ nestingLimit) × (repeatDepth (r .0) ≤ suc nestingLimit) × (levels (r .0) ≤ levelLimit)) → length (namesRead a) ≤ groupLimit
+read-few : (a : Read (Rule × Names)) → Given a (λ r at. (length (r .1) ≤ groupLimit) × Proper (length (r .1)) (r .0) × (height (r .0) ≤ heightLimit) × (levels (r .0) ≤ levelLimit)) → length (namesRead a) ≤ groupLimit
 unfolding namesRead
 read-few (sound r at) h = h .0
 read-few (refused place why) h = omega arith

@@ -1,16 +1,18 @@
 -- Every refusal of a rule has its place within the rule. Most parts are refused where they begin; a reference and a repeat also where they
 -- stand in the tree, so that the places in a tree are followed too.
-use mathlib.Core.Path.{_≡_, refl, sym}
+use mathlib.Core.Path.{_≡_, refl}
 use mathlib.Core.List.{List, [], _∷_}
 use mathlib.Core.Bool.{Bool, true, false, not, _&&_, _||_}
 use mathlib.Core.Option.{Option, none, some}
 use Prim.Native.Char.{Char}
-use Prim.Native.Nat.{ℕ, zero, suc, _+_, _≤_, _<_}
+use Prim.Native.Nat.{ℕ, zero, suc, _+_, _-_, _≤_, _<_}
 use native.Mathlib.Omega.{arith}
 use lib.ListN.{length, take}
 use lib.Dec.{ltb, leb, eqb}
 use Rattle.syntax.specs.declared.Reason.{Reason}
 use Rattle.syntax.specs.declared.Reason.the-variants.{NoSuchGroup, BarredReference, IdleRepeat}
+use Rattle.syntax.specs.declared.Form.{Form}
+use Rattle.syntax.specs.declared.Form.the-variants.{Grouped, Captured, Held, Ahead, NotAhead}
 use Rattle.syntax.specs.declared.Greed.{Greed}
 use Rattle.syntax.specs.declared.Most.{Most}
 use Rattle.syntax.specs.declared.Quantifier.{Quantifier}
@@ -21,18 +23,18 @@ use Rattle.charset.specs.Named.{inNamed}
 use Rattle.syntax.specs.Limits.{groupLimit, byteLimit, nestingLimit}
 use Rattle.syntax.specs.Read.{if_then_else_, byte, isEnd, is, between, Read, sound, refused, andThen}
 use Rattle.syntax.specs.Sets.{setNamed, Member, single}
-use Rattle.syntax.specs.Tree.{Item, byteIn, assert, reference, Rule, empty, item, seq, alt, group, repeat, Branches, one, also, alternatives}
+use Rattle.syntax.specs.Tree.{Item, byteIn, assert, reference, Rule, empty, item, seq, alt, group, repeat, held, look, Branches, one, also, alternatives, enclosed, possessive, lineBreak}
 use Rattle.syntax.specs.Numbers.{digits, value, isNone}
 use Rattle.syntax.specs.Names.{Name, Names, wordAt, isName, nameUpTo, isUsed, fresh}
 use Rattle.syntax.specs.Flags.{ignoreCase, depot}
 use Rattle.syntax.specs.Escapes.{called, callsByName, Meaning, _means_, meanings, byteOf, braced, hex, bracedOctal, octal, control, letter, common, classEscape, decimal, signed, groupNumber, escape}
 use Rattle.syntax.specs.Classes.{letters, posixMember, posixName, posix, element, rangeEnd, alike, rangeOf, makesRange, member, members, class}
 use Rattle.syntax.specs.Quantifiers.{quantifier}
-use Rattle.syntax.specs.Grammar.{behindBlanks, atom, Inner, closing, capturing, grouped, Sequence, unrepeatable, repeatable, repeated, whole, withItem, unfitFor, repeating, nextItem, part, ends, sequence, branch, further, alternation, inside}
+use Rattle.syntax.specs.Grammar.{behindBlanks, atom, Inner, closing, capturing, uncaptured, grouped, Sequence, unrepeatable, repeatable, repeated, whole, withItem, unfitFor, repeating, breaksLine, nextItem, part, ends, sequence, branch, further, alternation, inside}
 use Rattle.syntax.specs.Lengths.{leastLength, unbounded}
 use Rattle.syntax.specs.Reading.{parsed, namesOf, firstOf, dangling, unresolved, unresolvedIn, idle, idleIn, unless, profiled, settled, reading}
-use Rattle.syntax.specs.Laws.Forward.{Given, if-given, test-given, then-given}
-use Rattle.syntax.specs.Laws.Within.{nameUpTo-in, Upto, Inward, not-end, is-in, quantifier-in, part-by, ends-false, branch-in, alternation-in, inside-in}
+use Rattle.syntax.specs.Laws.Forward.{Given, test-given}
+use Rattle.syntax.specs.Laws.Within.{nameUpTo-in, Upto, Inward, not-end, is-in, quantifier-in, part-by, ends-false, alternation-in, inside-in}
 
 -- if a reading is refused, its place is n at most
 abbrev pub Placed : {A : Type 0} → ℕ → Read A → Type 0
@@ -223,6 +225,8 @@ abbrev mutual
   ItemsIn n (alt bs b) = BranchesIn n bs × ItemsIn n b
   ItemsIn n (group k a) = ItemsIn n a
   ItemsIn n (repeat at l m g a) = (at ≤ n) × ItemsIn n a
+  ItemsIn n (held at a) = ItemsIn n a
+  ItemsIn n (look at negative a) = ItemsIn n a
 
   pub BranchesIn : ℕ → Branches → Type 0
   BranchesIn n (one a) = ItemsIn n a
@@ -256,6 +260,23 @@ alternatives-in : (n : ℕ) (bs : Branches) → BranchesIn n bs → ItemsIn n (a
 unfolding alternatives
 alternatives-in n (one a) h = h
 alternatives-in n (also bs b) h = h
+
+enclosed-in : (n : ℕ) (form : Form) (at : ℕ) (t : Rule) → ItemsIn n t → ItemsIn n (enclosed form at t)
+unfolding enclosed
+enclosed-in n Grouped at t h = h
+enclosed-in n (Captured k) at t h = h
+enclosed-in n Held at t h = h
+enclosed-in n Ahead at t h = h
+enclosed-in n NotAhead at t h = h
+
+possessive-in : (n : ℕ) (keeps : Bool) (at : ℕ) (t : Rule) → ItemsIn n t → ItemsIn n (possessive keeps at t)
+unfolding possessive
+possessive-in n true at t h = (tt, h)
+possessive-in n false at t h = h
+
+break-in : (n at : ℕ) → at ≤ n → ItemsIn n (lineBreak at)
+unfolding lineBreak
+break-in n at h = (((tt, h), h), (tt, h))
 
 -- Items, sequences and groups ---------------------------------------------------------
 
@@ -305,18 +326,28 @@ module _ (s : List ℕ) where
   capturing-well inner at opened name h k g =
       let n = length s in
       well-if n _ _ _ (ltb (length opened) groupLimit)
-      (well-on n (Treed n) (Treed n) (inner at (andThen name (λ x p. sound (x ∷ opened) p))) _ (h at _ k (well-on n (Upto s) (Upto s) name _ g (λ x p l. (tt, l)))) (λ r p t. closing-well at (group (suc (length opened)) (r .0)) (r .1) p k t))
+      (well-on n (Treed n) (Treed n) (inner at (andThen name (λ x p. sound (x ∷ opened) p))) _ (h at _ k (well-on n (Upto s) (Upto s) name _ g (λ x p l. (tt, l)))) (λ r p t. closing-well at (enclosed (Captured (suc (length opened))) at (r .0)) (r .1) p k (enclosed-in n (Captured (suc (length opened))) at (r .0) t)))
       (k, tt)
 
+  uncaptured-well : (inner : Inner) (at : ℕ) (opened : Names) (form : Form) → InnerWell inner → at + 3 ≤ length s → Well (length s) (Treed (length s)) (uncaptured s inner at opened form)
+  unfolding uncaptured InnerWell
+  uncaptured-well inner at opened form h l =
+      let n = length s in
+      let k : at ≤ length s = omega arith in
+      well-on n (Treed n) (Treed n) (inner at (sound opened (at + 3))) _ (h at (sound opened (at + 3)) k (tt, l)) (λ r p t. closing-well at (enclosed form at (r .0)) (r .1) p k (enclosed-in n form at (r .0) t))
+
   grouped-well : (inner : Inner) (at : ℕ) (opened : Names) → InnerWell inner → at < length s → Well (length s) (Treed (length s)) (grouped s inner at opened)
-  unfolding grouped InnerWell
+  unfolding grouped
   grouped-well inner at opened h l =
       let n = length s in
       let k : at ≤ length s = omega arith in
-      well-if n _ _ _ (not (is "?" (byte s (at + 1)))) (capturing-well inner at opened (sound [] (at + 1)) (unfold InnerWell in h) k (tt, omega arith))
-      (well-test n _ _ _ (is ":" (byte s (at + 2)))
-      (λ e. let i = is-in s (at + 2) 58 (omega arith) e in well-on n (Treed n) (Treed n) (inner at (sound opened (at + 3))) _ (h at (sound opened (at + 3)) k (tt, omega arith)) (λ r p t. closing-well at (r .0) (r .1) p k t))
-      (λ e. well-if n _ _ _ (is "<" (byte s (at + 2))) (capturing-well inner at opened _ (unfold InnerWell in h) k (fresh-well at opened k)) (k, tt)))
+      let b = byte s (at + 2) in
+      well-if n _ _ _ (not (is "?" (byte s (at + 1)))) (capturing-well inner at opened (sound [] (at + 1)) h k (tt, omega arith))
+      (well-test n _ _ _ (is ":" b) (λ e. let i = is-in s (at + 2) 58 (omega arith) e in uncaptured-well inner at opened Grouped h (omega arith)) (λ e.
+      well-test n _ _ _ (is ">" b) (λ e. let i = is-in s (at + 2) 62 (omega arith) e in uncaptured-well inner at opened Held h (omega arith)) (λ e.
+      well-test n _ _ _ (is "=" b) (λ e. let i = is-in s (at + 2) 61 (omega arith) e in uncaptured-well inner at opened Ahead h (omega arith)) (λ e.
+      well-test n _ _ _ (is "!" b) (λ e. let i = is-in s (at + 2) 33 (omega arith) e in uncaptured-well inner at opened NotAhead h (omega arith)) (λ e.
+      well-if n _ _ _ (is "<" b) (capturing-well inner at opened _ h k (fresh-well at opened k)) (k, tt))))))
 
   nextItem-well : (flags : ℕ) (known : Names) (inner : Inner) (q : Sequence) (opened : Names) (at : ℕ) → InnerWell inner → at < length s → SequenceIn (length s) q → Well (length s) (Sequenced (length s)) (nextItem s flags known inner q opened at)
   unfolding nextItem SequenceIn
@@ -325,7 +356,8 @@ module _ (s : List ℕ) where
       let k : at ≤ length s = omega arith in
       well-if n _ _ _ (is "(" (byte s at))
       (well-on n (Treed n) (Sequenced n) (grouped s inner at opened) _ (grouped-well inner at opened h l) (λ r p t. (tt, (whole-in n q g, t))))
-      (well-on n (λ i p. Unit) (Sequenced n) (atom s flags known (length opened) at) _ (atom-placed flags known (length opened) at k, any-given (atom s flags known (length opened) at) Unit tt) (λ i p u. (tt, withItem-in n q at i g k)))
+      (well-if n _ _ _ (breaksLine s at) (tt, (whole-in n q g, break-in n at k))
+      (well-on n (λ i p. Unit) (Sequenced n) (atom s flags known (length opened) at) _ (atom-placed flags known (length opened) at k, any-given (atom s flags known (length opened) at) Unit tt) (λ i p u. (tt, withItem-in n q at i g k))))
 
   unfitFor-placed : (q : Sequence) (at : ℕ) → at ≤ length s → Well (length s) (Sequenced (length s)) (unfitFor q at)
   unfolding unfitFor
@@ -333,18 +365,18 @@ module _ (s : List ℕ) where
   unfitFor-placed (repeatable b l) at h = (h, tt)
   unfitFor-placed (repeated t) at h = (h, tt)
 
-  repeating-well : (q : Sequence) (at n : ℕ) (m : Most) (g : Greed) (opened : Names) (next : ℕ) → at ≤ length s → SequenceIn (length s) q → Well (length s) (Sequenced (length s)) (repeating q at n m g opened next)
+  repeating-well : (q : Sequence) (at n : ℕ) (m : Most) (g : Greed) (keeps : Bool) (opened : Names) (next : ℕ) → at ≤ length s → SequenceIn (length s) q → Well (length s) (Sequenced (length s)) (repeating q at n m g keeps opened next)
   unfolding repeating SequenceIn
-  repeating-well (unrepeatable t) at n m g opened next h k = (h, tt)
-  repeating-well (repeatable b l) at n m g opened next h k = (tt, (k .0, (h, k .1)))
-  repeating-well (repeated t) at n m g opened next h k = (h, tt)
+  repeating-well (unrepeatable t) at n m g keeps opened next h k = (h, tt)
+  repeating-well (repeatable b l) at n m g keeps opened next h k = (tt, (k .0, possessive-in (length s) keeps (next - 1) (repeat at n m g l) (h, k .1)))
+  repeating-well (repeated t) at n m g keeps opened next h k = (h, tt)
 
   part-well : (flags : ℕ) (known : Names) (inner : Inner) (q : Sequence) (opened : Names) (at : ℕ) (x : Quantifier) → InnerWell inner → at < length s → SequenceIn (length s) q → Well (length s) (Sequenced (length s)) (part s flags known inner q opened at x)
   unfolding part
   part-well flags known inner q opened at Absent h l g = nextItem-well flags known inner q opened at h l g
   part-well flags known inner q opened at Stray h l g = (omega arith, tt)
   part-well flags known inner q opened at Unfit h l g = unfitFor-placed q at (omega arith)
-  part-well flags known inner q opened at (Times n m d next) h l g = repeating-well q at n m d opened next (omega arith) g
+  part-well flags known inner q opened at (Times n m d keeps next) h l g = repeating-well q at n m d keeps opened next (omega arith) g
 
   sequence-well : (f flags : ℕ) (known : Names) (inner : Inner) (q : Sequence) (opened : Names) (at : ℕ) → InnerWell inner → Inward s inner → at ≤ length s → SequenceIn (length s) q → Well (length s) (Treed (length s)) (sequence f s flags known inner q opened at)
   unfolding sequence
@@ -415,6 +447,8 @@ mutual
   unresolved-found n groups (alt bs b) h = first-found n (unresolvedIn groups bs) (unresolved groups b) (unresolvedIn-found n groups bs (h .0)) (unresolved-found n groups b (h .1))
   unresolved-found n groups (group k a) h = unresolved-found n groups a h
   unresolved-found n groups (repeat at l m g a) h = unresolved-found n groups a (h .1)
+  unresolved-found n groups (held at a) h = unresolved-found n groups a h
+  unresolved-found n groups (look at negative a) h = unresolved-found n groups a h
 
   unresolvedIn-found : (n groups : ℕ) (bs : Branches) → BranchesIn n bs → Found n (unresolvedIn groups bs)
   unresolvedIn-found n groups (one a) h = unresolved-found n groups a h
@@ -430,6 +464,8 @@ mutual
   idle-found n (alt bs b) h = first-found n (idleIn bs) (idle b) (idleIn-found n bs (h .0)) (idle-found n b (h .1))
   idle-found n (group k a) h = idle-found n a h
   idle-found n (repeat at l m g a) h = first-found n (idle a) (if unbounded m && eqb (leastLength a) 0 then some at else none) (idle-found n a (h .1)) (if-found n at (unbounded m && eqb (leastLength a) 0) (h .0))
+  idle-found n (held at a) h = idle-found n a h
+  idle-found n (look at negative a) h = idle-found n a h
 
   idleIn-found : (n : ℕ) (bs : Branches) → BranchesIn n bs → Found n (idleIn bs)
   idleIn-found n (one a) h = idle-found n a h

@@ -1,6 +1,6 @@
 -- The depot profile only refuses: a rule that is sound under it has the same tree and the same names under the same flags without it. Part by part of
 -- the grammar, whatever the one reading gives soundly the other gives too; beside classes no part looks at the profile.
-use mathlib.Core.Path.{_≡_, refl, sym, ap, _∙_}
+use mathlib.Core.Path.{_≡_, refl, ap}
 use mathlib.Core.List.{List, [], _∷_}
 use mathlib.Core.Bool.{Bool, true, false, not, _&&_}
 use mathlib.Core.Option.{Option, none, some}
@@ -8,7 +8,8 @@ use Prim.Native.Nat.{ℕ, zero, suc, _+_, _/_, _%_, _^_}
 use native.Mathlib.Omega.{arith}
 use lib.ListN.{length}
 use lib.Dec.{ltb, leb, eqb}
-use Rattle.charset.specs.Class.{bit}
+use Rattle.syntax.specs.declared.Form.{Form}
+use Rattle.syntax.specs.declared.Form.the-variants.{Grouped, Captured, Held, Ahead, NotAhead}
 use Rattle.syntax.specs.declared.Reason.{Reason}
 use Rattle.syntax.specs.declared.Reason.the-variants.{UnopenedGroup}
 use Rattle.syntax.specs.declared.Quantifier.{Quantifier}
@@ -16,12 +17,12 @@ use Rattle.syntax.specs.declared.Quantifier.the-variants.{Absent, Stray,
 use Rattle.syntax.specs.Limits.{groupLimit, nestingLimit, dotAllBit, multilineBit, ignoreCaseBit, extendedBit, depotBit}
 use Rattle.syntax.specs.Read.{if_then_else_, byte, isEnd, is, Read, sound, refused, andThen}
 use Rattle.syntax.specs.Sets.{Member, range}
-use Rattle.syntax.specs.Tree.{Rule, empty, group, Branches, one, also}
+use Rattle.syntax.specs.Tree.{Rule, empty, Branches, one, also, enclosed}
 use Rattle.syntax.specs.Flags.{dotAll, multiline, ignoreCase, extended, depot}
 use Rattle.syntax.specs.Names.{Name, Names, nameUpTo, fresh}
 use Rattle.syntax.specs.Classes.{element, rangeEnd, alike, rangeOf, makesRange, member, members, class}
 use Rattle.syntax.specs.Quantifiers.{quantifier}
-use Rattle.syntax.specs.Grammar.{behindBlanks, atom, Inner, closing, capturing, grouped, Sequence, unrepeatable, whole, unfitFor, repeating, nextItem, part, ends, sequence, branch, further, alternation, inside}
+use Rattle.syntax.specs.Grammar.{behindBlanks, atom, Inner, closing, capturing, uncaptured, grouped, Sequence, unrepeatable, whole, unfitFor, repeating, breaksLine, nextItem, part, ends, sequence, branch, further, alternation, inside}
 use Rattle.syntax.specs.Reading.{parsed, namesRead, namesOf, unresolved, unless, profiled, settled, reading}
 use Rattle.syntax.specs.Laws.Forward.{Given, any-given, then-given}
 use Rattle.syntax.specs.Laws.Formation.{Narrow, settled-given}
@@ -114,29 +115,37 @@ module _ (s : List ℕ) (flags others : ℕ) (f : Spared flags others) where
   capturing-as x y opening names name h =
       let head = andThen name (λ n at. sound (n ∷ names) at) in
       as-if (ltb (length names) groupLimit) _ _ _ _
-      (as-then (x opening head) (y opening head) _ _ (h opening head) (λ r p. as-is (closing s opening (group (suc (length names)) (r .0)) (r .1) p)))
+      (as-then (x opening head) (y opening head) _ _ (h opening head) (λ r p. as-is (closing s opening (enclosed (Captured (suc (length names))) opening (r .0)) (r .1) p)))
       tt
 
+  uncaptured-as : (x y : Inner) (opening : ℕ) (names : Names) (form : Form) → InnerAs x y → As (uncaptured s x opening names form) (uncaptured s y opening names form)
+  unfolding uncaptured InnerAs
+  uncaptured-as x y opening names form h =
+      as-then (x opening (sound names (opening + 3))) (y opening (sound names (opening + 3))) _ _ (h opening (sound names (opening + 3))) (λ r p. as-is (closing s opening (enclosed form opening (r .0)) (r .1) p))
+
   grouped-as : (x y : Inner) (opening : ℕ) (names : Names) → InnerAs x y → As (grouped s x opening names) (grouped s y opening names)
-  unfolding grouped InnerAs
+  unfolding grouped
   grouped-as x y opening names h =
-      as-if (not (is "?" (byte s (opening + 1)))) _ _ _ _ (capturing-as x y opening names (sound [] (opening + 1)) (unfold InnerAs in h))
-      (as-if (is ":" (byte s (opening + 2))) _ _ _ _
-      (as-then (x opening (sound names (opening + 3))) (y opening (sound names (opening + 3))) _ _ (h opening (sound names (opening + 3))) (λ r p. as-is (closing s opening (r .0) (r .1) p)))
-      (as-if (is "<" (byte s (opening + 2))) _ _ _ _ (capturing-as x y opening names (fresh opening names (nameUpTo ">" s opening (opening + 3))) (unfold InnerAs in h)) tt))
+      let b = byte s (opening + 2) in
+      as-if (not (is "?" (byte s (opening + 1)))) _ _ _ _ (capturing-as x y opening names (sound [] (opening + 1)) h)
+      (as-if (is ":" b) _ _ _ _ (uncaptured-as x y opening names Grouped h)
+      (as-if (is ">" b) _ _ _ _ (uncaptured-as x y opening names Held h)
+      (as-if (is "=" b) _ _ _ _ (uncaptured-as x y opening names Ahead h)
+      (as-if (is "!" b) _ _ _ _ (uncaptured-as x y opening names NotAhead h)
+      (as-if (is "<" b) _ _ _ _ (capturing-as x y opening names (fresh opening names (nameUpTo ">" s opening (opening + 3))) h) tt)))))
 
   nextItem-as : (known : Names) (x y : Inner) (q : Sequence) (names : Names) (at : ℕ) → InnerAs x y → As (nextItem s flags known x q names at) (nextItem s others known y q names at)
   unfolding nextItem
   nextItem-as known x y q names at h = as-if (is "(" (byte s at)) _ _ _ _
       (as-then (grouped s x at names) (grouped s y at names) _ _ (grouped-as x y at names h) (λ r p. refl))
-      (as-then (atom s flags known (length names) at) (atom s others known (length names) at) _ _ (atom-as known (length names) at) (λ i p. refl))
+      (as-right (breaksLine s at) _ _ _ (as-then (atom s flags known (length names) at) (atom s others known (length names) at) _ _ (atom-as known (length names) at) (λ i p. refl)))
 
   part-as : (known : Names) (x y : Inner) (q : Sequence) (names : Names) (at : ℕ) (z : Quantifier) → InnerAs x y → As (part s flags known x q names at z) (part s others known y q names at z)
   unfolding part
   part-as known x y q names at Absent h = nextItem-as known x y q names at h
   part-as known x y q names at Stray h = tt
   part-as known x y q names at Unfit h = as-is (unfitFor q at)
-  part-as known x y q names at (Times n m g next) h = as-is (repeating q at n m g names next)
+  part-as known x y q names at (Times n m g keeps next) h = as-is (repeating q at n m g keeps names next)
 
   sequence-as : (k : ℕ) (known : Names) (x y : Inner) (q : Sequence) (names : Names) (from : ℕ) → InnerAs x y → As (sequence k s flags known x q names from) (sequence k s others known y q names from)
   unfolding sequence

@@ -10,6 +10,8 @@ use native.Mathlib.Decide.{decLt}
 use lib.ListN.{length, take, drop, length-take, length-drop}
 use lib.Dec.{ltb, leb, eqb}
 use borrow.Author.Tests.{eqb-true, eqb-false, leb-true}
+use Rattle.syntax.specs.declared.Form.{Form}
+use Rattle.syntax.specs.declared.Form.the-variants.{Grouped, Captured, Held, Ahead, NotAhead}
 use Rattle.syntax.specs.declared.Greed.{Greed}
 use Rattle.syntax.specs.declared.Most.{Most}
 use Rattle.syntax.specs.declared.Most.the-variants.{AtMost, Unlimited}
@@ -21,14 +23,14 @@ use Rattle.charset.specs.declared.Named.{Named}
 use Rattle.charset.specs.declared.Named.the-variants.{Word}
 use Rattle.charset.specs.Named.{inNamed}
 use Rattle.syntax.specs.Sets.{setNamed, Member}
-use Rattle.syntax.specs.Tree.{Rule, empty, Branches, group, one, also}
+use Rattle.syntax.specs.Tree.{Rule, empty, Branches, one, also, enclosed}
 use Rattle.syntax.specs.Numbers.{run, isDigit, digits, value, isNone}
 use Rattle.syntax.specs.Names.{Name, Names, wordAt, isName, nameUpTo, isUsed, fresh}
 use Rattle.syntax.specs.Flags.{ignoreCase, depot}
 use Rattle.syntax.specs.Escapes.{called, callsByName, Meaning, _means_, meanings, byteOf, braced, hex, bracedOctal, octal, control, letter, common, classEscape, decimal, signed, groupNumber, escape}
 use Rattle.syntax.specs.Classes.{letters, posixMember, posixName, posix, element, rangeEnd, alike, rangeOf, makesRange, member, members, class}
 use Rattle.syntax.specs.Quantifiers.{withGreed, atLeast, fromTo, upper, braces, quantifier}
-use Rattle.syntax.specs.Grammar.{behindBlanks, atom, Inner, closing, capturing, grouped, Sequence, unrepeatable, repeatable, repeated, nextItem, unfitFor, repeating, part, ends, sequence, branch, further, alternation, inside}
+use Rattle.syntax.specs.Grammar.{behindBlanks, atom, Inner, closing, capturing, uncaptured, grouped, Sequence, unrepeatable, repeatable, repeated, breaksLine, nextItem, unfitFor, repeating, part, ends, sequence, branch, further, alternation, inside}
 use Rattle.syntax.specs.Laws.Blanks.{blanks-in}
 use Rattle.syntax.specs.Laws.Forward.{Given, if-given, test-given, then-given, Holding, if-holding, and-left, and-right}
 use Rattle.syntax.specs.Laws.Fuel.{byte-past, byte-in}
@@ -37,8 +39,8 @@ use Rattle.syntax.specs.Laws.Fuel.{byte-past, byte-in}
 abbrev pub Upto : {A : Type 0} → List ℕ → A → ℕ → Type 0
 Upto s x p = p ≤ length s
 
-abbrev UptoIn : List ℕ → ℕ → Most → ℕ → Type 0
-UptoIn s n m next = next ≤ length s
+abbrev UptoIn : List ℕ → ℕ → Most → Bool → ℕ → Type 0
+UptoIn s n m keeps next = next ≤ length s
 
 -- Bytes that are there --------------------------------------------------------
 
@@ -251,7 +253,8 @@ class-in s strict from = if-given _ _ _ (is "^" (byte s (from + 1)))
 
 withGreed-in : (s : List ℕ) (n : ℕ) (m : Most) (at : ℕ) → at ≤ length s → Holding (withGreed s n m at) (UptoIn s)
 unfolding withGreed
-withGreed-in s n m at h = if-holding _ _ _ (is "?" (byte s at)) (λ e. let i = is-in s at 63 (omega arith) e in omega arith) (λ e. h)
+withGreed-in s n m at h = if-holding _ _ _ (is "?" (byte s at)) (λ e. let i = is-in s at 63 (omega arith) e in omega arith) (λ e.
+    if-holding _ _ _ (is "+" (byte s at)) (λ e. let i = is-in s at 43 (omega arith) e in omega arith) (λ e. h))
 
 atLeast-in : (s : List ℕ) (n at : ℕ) → at ≤ length s → Holding (atLeast s n at) (UptoIn s)
 unfolding atLeast
@@ -313,22 +316,34 @@ capturing-in : (s : List ℕ) (inner : Inner) (at : ℕ) (opened : Names) (name 
 unfolding capturing Inward
 capturing-in s inner at opened name h g = if-given _ _ _ (ltb (length opened) groupLimit)
     (then-given (Upto s) (Upto s) (inner at (andThen name (λ n p. sound (n ∷ opened) p))) _ (h at _ (then-given (Upto s) (Upto s) name _ g (λ n p l. l)))
-    (λ r p m. closing-in s at (group (suc (length opened)) (r .0)) (r .1) p))
+    (λ r p m. closing-in s at (enclosed (Captured (suc (length opened))) at (r .0)) (r .1) p))
     tt
 
+uncaptured-in : (s : List ℕ) (inner : Inner) (at : ℕ) (opened : Names) (form : Form) → Inward s inner → at + 3 ≤ length s → Given (uncaptured s inner at opened form) (Upto s)
+unfolding uncaptured Inward
+uncaptured-in s inner at opened form h l = then-given (Upto s) (Upto s) (inner at (sound opened (at + 3))) _ (h at (sound opened (at + 3)) l) (λ r p m. closing-in s at (enclosed form at (r .0)) (r .1) p)
+
 grouped-in : (s : List ℕ) (inner : Inner) (at : ℕ) (opened : Names) → Inward s inner → at < length s → Given (grouped s inner at opened) (Upto s)
-unfolding grouped Inward
+unfolding grouped
 grouped-in s inner at opened h l =
-    if-given _ _ _ (not (is "?" (byte s (at + 1)))) (capturing-in s inner at opened _ (unfold Inward in h) (omega arith))
-    (test-given _ _ _ (is ":" (byte s (at + 2)))
-    (λ e. let i = is-in s (at + 2) 58 (omega arith) e in then-given (Upto s) (Upto s) (inner at (sound opened (at + 3))) _ (h at (sound opened (at + 3)) (omega arith)) (λ r p m. closing-in s at (r .0) (r .1) p))
-    (λ e. if-given _ _ _ (is "<" (byte s (at + 2))) (capturing-in s inner at opened _ (unfold Inward in h) (fresh-in s at opened _ (nameUpTo-in ">" s at (at + 3) (omega arith)))) tt))
+    let b = byte s (at + 2) in
+    if-given _ _ _ (not (is "?" (byte s (at + 1)))) (capturing-in s inner at opened _ h (omega arith))
+    (test-given _ _ _ (is ":" b) (λ e. let i = is-in s (at + 2) 58 (omega arith) e in uncaptured-in s inner at opened Grouped h (omega arith)) (λ e.
+    test-given _ _ _ (is ">" b) (λ e. let i = is-in s (at + 2) 62 (omega arith) e in uncaptured-in s inner at opened Held h (omega arith)) (λ e.
+    test-given _ _ _ (is "=" b) (λ e. let i = is-in s (at + 2) 61 (omega arith) e in uncaptured-in s inner at opened Ahead h (omega arith)) (λ e.
+    test-given _ _ _ (is "!" b) (λ e. let i = is-in s (at + 2) 33 (omega arith) e in uncaptured-in s inner at opened NotAhead h (omega arith)) (λ e.
+    if-given _ _ _ (is "<" b) (capturing-in s inner at opened _ h (fresh-in s at opened _ (nameUpTo-in ">" s at (at + 3) (omega arith)))) tt)))))
+
+breaks-in : (s : List ℕ) (at : ℕ) → breaksLine s at ≡ true → at + 1 < length s
+unfolding breaksLine
+breaks-in s at e = is-in s (at + 1) 82 (omega arith) (and-right (is "\\" (byte s at)) (is "R" (byte s (at + 1))) e)
 
 nextItem-in : (s : List ℕ) (flags : ℕ) (known : Names) (inner : Inner) (q : Sequence) (opened : Names) (at : ℕ) → Inward s inner → at < length s → Given (nextItem s flags known inner q opened at) (Upto s)
 unfolding nextItem
 nextItem-in s flags known inner q opened at h l = if-given _ _ _ (is "(" (byte s at))
     (then-given (Upto s) (Upto s) (grouped s inner at opened) _ (grouped-in s inner at opened h l) (λ r p m. m))
-    (then-given (Upto s) (Upto s) (atom s flags known (length opened) at) _ (atom-in s flags known (length opened) at l) (λ i p m. m))
+    (test-given _ _ _ (breaksLine s at) (λ e. let i = breaks-in s at e in omega arith) (λ e.
+    then-given (Upto s) (Upto s) (atom s flags known (length opened) at) _ (atom-in s flags known (length opened) at l) (λ i p m. m)))
 
 unfitFor-in : (s : List ℕ) (q : Sequence) (at : ℕ) → Given (unfitFor q at) (Upto s)
 unfolding unfitFor
@@ -336,18 +351,18 @@ unfitFor-in s (unrepeatable t) at = tt
 unfitFor-in s (repeatable b l) at = tt
 unfitFor-in s (repeated t) at = tt
 
-repeating-in : (s : List ℕ) (q : Sequence) (at n : ℕ) (m : Most) (g : Greed) (opened : Names) (next : ℕ) → next ≤ length s → Given (repeating q at n m g opened next) (Upto s)
+repeating-in : (s : List ℕ) (q : Sequence) (at n : ℕ) (m : Most) (g : Greed) (keeps : Bool) (opened : Names) (next : ℕ) → next ≤ length s → Given (repeating q at n m g keeps opened next) (Upto s)
 unfolding repeating
-repeating-in s (unrepeatable t) at n m g opened next h = tt
-repeating-in s (repeatable b l) at n m g opened next h = h
-repeating-in s (repeated t) at n m g opened next h = tt
+repeating-in s (unrepeatable t) at n m g keeps opened next h = tt
+repeating-in s (repeatable b l) at n m g keeps opened next h = h
+repeating-in s (repeated t) at n m g keeps opened next h = tt
 
 pub part-by : (s : List ℕ) (flags : ℕ) (known : Names) (inner : Inner) (q : Sequence) (opened : Names) (at : ℕ) (x : Quantifier) → Inward s inner → at < length s → Holding x (UptoIn s) → Given (part s flags known inner q opened at x) (Upto s)
 unfolding part
 part-by s flags known inner q opened at Absent h l k = nextItem-in s flags known inner q opened at h l
 part-by s flags known inner q opened at Stray h l k = tt
 part-by s flags known inner q opened at Unfit h l k = unfitFor-in s q at
-part-by s flags known inner q opened at (Times n m g next) h l k = repeating-in s q at n m g opened next k
+part-by s flags known inner q opened at (Times n m g keeps next) h l k = repeating-in s q at n m g keeps opened next k
 
 pub ends-false : (s : List ℕ) (at : ℕ) → ends (byte s at) ≡ false → at < length s
 unfolding ends isEnd

@@ -73,7 +73,7 @@ slice-aggregate-tell-2 c = search needs
 
 tell-requires : tie.Need-tell-requires
 unfolding ruleLimit
-tell-requires c κs = (simp length-take (omega (arith, c .before .before .before .before .before .before .before .before .decode .ensures .counts .0)), c .before .before .before .before .before .before .before .before .before .before .before .before .before .before .before .before .before .before .before .before .before .before .before .before .before .pre .2, simp length-take (omega (arith, c .before .before .before .before .before .decode2 .ensures .counts .0)), omega (arith, number-most _ _ _ _ _ (c .before .before .before .before .before .before .before .before .before .before .before .number2 .ensures), c .before .before .before .before .before .before .before .before .before .before .before .before .before .before .before .before .before .before .before .before .before .before .before .before .before .pre .3))
+tell-requires c κs = (simp length-take (omega (arith, c .before .before .before .before .before .before .before .before .decode .ensures .counts .0)), c .before .before .before .before .before .before .before .before .before .before .before .before .before .before .before .before .before .before .before .before .before .before .before .before .before .pre .2, simp length-take (omega (arith, c .before .before .before .before .before .decode2 .ensures .counts .0)), omega (arith, number-most _ _ _ _ _ (c .before .before .before .before .before .before .before .before .before .before .before .number2 .ensures), c .before .before .before .before .before .before .before .before .before .before .before .before .before .before .before .before .before .before .before .before .before .before .before .before .before .pre .3), omega (arith, number-most _ _ _ _ _ (c .before .before .before .before .before .before .before .before .before .before .before .number2 .ensures)))
 
 same-length : tie.Need-same-length
 same-length c = search needs

@@ -24,7 +24,7 @@ unfolding registers unset groupLimit
 walk-requires c κs =
     let start = c .before .before .before .before .before .before in (
       (refl, omega (arith, start .pre .0 .4), start .pre .0 .1, start .pre .0 .2),
-      ready (start .args .code .now) (start .args .sub .now) (start .args .work .now) (start .pre .1 .0) (start .args .pc) (start .args .start) (start .args .budget) (c .before .before .start .result) (start .pre .1 .1) (λ i. omega (arith, c .before .before .before .before .shared-slice-known2 .given i)) (start .pre .0 .0) (start .pre .0 .3) (c .before .before .start .ensures),
+      ready (start .args .code .now) (start .args .sub .now) (start .args .work .now) (start .pre .1 .0) (start .args .pc) (start .args .start) (start .args .budget) (c .before .before .start .result) (start .pre .1 .1) (λ i. omega (arith, c .before .before .before .before .shared-slice-known2 .given i)) (start .pre .0 .0) (start .pre .0 .3) (start .pre .0 .6) (c .before .before .start .ensures),
     )
 
 same-length : tie.Need-same-length

@@ -4,7 +4,7 @@ use mathlib.Core.Path.{refl, _∙_}
 use native.Mathlib.Omega.{arith}
 use denote.Ref.{now}
 use borrow.Author.Needs.{needs}
-use Rattle.machine.specs.Laws.Code.{several}
+use Rattle.walker.proofs.Stepping.{several}
 use Rattle.walker.proofs.Walking.{Walking, walking-start, walking-none, walking-fits, walking-ready, walking-out, walking-end, walking-to, walking-cut, made, walking-run}
 use Rattle.walker.proofs.run_to_end.Statement.{statement}
 use Rattle.walker.proofs.run_to_end.Tie as tie
@@ -58,7 +58,7 @@ take-several-requires c κs =
     let s = c .before .before .before .before .before .before .before .before .before .before .before .before .before in
     let g = c .before .before .before .before .before .before .before .before .loop .inv in
     let t = c .before .before .before .before .before .before .before .loop-test .taken in
-    ((refl, t, omega (arith, c .before .before .before .before .before .before .if1 .left), g .size ∙ s .pre .0 .0, s .pre .0 .1, s .pre .0 .2), (several _ _ _ (walking-fits g t .node) (c .before .before .before .if2 .taken) (c .before .before .if3 .left), walking-ready g))
+    ((refl, t, omega (arith, c .before .before .before .before .before .before .if1 .left), g .size ∙ s .pre .0 .0, s .pre .0 .1, s .pre .0 .2), (several _ (c .before .before .before .if2 .taken) (c .before .before .if3 .left), walking-ready g))
 
 enum-known-n : tie.Need-enum-known-n Inv-loop μ-loop
 enum-known-n c = search needs

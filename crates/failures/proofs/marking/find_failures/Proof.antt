@@ -17,7 +17,7 @@ mark-attempt-requires c κs =
     let w = c .before .before .before .before .before .before .before .walk-all in
     let tree = s .pre .1 .0 in
     let is = ap (λ (f : Failure). f .start) (w .ensures .0 (tree .0) (tree .1) .near) in
-    ((record { code-small = s .pre .0 .0 .code-small; sub-small = s .pre .0 .0 .sub-small; work-fits = omega (arith, w .kept .1 .1 .1 .0, s .pre .0 .0 .work-fits) }, rw (w .ensures .1) (s .pre .0 .1), omega (arith, is, closest-starts (now (s .args .sub)) (tree .0))), (tree, s .pre .1 .1))
+    ((record { code-small = s .pre .0 .0 .code-small; sub-small = s .pre .0 .0 .sub-small; work-fits = omega (arith, w .kept .1 .1 .1 .0, s .pre .0 .0 .work-fits); budget-small = s .pre .0 .0 .budget-small }, rw (w .ensures .1) (s .pre .0 .1), omega (arith, is, closest-starts (now (s .args .sub)) (tree .0))), (tree, s .pre .1 .1))
 
 same-length : tie.Need-same-length
 same-length c = search needs

@@ -30,19 +30,22 @@ walk-start-requires c κs =
     let s = c .before .before .before .before .before .before .before .before .before in
     let g = c .before .before .before .loop .inv in
     let b = c .before .before .before .before .before .before .before .shared-slice-known2 in
-    ((ap (λ (r : List ℕ). length r) (g .same) ∙ s .pre .0 .1 .size, s .pre .0 .0 .sub-small, s .pre .0 .0 .code-small), (_, _, walked-plain g (λ i. omega (arith, b .given i)) (s .pre .0 .1) (s .pre .0 .0 .work-fits) (s .pre .1 .1) (c .before .before .loop-test .taken) (s .pre .1 .0 .0) (s .pre .1 .0 .1)))
+    ((ap (λ (r : List ℕ). length r) (g .same) ∙ s .pre .0 .1 .size, s .pre .0 .0 .sub-small, s .pre .0 .0 .code-small), (_, _, _, walked-plain g (λ i. omega (arith, b .given i)) (s .pre .0 .1) (s .pre .0 .0 .work-fits) (s .pre .0 .0 .budget-small) (s .pre .1 .1) (c .before .before .loop-test .taken) (s .pre .1 .0 .0) (s .pre .1 .0 .1)))
+
+consider-requires : tie.Need-consider-requires Inv-loop μ-loop
+consider-requires c κs = search needs
 
 add-begin : tie.Need-add-begin Inv-loop μ-loop
-add-begin c = omega (arith, c .before .before .before .before .before .before .before .loop-test .taken, c .before .before .before .before .before .before .before .before .before .before .before .before .before .before .pre .0 .0 .sub-small)
+add-begin c = omega (arith, c .before .before .before .before .before .before .before .before .loop-test .taken, c .before .before .before .before .before .before .before .before .before .before .before .before .before .before .before .pre .0 .0 .sub-small)
 
 loop-less : tie.Need-loop-less Inv-loop μ-loop
-loop-less c = omega (arith, c .before .before .before .before .before .before .before .loop-test .taken)
+loop-less c = omega (arith, c .before .before .before .before .before .before .before .before .loop-test .taken)
 
 loop-again : tie.Need-loop-again Inv-loop μ-loop
 loop-again c =
-    let s = c .before .before .before .before .before .before .before .before .before .before .before .before .before .before in
-    let b = c .before .before .before .before .before .before .before .before .before .before .before .before .shared-slice-known2 in
-    walked-on (c .before .before .before .before .before .before .before .before .loop .inv) (λ i. omega (arith, b .given i)) (s .pre .0 .1) (s .pre .0 .0 .work-fits) (s .pre .1 .1) (c .before .before .before .before .before .before .before .loop-test .taken) (s .pre .1 .0 .0) (s .pre .1 .0 .1) (c .before .before .before .before .walk-start .ensures) (c .before .before .before .before .walk-start .kept .1 .1 .1 .0)
+    let s = c .before .before .before .before .before .before .before .before .before .before .before .before .before .before .before in
+    let b = c .before .before .before .before .before .before .before .before .before .before .before .before .before .shared-slice-known2 in
+    walked-on (c .before .before .before .before .before .before .before .before .before .loop .inv) (λ i. omega (arith, b .given i)) (s .pre .0 .1) (s .pre .0 .0 .work-fits) (s .pre .0 .0 .budget-small) (s .pre .1 .1) (c .before .before .before .before .before .before .before .before .loop-test .taken) (s .pre .0 .0 .sub-small) (s .pre .1 .0 .0) (s .pre .1 .0 .1) (c .before .before .before .before .before .walk-start .result) (c .before .before .before .before .before .walk-start .ensures) (c .consider .ensures) (c .before .before .before .before .before .walk-start .kept .1 .1 .1 .0)
 
 same-length : tie.Need-same-length Inv-loop μ-loop
 same-length c = ap (λ (r : List ℕ). length r) (c .before .loop .inv .same)
@@ -63,6 +66,7 @@ walk-all-spec =
     loop-holds
     cast-loop
     walk-start-requires
+    consider-requires
     add-begin
     loop-less
     loop-again

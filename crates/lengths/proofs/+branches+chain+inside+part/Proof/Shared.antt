@@ -1,6 +1,6 @@
 -- The measures of the cycle: the levels that are left, which fall at each part of a sequence and at each repeat; at one level a part comes before an
 -- inside, that before branches, and that before a sequence. Then what the members are given and ask.
-use Prim.Native.Nat.{ℕ, _<_, _+_, _-_, _*_}
+use Prim.Native.Nat.{ℕ, _<_, _+_, _*_}
 use borrow.Fn.Kinds.{In}
 use borrow.Fn.PlainCycle.{Measures, is, falls, and}
 use Rattle.lengths.proofs.branches.Reads as branches
@@ -16,13 +16,14 @@ use Rattle.lengths.proofs.part.Reads as part
 use Rattle.lengths.proofs.part.Kinds as part-kinds
 use Rattle.lengths.proofs.+branches+chain+inside+part.Lts-part as part-lts
 use Rattle.lengths.proofs.either.Reads as either-reads
+use Rattle.lengths.proofs.enclosed.Reads as enclosed-reads
 use Rattle.lengths.proofs.follow.Reads as follow-reads
 use Rattle.lengths.proofs.nothing.Reads as nothing-reads
 use Rattle.lengths.proofs.repeated.Reads as repeated-reads
 use Rattle.lengths.proofs.single.Reads as single-reads
 use Rattle.linker.proofs.before_of.Reads as before-of-reads
+use Rattle.linker.proofs.is_bracketed.Reads as is-bracketed-reads
 use Rattle.linker.proofs.word.Reads as word-reads
-use lib.ListN.{length}
 
 abbrev pub μ-branches : Measures 1 branches-kinds.ps ℕ
 μ-branches κs a = 4 * a .1 .1 .1 .0 + 1
@@ -71,4 +72,4 @@ abbrev pub inside-calls : ℕ → inside-lts.Claims
 inside-calls t = (nothing-reads.Asked, nothing-reads.Learnt, word-reads.Asked, word-reads.Learnt, chain-below t, chain.Post, branches-below t, branches.Post)
 
 abbrev pub part-calls : ℕ → part-lts.Claims
-part-calls t = (word-reads.Asked, word-reads.Learnt, inside-below t, inside.Post, part-below t, part.Post, repeated-reads.Asked, repeated-reads.Learnt, single-reads.Asked, single-reads.Learnt)
+part-calls t = (word-reads.Asked, word-reads.Learnt, is-bracketed-reads.Asked, is-bracketed-reads.Learnt, inside-below t, inside.Post, enclosed-reads.Asked, enclosed-reads.Learnt, part-below t, part.Post, repeated-reads.Asked, repeated-reads.Learnt, single-reads.Asked, single-reads.Learnt)

@@ -3,7 +3,7 @@ use Prim.Native.Nat.{ℕ}
 use native.Mathlib.Omega.{arith}
 use borrow.Author.Needs.{needs}
 use mathlib.Core.Logic.{⊎-elim}
-use Rattle.syntax.specs.Limits.{registers, spansLength, groupLimit, nestingLimit}
+use Rattle.syntax.specs.Limits.{registers, spansLength, groupLimit, heightLimit, nestingLimit}
 use Rattle.linker.proofs.Made.{links-near}
 use Rattle.linker.proofs.Repeats.{repeat-at, repeat-links}
 use Rattle.linker.proofs.link_repeat.Reads.{Post}
@@ -24,7 +24,7 @@ module _ (t : ℕ) where
   add-link-part c = let g = repeat-at _ _ _ _ _ _ (c .before .before .before .before .before .before .before .before .pre .1 .0) (c .before .before .before .before .before .before .before .before .pre .1 .2) in omega arith
 
   pub add-link-part-2 : lts.Need-add-link-part-2 (calls t) (at t) Post
-  unfolding registers spansLength groupLimit nestingLimit
+  unfolding registers spansLength groupLimit heightLimit nestingLimit
   add-link-part-2 c = let g = repeat-at _ _ _ _ _ _ (c .before .before .before .before .before .before .before .before .pre .1 .0) (c .before .before .before .before .before .before .before .before .pre .1 .2) in omega arith
 
   pub link-part-requires : lts.Need-link-part-requires (calls t) (at t) Post

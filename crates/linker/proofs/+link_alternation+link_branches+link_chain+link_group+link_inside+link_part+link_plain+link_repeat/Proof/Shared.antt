@@ -30,6 +30,7 @@ use Rattle.linker.proofs.before_of.Reads as before-of-reads
 use Rattle.linker.proofs.close_group.Reads as close-group-reads
 use Rattle.linker.proofs.close_repeat.Reads as close-repeat-reads
 use Rattle.linker.proofs.entry_kind.Reads as entry-kind-reads
+use Rattle.linker.proofs.is_bracketed.Reads as is-bracketed-reads
 use Rattle.linker.proofs.link_reference.Reads as link-reference-reads
 use Rattle.linker.proofs.link_named.Reads as link-named-reads
 use Rattle.linker.proofs.put.Reads as put-reads
@@ -151,7 +152,7 @@ abbrev pub link-inside-calls : ℕ → link-inside-lts.Claims
 link-inside-calls t = (word-reads.Asked, word-reads.Learnt, link-alternation-below t, link-alternation.Post, link-chain-below t, link-chain.Post)
 
 abbrev pub link-part-calls : ℕ → link-part-lts.Claims
-link-part-calls t = (word-reads.Asked, word-reads.Learnt, link-group-below t, link-group.Post, link-repeat-below t, link-repeat.Post, link-plain-below t, link-plain.Post, link-reference-reads.Asked, link-reference-reads.Learnt, link-named-reads.Asked, link-named-reads.Learnt, put-reads.Asked, put-reads.Learnt)
+link-part-calls t = (word-reads.Asked, word-reads.Learnt, is-bracketed-reads.Asked, is-bracketed-reads.Learnt, link-group-below t, link-group.Post, link-repeat-below t, link-repeat.Post, link-plain-below t, link-plain.Post, link-reference-reads.Asked, link-reference-reads.Learnt, link-named-reads.Asked, link-named-reads.Learnt, put-reads.Asked, put-reads.Learnt)
 
 abbrev pub link-plain-calls : ℕ → link-plain-lts.Claims
 link-plain-calls t = (word-reads.Asked, word-reads.Learnt, link-inside-below t, link-inside.Post)

@@ -2,15 +2,19 @@
 -- leads to the next one that may begin, or is the last.
 use mathlib.Core.Path.{refl, _∙_, ap}
 use mathlib.Core.List.{List}
-use Prim.Native.Nat.{ℕ, _-_, _*_}
+use Prim.Native.Nat.{ℕ, _-_, _*_, _^_, _≤_, _<_}
 use native.Mathlib.Omega.{arith}
 use borrow.Author.Needs.{needs}
 use denote.Ref.{now}
 use lib.ListN.{length, take}
-use Rattle.syntax.specs.Limits.{subjectLimit}
+use Rattle.syntax.specs.Limits.{subjectLimit, budgetLimit}
 use Rattle.listing.proofs.Starts.{between-first, Turning, turn-begins, turn-few, turn-last, turn-next, turn-full, turn-spent, turning-from}
 use Rattle.listing.proofs.walking.list_starts.Statement.{statement}
 use Rattle.listing.proofs.walking.list_starts.Tie as tie
+
+cheap : (budget : ℕ) → budget ≤ budgetLimit → 2 * budget < 2 ^ 32
+unfolding budgetLimit
+cheap budget h = omega arith
 
 abbrev Inv-loop : tie.InvT-loop
 Inv-loop code sub regs₀ work₀ results₀ entry budget spans cost any set last start₀ rows₀ steps₀ regs work results start rows steps =
@@ -33,7 +37,7 @@ loop-holds c =
     record {
       bytes = λ i. omega (arith, c .before .before .before .before .before .shared-slice-known2 .given i);
       short = s .pre .0 .1;
-      cheap = omega arith;
+      cheap = cheap (s .args .budget) (s .pre .0 .5);
       clear = s .pre .0 .0;
       same = refl;
       wide = refl;

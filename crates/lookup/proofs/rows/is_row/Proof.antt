@@ -1,5 +1,4 @@
 -- By cases on the tests, in the order of the definition.
-use mathlib.Core.Path.{refl}
 use native.Mathlib.Omega.{arith}
 use borrow.Author.Needs.{needs}
 use borrow.Author.Tests.{eq-eqb, ne-eqb, le-leb, lt-leb}
@@ -31,7 +30,7 @@ returns-3 c = rw (eq-eqb _ rowLength (c .before .before .before .before .if1 .le
 
 spans-hold-requires : tie.Need-spans-hold-requires
 unfolding rowLength
-spans-hold-requires c κs = (c .before .before .before .before .if1 .left, refl, refl)
+spans-hold-requires c κs = c .before .before .before .before .if1 .left
 
 returns-4 : tie.Need-returns-4
 unfolding isRow rowLength

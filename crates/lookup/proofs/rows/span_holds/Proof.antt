@@ -19,11 +19,7 @@ returns-2 c = rw (sym (c .before .before .is-unset .ensures) ∙ c .before .if1 
 
 returns-3 : tie.Need-returns-3
 unfolding spanHolds
-returns-3 c = rw (sym (c .before .before .before .is-unset .ensures) ∙ c .before .before .if1 .left, le-leb _ _ (c .before .if2 .left), lt-leb _ _ (c .if3 .taken))
-
-returns-4 : tie.Need-returns-4
-unfolding spanHolds
-returns-4 c = rw (sym (c .before .before .before .is-unset .ensures) ∙ c .before .before .if1 .left, le-leb _ _ (c .before .if2 .left), le-leb _ _ (c .if3 .left))
+returns-3 c = rw (sym (c .before .before .is-unset .ensures) ∙ c .before .if1 .left, le-leb _ _ (c .if2 .left))
 
 pub span-holds-spec : {M : Type 1} → statement M
-span-holds-spec = tie.close (tie.spec is-unset-requires returns returns-2 returns-3 returns-4)
+span-holds-spec = tie.close (tie.spec is-unset-requires returns returns-2 returns-3)

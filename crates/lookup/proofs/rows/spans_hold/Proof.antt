@@ -12,10 +12,10 @@ use Rattle.lookup.proofs.rows.spans_hold.Statement.{statement}
 use Rattle.lookup.proofs.rows.spans_hold.Tie as tie
 
 abbrev Inv-loop : tie.InvT-loop
-Inv-loop row start end passed₀ passed = (passed ≤ groupLimit) × (spansHold groupLimit row 1 ≡ spansHold (groupLimit - passed) row (suc passed))
+Inv-loop row line passed₀ passed = (passed ≤ groupLimit) × (spansHold groupLimit line row 1 ≡ spansHold (groupLimit - passed) line row (suc passed))
 
 abbrev μ-loop : tie.MeasureT-loop
-μ-loop row start end passed₀ passed = groupLimit - passed
+μ-loop row line passed₀ passed = groupLimit - passed
 
 loop-holds : tie.Need-loop-holds Inv-loop μ-loop
 unfolding groupLimit
@@ -60,8 +60,8 @@ returns : tie.Need-returns Inv-loop μ-loop
 unfolding groupLimit
 returns c =
     let row = now (c .before .before .before .before .before .before .before .args .row) in
-    let known = span-told row _ _ (c .before .before .before .before .before .loop .passed) _ (c .before .before .before .before .before .before .before .pre .1) (c .before .before .before .before .before .before .before .pre .2) (c .before .span-holds .ensures) ∙ not-true _ (c .if1 .taken) in
-    sym (c .before .before .before .before .before .loop .inv .1 ∙ spans-broken row groupLimit (c .before .before .before .before .before .loop .passed) (omega arith) known)
+    let known = span-told _ row (c .before .before .before .before .before .loop .passed) _ (c .before .span-holds .ensures) ∙ not-true _ (c .if1 .taken) in
+    sym (c .before .before .before .before .before .loop .inv .1 ∙ spans-broken _ row groupLimit (c .before .before .before .before .before .loop .passed) (omega arith) known)
 
 add-passed : tie.Need-add-passed Inv-loop μ-loop
 unfolding groupLimit
@@ -75,12 +75,12 @@ loop-again : tie.Need-loop-again Inv-loop μ-loop
 unfolding groupLimit
 loop-again c =
     let row = now (c .before .before .before .before .before .before .before .args .row) in
-    let known = span-told row _ _ (c .before .before .before .before .before .loop .passed) _ (c .before .before .before .before .before .before .before .pre .1) (c .before .before .before .before .before .before .before .pre .2) (c .before .span-holds .ensures) ∙ not-false _ (c .if1 .left) in
-    (omega arith, rw (add-one (c .before .before .before .before .before .loop .passed)) (c .before .before .before .before .before .loop .inv .1 ∙ spans-on row groupLimit (c .before .before .before .before .before .loop .passed) (omega arith) known))
+    let known = span-told _ row (c .before .before .before .before .before .loop .passed) _ (c .before .span-holds .ensures) ∙ not-false _ (c .if1 .left) in
+    (omega arith, rw (add-one (c .before .before .before .before .before .loop .passed)) (c .before .before .before .before .before .loop .inv .1 ∙ spans-on _ row groupLimit (c .before .before .before .before .before .loop .passed) (omega arith) known))
 
 returns-2 : tie.Need-returns-2 Inv-loop μ-loop
 unfolding groupLimit
-returns-2 c = sym (c .before .loop .inv .1 ∙ spans-all (now (c .before .before .before .args .row)) groupLimit (c .before .loop .passed) (omega arith))
+returns-2 c = sym (c .before .loop .inv .1 ∙ spans-all _ (now (c .before .before .before .args .row)) groupLimit (c .before .loop .passed) (omega arith))
 
 pub spans-hold-spec : {M : Type 1} → statement M
 spans-hold-spec =

@@ -4,7 +4,7 @@ use native.Mathlib.Omega.{arith}
 use lib.ListN.{length-set}
 use denote.Ref.{now}
 use borrow.Author.Needs.{needs}
-use Rattle.machine.proofs.Frames.{push-cons}
+use Rattle.machine.proofs.Frames.{push-cons, push-above}
 use Rattle.machine.proofs.stack.push.Statement.{statement}
 use Rattle.machine.proofs.stack.push.Tie as tie
 
@@ -51,7 +51,7 @@ same-length : tie.Need-same-length
 same-length c = search needs
 
 returns : tie.Need-returns
-returns c = (refl, push-cons (now (c .args .work)) _ _ _ _ _ (omega arith))
+returns c = (refl, push-cons (now (c .args .work)) _ _ _ _ _ (omega arith), λ j h. push-above (now (c .args .work)) _ _ _ _ _ j h)
 
 pub push-spec : {M : Type 1} → statement M
 push-spec =

@@ -9,15 +9,12 @@ use Rattle.parts.proofs.openings.name.Tie as tie
 name-at-requires : tie.Need-name-at-requires
 name-at-requires c κs = search needs
 
--- src/openings.rt:75:27
 enum-known-n : tie.Need-enum-known-n
 enum-known-n c = search needs
 
--- src/openings.rt:76:25
 enum-known-n-2 : tie.Need-enum-known-n-2
 enum-known-n-2 c = search needs
 
--- src/openings.rt:77:17
 group-called-requires : tie.Need-group-called-requires
 group-called-requires c κs =
     let start = c .before .before .before .before .before .before .before in
@@ -26,11 +23,9 @@ group-called-requires c κs =
     let l = name-in (a .rule .now) (a .at) (a .start) (n .result) (n .ensures) _ _ _ (c .before .before .n2 .given .1) in
     (start .pre .4, omega (arith, l))
 
--- src/openings.rt:79:17
 same-length : tie.Need-same-length
 same-length c = search needs
 
--- src/openings.rt:79:17
 returns : tie.Need-returns
 returns c =
     let start = c .before .before .before .before .before .before .before .before .before in
@@ -38,7 +33,6 @@ returns c =
     let n = c .before .before .before .before .before .before .name-at in
     name-twice (a .rule .now) (a .at) (a .start) (n .result) (n .ensures) (a .table .now) (a .opened) (c .before .before .before .before .n2 .given .1) (c .before .group-called .ensures .0) (c .if1 .taken)
 
--- src/openings.rt:84:37
 cast-put-name : tie.Need-cast-put-name
 cast-put-name c =
     let start = c .before .before .before .before .before .before .before .before .before .before in
@@ -47,7 +41,6 @@ cast-put-name c =
     let l = name-in (a .rule .now) (a .at) (a .start) (n .result) (n .ensures) _ _ _ (c .before .before .before .before .before .n2 .given .1) in
     omega (arith, l, start .pre .1)
 
--- src/openings.rt:84:50
 cast-put-name-2 : tie.Need-cast-put-name-2
 cast-put-name-2 c =
     let start = c .before .before .before .before .before .before .before .before .before .before in
@@ -56,21 +49,17 @@ cast-put-name-2 c =
     let l = name-in (a .rule .now) (a .at) (a .start) (n .result) (n .ensures) _ _ _ (c .before .before .before .before .before .n2 .given .1) in
     omega (arith, l, start .pre .1)
 
--- src/openings.rt:84:13
 put-name-requires : tie.Need-put-name-requires
 put-name-requires c κs = search needs
 
--- src/openings.rt:85:34
 add-t22 : tie.Need-add-t22
 unfolding groupLimit
 add-t22 c = omega (arith, c .before .before .before .before .before .before .before .before .before .before .before .before .before .pre .2)
 
--- src/openings.rt:85:46
 add-t23 : tie.Need-add-t23
 unfolding groupLimit
 add-t23 c = omega (arith, c .before .before .before .before .before .before .before .before .before .before .before .before .before .pre .2)
 
--- src/openings.rt:69:1
 returns-2 : tie.Need-returns-2
 returns-2 c =
     let start = c .before .before .before .before .before .before in
@@ -78,11 +67,9 @@ returns-2 c =
     let n = c .before .before .before .name-at in
     name-bad (a .rule .now) (a .at) (a .start) (n .result) (n .ensures) (a .table .now) (a .opened) _ (c .before .n .given .1)
 
--- src/openings.rt:69:1
 same-length-2 : tie.Need-same-length-2
 same-length-2 c = search needs
 
--- src/openings.rt:69:1
 returns-3 : tie.Need-returns-3
 returns-3 c =
     let start = c .before .before .before .before .before .before .before .before .before .before .before .before .before in

@@ -12,33 +12,26 @@ use Rattle.parts.proofs.openings.put_name.Tie as tie
 mul-at : tie.Need-mul-at
 mul-at c = search needs
 
--- src/openings.rt:64:5
 mul-table : tie.Need-mul-table
 mul-table c = search needs
 
--- src/openings.rt:64:5
 slice-write-table : tie.Need-slice-write-table
 unfolding spansLength groupLimit
 slice-write-table c = omega arith
 
--- src/openings.rt:65:11
 add-table : tie.Need-add-table
 add-table c = search needs
 
--- src/openings.rt:65:5
 mul-table-2 : tie.Need-mul-table-2
 mul-table-2 c = search needs
 
--- src/openings.rt:65:5
 slice-write-table-2 : tie.Need-slice-write-table-2
 unfolding spansLength groupLimit
 slice-write-table-2 c = simp length-set (omega arith)
 
--- src/openings.rt:59:1
 same-length : tie.Need-same-length
 same-length c = search needs
 
--- src/openings.rt:59:1
 returns : tie.Need-returns
 unfolding spansLength groupLimit
 returns c =

@@ -11,8 +11,8 @@ quantifier-at-requires c κs = search needs
 enum-told : tie.Need-enum-told
 enum-told c = search needs
 
-item-requires : tie.Need-item-requires
-item-requires c κs = search needs
+plain-item-requires : tie.Need-plain-item-requires
+plain-item-requires c κs = search needs
 
 enum-told-2 : tie.Need-enum-told-2
 enum-told-2 c = search needs
@@ -28,7 +28,7 @@ enum-known-x c = search needs
 
 repeated-requires : tie.Need-repeated-requires
 repeated-requires c κs =
-    let u = repeat-ends _ _ _ _ _ _ (sym (c .before .before .before .before .quantifier-at .ensures) ∙ c .before .before .x .given .1) in
+    let u = repeat-ends _ _ _ _ _ _ _ (sym (c .before .before .before .before .quantifier-at .ensures) ∙ c .before .before .x .given .1) in
     search needs
 
 same-length : tie.Need-same-length
@@ -38,7 +38,7 @@ returns : tie.Need-returns
 returns c =
     let start = c .before .before .before .before .before .before .before .before .before in
     let a = start .args in
-    let turn = c .before .before .item in
+    let turn = c .before .before .plain-item in
     other-item (a .rule .now) (a .c) (a .flags) (a .last) (a .kind) (c .before .before .before .before .before .before .quantifier-at .ensures) (turn .result) (c .before .before .before .before .enum-told .given .1) (start .pre .3) (turn .ensures)
 
 returns-2 : tie.Need-returns-2
@@ -60,7 +60,7 @@ returns-4 c =
     let start = c .before .before .before .before .before .before .before .before .before .before in
     let a = start .args in
     let turn = c .before .before .repeated in
-    other-repeat (a .rule .now) (a .c) (a .flags) (a .last) (a .kind) (c .before .before .before .before .before .before .before .quantifier-at .ensures) (turn .result) _ _ _ _ (c .before .before .before .before .before .x .given .1) (turn .ensures)
+    other-repeat (a .rule .now) (a .c) (a .flags) (a .last) (a .kind) (c .before .before .before .before .before .before .before .quantifier-at .ensures) (turn .result) _ _ _ _ _ (c .before .before .before .before .before .x .given .1) (turn .ensures)
 
 pub other-spec : {M : Type 1} → statement M
 other-spec =
@@ -68,7 +68,7 @@ other-spec =
     (tie.spec
     quantifier-at-requires
     enum-told
-    item-requires
+    plain-item-requires
     enum-told-2
     enum-told-3
     unfit-requires

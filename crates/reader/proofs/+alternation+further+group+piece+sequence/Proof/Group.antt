@@ -2,7 +2,7 @@
 use Prim.Native.Nat.{ℕ}
 use native.Mathlib.Omega.{arith}
 use borrow.Author.Needs.{needs}
-use Rattle.reader.proofs.Answers.{moved, naming-on}
+use Rattle.reader.proofs.Answers.{moved, ready-on, naming-on}
 use Rattle.reader.proofs.Groups.{inner-ready, opens, group-unopened, group-refused, group-sound}
 use Rattle.reader.proofs.group.Reads.{Post}
 use Rattle.reader.proofs.+alternation+further+group+piece+sequence.Lts-group as lts
@@ -47,7 +47,7 @@ module _ (t : ℕ) where
       let o = opens (a .rule .now) (a .flags) (a .depth) (a .c) (a .before) (a .table .now) (c .before .before .before .before .before .before .before .before .before .before .before .before .before .before .before .before .opening-at .last .1 .0) (c .before .before .before .before .before .before .before .before .before .before .before .before .before .before .before .before .opening-at .result) (c .before .before .before .before .before .before .before .before .before .before .before .before .before .before .before .before .opening-at .ensures (a .flags)) _ _ _ (c .before .before .before .before .before .before .before .before .before .before .before .before .o2 .given .1) in
       let b = o .begins in
       let m = moved _ _ _ _ _ (c .before .before .r2 .given .1) (c .before .before .before .before .before .before .before .before .alternation .ensures .moved) in
-      search needs
+      (ready-on (inner-ready (start .pre .1 .0) b) m (search needs), b .numbered, omega (arith, b .on, m .on), omega (arith, start .pre .1 .3, m .grown), m .address)
 
   pub same-length : lts.Need-same-length (calls t) (at t) Post
   same-length c = search needs

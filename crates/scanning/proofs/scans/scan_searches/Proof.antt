@@ -41,7 +41,7 @@ search-requires c κs =
     let s = c .before .before .before .before .before .before .before .before .before .before .before in
     let h = s .pre .0 in
     let l = c .before .before .before .loop in
-    ((record { tree = h .tree; stands = h .stands; code-size = h .code-size; subject-fits = h .subject-fits; work-fits = omega (arith, h .work-fits, l .inv .1) }, l .inv .0, c .before .before .before .before .before .find-opening .ensures), l .inv .3 (h .tree) (h .stands) .at .inside)
+    ((record { tree = h .tree; stands = h .stands; code-size = h .code-size; subject-fits = h .subject-fits; work-fits = omega (arith, h .work-fits, l .inv .1); budget-fits = h .budget-fits }, l .inv .0, c .before .before .before .before .before .find-opening .ensures), l .inv .3 (h .tree) (h .stands) .at .inside)
 
 enum-known-found : tie.Need-enum-known-found Inv-loop μ-loop
 enum-known-found c = search needs

@@ -45,7 +45,7 @@ seek-requires c κs =
     let w = rw (c .before .before .before .before .used2 .given .1) at (t .ensures (h .tree) (h .stands)) in
     let n = near-from g (a .from + 1) _ (c .before .before .before .before .used2 .given .0 .0) (c .before .before .next-start .ensures .0) (record { few = omega (arith, s .pre .1); small = omega (arith, w .0) }) in
     rw (between-all (now (a .subject)))
-    ((omega arith, omega arith, rw (c .before .before .next-start .ensures .1) n), (record { tree = h .tree; stands = h .stands; code-size = h .code-size; subject-fits = h .subject-fits; work-fits = omega (arith, h .work-fits, t .kept .1 .1 .1 .0) }, rw (w .1) (g .clear), g .opens))
+    ((omega arith, omega arith, rw (c .before .before .next-start .ensures .1) n), (record { tree = h .tree; stands = h .stands; code-size = h .code-size; subject-fits = h .subject-fits; work-fits = omega (arith, h .work-fits, t .kept .1 .1 .1 .0); budget-fits = h .budget-fits }, rw (w .1) (g .clear), g .opens))
 
 enum-told : tie.Need-enum-told
 enum-told c = search needs
@@ -72,7 +72,7 @@ returns-2 c =
     let g : Lent (now (a .code)) (now (a .subject)) (now (a .regs)) (now (a .work)) (a .entry) (a .budget) (record { cost = a .cost; any = a .any; set = now (a .set) }) = record { held = s .pre .0 .0; clear = s .pre .0 .1; opens = s .pre .0 .2; bytes = λ i. omega (arith, c .before .before .before .before .before .before .before .before .before .before .before .before .before .before .before .before .before .before .before .before .shared-slice-known2 .given i); budget-small = omega arith; cost-small = omega arith } in
     λ x st. (
     let w = rw (c .before .before .before .before .before .before .before .before .before .used2 .given .1) at (c .before .before .before .before .before .before .before .before .before .before .before .before .before .before .before .try-first .ensures x st) in
-    (rw (between-all (now (a .subject))) at (c .before .before .before .before .seek .ensures)) x (searched (now (a .subject)) x (a .budget) (a .from) (a .barred)) st (rw (c .before .before .before .before .before .before .before .next-start .ensures .1) (seeks-from g _ _ _ (c .before .before .before .before .before .before .before .next-start .ensures .0) st (omega arith) (seeks-behind (now (a .subject)) x (a .budget) _ _ (a .from) _ (s .pre .1) (w .2)))))
+    (rw (between-all (now (a .subject))) at (c .before .before .before .before .seek .ensures .0)) x (searched (now (a .subject)) x (a .budget) (a .from) (a .barred)) st (rw (c .before .before .before .before .before .before .before .next-start .ensures .1) (seeks-from g _ _ _ (c .before .before .before .before .before .before .before .next-start .ensures .0) st (omega arith) (seeks-behind (now (a .subject)) x (a .budget) _ _ (a .from) _ (s .pre .1) (w .2)))))
 
 same-length-5 : tie.Need-same-length-5
 same-length-5 c = search needs

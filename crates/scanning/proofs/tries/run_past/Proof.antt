@@ -33,7 +33,7 @@ loop-holds c =
     let s = c .before .before .before .before .before in
     let h = s .pre .0 in
     let a = s .args in
-    (s .pre .1 .size, refl, λ x st. trying-start (a .budget) (a .from) true (length (now (a .work))) (now (a .regs)) st (λ i. omega (arith, c .before .before .before .shared-slice-known2 .given i)) (s .pre .1) (s .pre .2) (enough-room (a .budget) (length (now (a .work))) (h .work-fits)) (c .start .ensures (now (a .regs)) (now (a .work))))
+    (s .pre .1 .size, refl, λ x st. trying-start (a .budget) (a .from) true (length (now (a .work))) (now (a .regs)) st (λ i. omega (arith, c .before .before .before .shared-slice-known2 .given i)) (s .pre .1) (s .pre .2) (enough-room (a .budget) (length (now (a .work))) (h .work-fits)) (h .budget-fits) (c .start .ensures (now (a .regs)) (now (a .work))))
 
 run-to-end-requires : tie.Need-run-to-end-requires Inv-loop μ-loop
 unfolding subjectLimit ruleAreaNeed

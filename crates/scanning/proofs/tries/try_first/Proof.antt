@@ -32,7 +32,7 @@ run-to-end-requires c κs =
     let s = c .before .before .before .before .before .before .before .before in
     let h = s .pre .0 in
     let a = s .args in
-    let g = trying-start {sub = now (a .subject)} (a .budget) (a .from) false (length (now (a .work))) (now (a .regs)) (h .stands) (λ i. omega (arith, c .before .before .before .before .before .before .shared-slice-known2 .given i)) (s .pre .1) (s .pre .2) (enough-room (a .budget) (length (now (a .work))) (h .work-fits)) (c .before .before .start .ensures (now (a .regs)) (now (a .work))) in
+    let g = trying-start {sub = now (a .subject)} (a .budget) (a .from) false (length (now (a .work))) (now (a .regs)) (h .stands) (λ i. omega (arith, c .before .before .before .before .before .before .shared-slice-known2 .given i)) (s .pre .1) (s .pre .2) (enough-room (a .budget) (length (now (a .work))) (h .work-fits)) (h .budget-fits) (c .before .before .start .ensures (now (a .regs)) (now (a .work))) in
     ((s .pre .1 .size, omega (arith, h .subject-fits), omega (arith, h .code-size)), (_, g .rest, g .ready))
 
 same-length-3 : tie.Need-same-length-3
@@ -47,7 +47,7 @@ returns-2 c =
     let s = c .before .before .before .before .before .before .before .before .before .before .before .before .before in
     let h = s .pre .0 in
     let a = s .args in
-    λ x st. rw (c .before .before .before .before .before .before .before .before .if1 .left) (tried-free (trying-start (a .budget) (a .from) false (length (now (a .work))) (now (a .regs)) st (λ i. omega (arith, c .before .before .before .before .before .before .before .before .before .before .before .shared-slice-known2 .given i)) (s .pre .1) (s .pre .2) (enough-room (a .budget) (length (now (a .work))) (h .work-fits)) (c .before .before .before .before .before .before .before .start .ensures (now (a .regs)) (now (a .work)))) _ (c .before .before .before .before .run-to-end .ensures))
+    λ x st. rw (c .before .before .before .before .before .before .before .before .if1 .left) (tried-free (trying-start (a .budget) (a .from) false (length (now (a .work))) (now (a .regs)) st (λ i. omega (arith, c .before .before .before .before .before .before .before .before .before .before .before .shared-slice-known2 .given i)) (s .pre .1) (s .pre .2) (enough-room (a .budget) (length (now (a .work))) (h .work-fits)) (h .budget-fits) (c .before .before .before .before .before .before .before .start .ensures (now (a .regs)) (now (a .work)))) _ (c .before .before .before .before .run-to-end .ensures))
 
 pub try-first-spec : {M : Type 1} → statement M
 try-first-spec =
