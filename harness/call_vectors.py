@@ -11,7 +11,7 @@ from pathlib import Path
 
 import reference
 from reference import DEPOT, ENTRY, FLAGS, GROUPS, I, INDEX, M, PART, ROW, RULE_AREA, S, X
-from walk_vectors import NAMED_READINGS, READINGS, within_references
+from walk_vectors import HELD_READINGS, NAMED_READINGS, READINGS, within_references
 
 TARGET = Path(__file__).resolve().parent.parent / "crates" / "call_vectors"
 RESULTS = 100 * ROW  # the numbers of the largest result area that the program lends, and the whole parts in it
@@ -87,7 +87,7 @@ def sound(rule, flags):
 
 def cases():
     """kind, rule, flags, subject, budget, lengths of the areas, and of the name index where it is not just enough."""
-    for rule, flags, subject in READINGS:
+    for rule, flags, subject in READINGS + HELD_READINGS:
         for kind in (0, 1):
             yield kind, rule, flags, subject, 1000, (RULE_AREA, 16000, RESULTS)
         yield 1, rule, flags, subject, 1000, (RULE_AREA, 16000, ROW)
@@ -160,7 +160,9 @@ def most_groups():
 # What f)'s open points turn on, and each kind of item and of node: rule, flags, line.
 UNFIT = [(b"^abc$", 0, b"abd"), (b"abc", 0, b"abd"), (b"(ab)\\1", 0, b"aba"), (b"a$b", 0, b"a"), (b"(?:a|b)c", 0, b"a"), (b"b*a", 0, b"bb"),
          (b"^tank (\\w+): (\\d+) L$", 0, b"tank A1 820 L"), (b"a{2}b", 0, b"xaac"), (b"(?:ab)*?c", 0, b"abab"), (b"\\b\\d+\\z", 0, b"12 a"),
-         (b"(?<n>a)\\k<n>", I, b"aAb"), (b"(?:a|b|cd)x", 0, b"cdy"), (b"(a)(b)?\\2", 0, b"ab"), (b"[^a]\\Z", 0, b"\nba"), (b"a b", X, b"aa")]
+         (b"(?<n>a)\\k<n>", I, b"aAb"), (b"(?:a|b|cd)x", 0, b"cdy"), (b"(a)(b)?\\2", 0, b"ab"), (b"[^a]\\Z", 0, b"\nba"), (b"a b", X, b"aa"),
+         (b"(?!a|$)", 0, b""), (b"(?=a)", 0, b""), (b"(?!a)b", 0, b"a"), (b"\\Rb", 0, b"\r"), (b"(?=abc)a", 0, b"abd"), (b"a(?!b)c", 0, b"abab"), (b"(?!(?!a))", 0, b"b"),
+         (b"(?>a|ab)c", 0, b"abc"), (b"a++b", 0, b"aac"), (b"(?!(a)b)\\1", 0, b"aa")]
 
 
 def explanations():
@@ -179,7 +181,7 @@ SUCCESSIVE = [(b"(\\d+) L", 0, b"820 L, 64 L"), (b"aa", 0, b"aaaaa"), (b"a??", 0
               (b"a", 0, b""), (b"", 0, b""), (b"\\z", 0, b"a"), (b"a*", 0, b"aab"), (b"a*?", 0, b"aa"), (b"(a?)", 0, b"a"), (b"\\b", 0, b"ab"),
               (b"^a", 0, b"aa"), (b"\\Aa", 0, b"aa"), (b"^a", M, b"aa\na"), (b"$", M, b"a\n\n"), (b"\\ba", 0, b"aa a"), (b"(a)|b", 0, b"ab"),
               (b"(a)|\\1b", 0, b"ab"), (b"(|a)(b?)", 0, b"ab"), (b"(?:a??){3}", 0, b"aaaa"), (b"(|a)*\\1", 0, b"aa"), (b".*", S, b"a\nb"),
-              (b"(?<n>a)|(?<m>B)", I, b"Ab")]
+              (b"(?<n>a)|(?<m>B)", I, b"Ab"), (b"(?>|a)", 0, b"a"), (b"(?=a)", 0, b"aa"), (b"(?!a)", 0, b"ba"), (b"a(?=(b))", 0, b"abab"), (b"\\R", 0, b"\r\n\n"), (b"a*+", 0, b"aab")]
 
 
 def scans():
@@ -204,7 +206,7 @@ def scans():
 # What h)'s open points turn on, apart from the room: rule, flags, buffer.
 DAYS = [(b"(\\d+),(\\d+)", 0, b"1,5\nab\n"), (b"a", 0, b"a\nb\na"), (b"^b$", 0, b"a\nb\nb"), (b"^.$", M | S, b"a\n\nb"), (b"a", 0, b""), (b"", 0, b"\n"),
         (b"a", 0, b"\n\na"), (b"", 0, b"\n\n\n\n"), (b"\\n", 0, b"a\n\n"), (b"a$", 0, b"a\r\na\n"), (b"^\\r$", 0, b"\r\n"), (b"a*", 0, b"aa\n\na"),
-        (b"(a)|b", 0, b"a\nb"), (b"(?<n>a)(?<m>b)?", I, b"AB\na\n"), (b"(?<n>a)", 0, b""), (b"(", 0, b""), (b"a**", 0, b"a\na")]
+        (b"(a)|b", 0, b"a\nb"), (b"a(?!b)", 0, b"a\nb\nab"), (b"a\\R", 0, b"a\r\na\n"), (b"a(?=(b*+))", 0, b"ab\nabb"), (b"(?<n>a)(?<m>b)?", I, b"AB\na\n"), (b"(?<n>a)", 0, b""), (b"(", 0, b""), (b"a**", 0, b"a\na")]
 
 
 def batches():

@@ -194,6 +194,7 @@ def written(t):
     t.writes("odd bytes", b"\x00\t\x1f \x7e\x7f\x80\xff\\x80")
     t.writes("every byte", bytes(b for b in range(256) if b not in b"\n()[]{}*+?|^$\\."))
     t.writes("32 groups", b"()" * 32)
+    t.writes("looking ahead and holding on", rb"(?=(a))(?!(b)c)(?>d|\R)e*+")
     for size in (1, 31, 32, 33, 63, 64, 65, 255, 256, 257, 992, 993, 999, 1000):
         t.writes("%d bytes" % size, b"a" * size, 15, 258)
         t.writes("%d odd bytes" % size, b"\xff" * size)

@@ -106,6 +106,11 @@ def words(t):
     t.on("unset and the standing text", rb"^(?:(?<n>a)|a)$", b"a\n", "line\tanswer\tn\n1\tmatched\ta\n", standing=b"a")
     t.on("unset and another standing text", rb"^(?:(?<n>a)|a)$", b"a\n", "line\tanswer\tn\n1\tambiguous\ta\n", standing=b"b")
     t.on("unset and empty", rb"^(?:(?<n>)|)a$", b"a\n", "line\tanswer\tn\n1\tmatched\t\n")
+    # what is only looked at
+    t.on("a field ahead", rb"a(?=(?<n>b+))", b"abb\na\n", "line\tanswer\tn\n1\tmatched\tbb\n2\tnot matched\t\n")
+    t.on("a field that must not follow", rb"^(?!(?<n>a)b)\w", b"ac\nab\n", "line\tanswer\tn\n1\tmatched\t-\n2\tnot matched\t\n", standing=b"-")
+    t.on("the first of two ahead", rb"^(?=(?<n>a|ab))", b"ab\n", "line\tanswer\tn\n1\tmatched\ta\n")
+    t.on("a held field", rb"^(?>(?<n>a|ab))(?<m>b?)", b"ab\n", "line\tanswer\tn\tm\n1\tmatched\ta\tb\n")
     # no ^ and no $: another start or end is not another reading of the stretch
     t.on("it could begin elsewhere", rb"(?<n>\d+) L", b"150 L\n", "line\tanswer\tn\n1\tmatched\t150\n")
     t.on("it could end elsewhere", rb"^(?<n>\d+)", b"150 L\n", "line\tanswer\tn\n1\tmatched\t150\n")
@@ -203,11 +208,11 @@ def files(t):
 
 def random_rules(t, seed):
     chance = random.Random(seed)
-    atoms = [b"a", b"b", b".", b" ", b"(?<A>a)", b"(?<B>a|ab)", b"(?<C>[ab]+)", b"(?<D>b?)", b"(?<E>\\w*?)", b"(a*)", b"^", b"$", b"(?:(?<F>a)|(?<G>b))", b"(?<H>)", b"\\k<A>", b"[^a]"]
+    atoms = [b"a", b"b", b".", b" ", b"(?<A>a)", b"(?<B>a|ab)", b"(?<C>[ab]+)", b"(?<D>b?)", b"(?<E>\\w*?)", b"(a*)", b"^", b"$", b"(?:(?<F>a)|(?<G>b))", b"(?<H>)", b"\\k<A>", b"[^a]", b"(?=(?<I>\\w+))", b"(?!(?<J>a)b)", b"(?>(?<K>a|ab))", b"\\R"]
     done = 0
-    while done < 300:
+    while done < 350:
         chosen = [chance.choice(atoms) for _ in range(chance.randint(1, 5))]
-        rule = b"".join(a + chance.choice([b"", b"", b"", b"*", b"?", b"+?", b"{1,2}"]) for a in chosen)
+        rule = b"".join(a + chance.choice([b"", b"", b"", b"*", b"?", b"+?", b"{1,2}", b"*+"]) for a in chosen)
         flags = chance.choice([0, 0, 1, 2, 4])
         try:
             reference.read(rule, flags)

@@ -97,7 +97,8 @@ def made():
     yield "megabytes with no 0A", write_file(b"a" * 5000000), b"a\n", b"R 1 0\n"
     yield "megabytes behind the rule", write_file(b"a\n" + b"(" * 5000000), b"a\nb\n", b"M 0 1\nN\n"
     rng = random.Random(7)
-    for k, rule in enumerate([b"(a)|(b)*c", b"^(\\d+)(?:-(\\d+))?$", b"(a*)*b", b"(\\w+) (\\w+)", b"(?<word>\\w+) (?:\\k<word>|(?<rest>\\d+))"]):
+    for k, rule in enumerate([b"(a)|(b)*c", b"^(\\d+)(?:-(\\d+))?$", b"(a*)*b", b"(\\w+) (\\w+)", b"(?<word>\\w+) (?:\\k<word>|(?<rest>\\d+))",
+                              b"(\\w)(?!\\1)(?=(\\w*+))\\w", b"^(?>(a|ab)c|(\\d++))|b(?=(\\R))"]):
         lines = [bytes(rng.choice(b"ab c-129\r\x00\xff") for _ in range(rng.choice([0, 1, 3, 9, 30, 255, 256, 257, 300, 70000]))) for _ in range(60)]
         data = b"\n".join(lines)
         yield f"random lines {k}", write_file(rule + b"\n"), data, expected(rule, data)

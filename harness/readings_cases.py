@@ -54,7 +54,9 @@ def block(line, rows, groups, margin):
 
 
 def item(rule, flags, place):
-    """The own text of the item at a place, repeats and all."""
+    """The own text of the item at a place, repeats and all; of a `(?!` its opening."""
+    if rule[place:place + 3] == b"(?!":
+        return b"(?!"
     p = reference.Parser(rule, flags)
     p.i = place
     p.atom()
@@ -62,7 +64,7 @@ def item(rule, flags, place):
     p.blanks()
     repeat = p.quant()
     if repeat is not None:
-        end = repeat[3] + (rule[repeat[3]:repeat[3] + 1] == b"?")
+        end = repeat[3] + (rule[repeat[3]:repeat[3] + 1] in (b"?", b"+"))
     return rule[place:end]
 
 
@@ -260,7 +262,7 @@ def refusals(t):
              14: (b"[a", "this class is not closed by ]"), 16: (b"[[:no:]]", "no set has this name"),
              17: (b"*", "a repeat with nothing before it that it could repeat"),
              18: (b"a{256}", "a { that begins no repeat, or a repeat over 255 or with its bounds the wrong way round"),
-             22: (b"(?a)", "(? is followed by neither : nor <"), 23: (b"()" * (GROUPS + 1), "one group too many; a rule has at most %d" % GROUPS),
+             22: (b"(?a)", "(? is followed by none of : < > = and !"), 23: (b"()" * (GROUPS + 1), "one group too many; a rule has at most %d" % GROUPS),
              24: (b"(" * 25, "the 25th bracket inside another; they nest at most 24 deep"), 25: (b"\\k<", "a name is missing, malformed or not closed"),
              26: (b"(?<n>)(?<n>)", "this name is used twice")}
     for number, (rule, meaning) in rules.items():
@@ -385,6 +387,16 @@ line 1: 2 readings
      group 3      1-1 empty
      group 4   ^  1-2
 """ + summary(1, ambiguous="1"))
+    t.on("a group behind what the reading took", rb"a|a(?=(b))", b"ab", out="""\
+line 1: 2 readings
+              ab
+   reading 1  -   0-1
+   reading 2  -   0-1
+     group 1   ^  1-2
+""" + summary(1, ambiguous="1"))
+    t.on("a held group has one reading", rb"^(?>(a*))(a*)$", b"aaa", out="line 1: 1 reading\n" + summary(1, once=1))
+    t.on("a group ahead, in another window", rb"^(?:a|(a))(?=a*(b))", b"a" * 70 + b"b")
+    t.on("line ends", rb"^(\R*)(\R*)$|^(\R*+)(\R*)$", b"\r\x0b\x85\n\r\n")
     t.on("exhausted at once", rb"a*", b"aa", budget=6, out="line 1: exhausted at start 0, 0 readings until then\n              aa\n" + summary(1, exhausted="1"))
     t.on("exhausted with one reading", rb"a*", b"aa", budget=7, out="""\
 line 1: exhausted at start 0, 1 reading until then
@@ -548,6 +560,11 @@ line 3: not matched
     told_why(t, "a place", rb"^\d+\bL", b"10L", "--^", " ^^^^^", "It fits up to `10`; then `\\d+` or `\\b` was expected, and `L` was found.")
     told_why(t, "a repeat behind a blank", rb"^ \d {2} \  L $ # two digits", b"1 L", "-^", "  ^^^^^^", "It fits up to `1`; then `\\d {2}` was expected, and a blank was found.", flags=8)
     told_why(t, "no repeat behind blanks", rb"^ \d   L # one digit", b"1 L", "-^", "       ^", "It fits up to `1`; then `L` was expected, and a blank was found.", flags=8)
+    told_why(t, "what must not follow", rb"^tank (?!0)\d+ L$", b"tank 07 L", "-----^", "      ^^^", "It fits up to `tank `; then `(?!` was expected, and `0` was found.")
+    told_why(t, "an item ahead", rb"^(?=\d+ L)\d+", b"15 kg", "---^", "        ^", "It fits up to `15 `; then `L` was expected, and `k` was found.")
+    told_why(t, "a line end", rb"^a\R$", b"a b", "-^", "  ^^", "It fits up to `a`; then `\\R` was expected, and a blank was found.")
+    told_why(t, "a line end that is repeated", rb"^a\R{2}+$", b"a\r", "--^", "  ^^^^^^", "It fits up to `a.`; then `\\R{2}+` was expected, and the line's end was found.", dots=1)
+    told_why(t, "a possessive run", rb"^\d++,", b"12.", "--^", " ^^^^^", "It fits up to `12`; then `\\d++` or `,` was expected, and `.` was found.")
     told_why(t, "ignoring case", rb"^TANK$", b"tang", "---^", "    ^", "It fits up to `tan`; then `K` was expected, and `g` was found.", flags=4)
     told_why(t, "names", rb"^(?<tank>[A-C]\d) \k<tank>!", b"A1 A2", "---^", "                  ^^^^^^^^", "It fits up to `A1 `; then `\\k<tank>` was expected, and `A` was found.")
     told_why(t, "32 bytes", rb"^a*b", b"a" * 32, "-" * 32 + "^", " ^^^", "It fits up to `%s`; then `a*` or `b` was expected, and the line's end was found." % ("a" * 32))
@@ -602,10 +619,10 @@ def unwritten(t):
 def random_rules(t, seed):
     chance = random.Random(seed)
     atoms = [b"a", b"b", b"A", b".", b" ", b"\\d", b"(a)", b"(a|B)", b"(?:a|ab)", b"(b ?)", b"^", b"$", b"([aB]+)", b"(\\w)", b"[^A]", b"[[:upper:]]", b"(?<n>a+)", b"(?<m>[bB])", b"\\k<n>",
-             b"\\g{m}", b"(?<thirteen_long>a|\\w)", b"(?<sixteen_letters_>a?)"]
-    for n in range(150):
-        rule = b"".join(chance.choice(atoms) + chance.choice([b"", b"", b"", b"*", b"?", b"+?", b"{1,2}"]) for _ in range(chance.randint(1, 4)))
-        lines = [bytes(chance.choice(b"aAabB1 \t\xe9\xc9") for _ in range(chance.choice([0, 1, 2, 3, 5, 8, 70]))) for _ in range(chance.randint(1, 6))]
+             b"\\g{m}", b"(?<thirteen_long>a|\\w)", b"(?<sixteen_letters_>a?)", b"(?=(a+))", b"(?!b(B)?)", b"(?>a|ab)", b"(?>(\\w*))", b"\\R"]
+    for n in range(180):
+        rule = b"".join(chance.choice(atoms) + chance.choice([b"", b"", b"", b"*", b"?", b"+?", b"{1,2}", b"*+", b"{1,2}+"]) for _ in range(chance.randint(1, 4)))
+        lines = [bytes(chance.choice(b"aAabB1 \t\r\xe9\xc9") for _ in range(chance.choice([0, 1, 2, 3, 5, 8, 70]))) for _ in range(chance.randint(1, 6))]
         flags, budget = chance.randrange(16), chance.choice([0, 5, 30, 300, 1000, 1001, 5000])
         try:
             reference.read(rule, flags)
@@ -621,9 +638,9 @@ def random_reasons(t, seed):
     atoms = {b"a": b"a", b"b": b"b", b"A": b"A", b".": b"-", b" ": b" ", b"\xe9": b"\xe9", b"\t": b"\t", b"#": b"#", b"\\d": b"7", b"\\W": b"-", b"\\x61": b"a", b"\\x{62}": b"b", b"\\o{61}": b"1",
              b"\\01": b"\x01", b"\\cA": b"\x01", b"\\-": b"-", b"\\ ": b" ", b"[ab]": b"b", b"[^]a]": b"B", b"[a-c\\d]": b"c", b"[[:^alpha:]b-]": b"-", b"\\b": b"", b"\\B": b"", b"\\Z": b"", b"$": b"",
              b"^": b"", b"\\1": b"a", b"\\g1": b"b", b"\\g{-1}": b"a", b"\\k<n>": b"ab", b"\\k'n'": b"1", b"\\g{n}": b"a", b"(a|b)": b"a", b"(?<n>ab?|\\d+)": b"ab", b"(?:a|[bB]*|\\d{2})": b"bb",
-             b"a#b": b"a#b"}
-    repeats = [b"", b"", b"", b"", b"*", b"?", b"+?", b"{1,2}", b"{2}?", b"{0,}", b" *", b" {2}"]
-    for n in range(400):
+             b"a#b": b"a#b", b"(?=a)": b"", b"(?=(\\d| )b?)": b"", b"(?!b)": b"", b"(?!(a)b|\\d)": b"", b"(?>ab?|\\d+)": b"ab", b"\\R": b"\r"}
+    repeats = [b"", b"", b"", b"", b"*", b"?", b"+?", b"{1,2}", b"{2}?", b"{0,}", b" *", b" {2}", b"*+", b"++", b" {2}+"]
+    for n in range(480):
         picked = [chance.choice(list(atoms)) for _ in range(chance.choice([1, 2, 3, 4, 6, 12, 40]))]
         rule = b"^" * (chance.random() < 0.7) + b"".join(atom + chance.choice(repeats) for atom in picked) + b"$" * (chance.random() < 0.7)
         flags = chance.randrange(16)
@@ -634,7 +651,7 @@ def random_reasons(t, seed):
         lines = []
         for _ in range(6):
             fitting = b"".join(atoms[atom] * chance.choice([1, 1, 1, 2]) for atom in picked[:chance.randint(0, len(picked))])
-            lines.append(fitting + bytes(chance.choice(b"aaabbAB11 #-\t\x01\xe9") for _ in range(chance.choice([0, 1, 2, 3, 70]))))
+            lines.append(fitting + bytes(chance.choice(b"aaabbAB11 #-\t\x01\xe9\r") for _ in range(chance.choice([0, 1, 2, 3, 70]))))
         t.on("random reasons %d, rule %r" % (n, rule), rule, b"\n".join(lines), flags=flags, budget=chance.choice([50, 1000, 5000]))
 
 

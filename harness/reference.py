@@ -20,6 +20,10 @@ H=frozenset({9,32,0xa0}); V=rng((10,13),(0x85,0x85)); ALL=frozenset(range(256))
 def fold(t): return frozenset(t)|frozenset(b^32 for b in t if b in AL)
 WORD='0123456789abcdefghijklmnopqrstuvwxyzABCDEFGHIJKLMNOPQRSTUVWXYZ_'
 LET={'d':D,'w':SETS['word'],'s':SETS['space'],'h':H,'v':V}
+def line_break(at):
+    """\\R as 02 writes it: (?>\\x0D\\x0A|[\\x0A-\\x0D\\x85]), all of it at its place"""
+    def one(*bs): return ('set',at,frozenset(bs))
+    return ('held',at,('alt',[('seq',[one(13),one(10)]),('seq',[one(10,11,12,13,0x85)])]))
 class Parser:
     def __init__(s,r,flags): s.r=r; s.flags=flags; s.i=0; s.opened=0; s.refs=[]; s.names={}
     def fold(s,t): return fold(t) if s.flags&I else frozenset(t)
@@ -90,9 +94,10 @@ class Parser:
                 if last in('none','place'): raise Refuse(17,at)
                 if not ok: raise Refuse(18,at)
                 if last=='rep': raise Refuse(19,at)
-                lazy=False
-                if s.ch(e)=='?': lazy=True; e+=1
-                items[-1]=('rep',at,n,m,lazy,items[-1]); last='rep'; s.i=e; continue
+                lazy=s.ch(e)=='?'; possessive=s.ch(e)=='+'
+                items[-1]=('rep',at,n,m,lazy,items[-1]); last='rep'; s.i=e+(lazy or possessive)
+                if possessive: items[-1]=('held',e,items[-1])
+                continue
             if s.ch(at)=='(':
                 items.append(s.group(depth)); last='item'; continue
             it=s.atom(); items.append(it); last='place' if it[0]=='place' else 'item'
@@ -100,9 +105,10 @@ class Parser:
     def group(s,depth):
         at=s.i; plain=s.ch(at+1)!='?'; named=not plain and s.ch(at+2)=='<'
         if not plain and not named:
-            if s.ch(at+2)!=':': raise Refuse(22,at)
+            form=s.ch(at+2)
+            if not form or form not in ':>=!': raise Refuse(22,at)
             if depth>=24: raise Refuse(24,at)
-            s.i=at+3; t=s.alt(depth+1,at); g=t
+            s.i=at+3; t=s.alt(depth+1,at); g={':':t,'>':('held',at,t),'=':('look',at,False,t),'!':('look',at,True,t)}[form]
         else:
             if s.opened>=GROUPS: raise Refuse(23,at)
             if depth>=24: raise Refuse(24,at)
@@ -160,6 +166,7 @@ class Parser:
     def escape(s,at):
         c=s.ch(at+1)
         if c=='N': s.i=at+2; return ('set',at,ALL-{10})
+        if c=='R': s.i=at+2; return line_break(at)
         if c and c in 'AzZbB': s.i=at+2; return ('place',at,c)
         if c=='0': return ('set',at,s.fold({s.octal(at,3)}))
         if c and c in '123456789':
@@ -230,11 +237,15 @@ def least(t):
     if y in('set','place','ref'): n=int(y=='set')
     elif y=='seq': n=sum(map(least,t[1]))
     elif y=='alt': n=min(map(least,t[1]))
-    elif y=='group': n=least(t[2])
+    elif y in('group','held'): n=least(t[2])
+    elif y=='look': n=0
     else: n=t[2]*least(t[5])
     return min(n,65536)
 W=SETS['word']
 class Done(Exception): pass
+class First(Exception):
+    """the first end of a part: where, and the captures"""
+    def __init__(s,at,caps): s.at=at; s.caps=caps
 class Walk:
     """steps in order: calls on_end(at,caps) at each end; raises Done when the callback says so or the budget ends. missed has the items that
     failed: where in the line they were tried, and where in the rule they stand"""
@@ -264,6 +275,13 @@ class Walk:
             def closed(j,c):
                 s.step(); c=dict(c); c[n]=(i,j); k(j,c)
             return s.go(t[2],i,caps,closed)
+        if y=='held':
+            s.step(); f=s.first(t[2],i,caps)
+            return f and k(*f)
+        if y=='look':
+            s.step(); tried=len(s.missed); f=s.first(t[3],i,caps)
+            if t[2] and f: s.missed.insert(tried,(i,t[1])); return # it was tried before all that is inside
+            return k(i,caps) if t[2] else f and k(i,f[1])
         if y in('set','place','ref'):
             s.step(); j=s.tried(t,i,caps)
             if j is None: s.missed.append((i,t[1])); return
@@ -280,6 +298,11 @@ class Walk:
                 else: rnd(); k(i,caps)
             return decide(0,False,i,caps)
         raise Exception(y)
+    def first(s,t,i,caps):
+        """where the first derivation of a part ends, and its captures, with the step of the inner end; None if it has none"""
+        def end(j,c): s.step(); raise First(j,c)
+        try: s.go(t,i,caps,end)
+        except First as f: return f.at,f.caps
     def tried(s,t,i,caps):
         """where an item that is tried at i leads, or None if it fails; each byte that a reference compares is a step"""
         if t[0]=='set': return i+1 if i<len(s.sub) and s.sub[i] in t[2] else None
@@ -316,7 +339,7 @@ def field(name,idx,line,kind,row,standing):
     start,end=row[0],row[1]
     pairs=[(row[2*k+2],row[2*k+3]) for k in range(GROUPS)]
     if start>end or end>len(line): return 1,0,0
-    if any(p!=(U,U) and not start<=p[0]<=p[1]<=end for p in pairs): return 1,0,0
+    if any(p!=(U,U) and not p[0]<=p[1]<=len(line) for p in pairs): return 1,0,0
     a,b=pairs[hits[0]]
     return (1,0,len(standing)) if (a,b)==(U,U) else (0,a,b)
 def match(rule,flags,sub,budget,walks=None):

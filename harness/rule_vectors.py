@@ -254,8 +254,25 @@ PROFILE = [
     b"(" * 24 + b"a?" + b")*" * 24, b"(" * 24 + b"a" + b")*" * 24, b"(" * 24 + b"a" + b")+" * 24,
 ]
 
+# What looks ahead or holds on: sound ones, nesting, and each way in which they are refused.
+HELD = [
+    b"(?=a)", b"(?!a)", b"(?>a)", b"(?=)", b"(?!)", b"(?>)", b"(?=(a))\\1", b"(?!(a))\\1", b"(?>(a)|(b))", b"(?=(?!(?>a)))", b"(?=a)*", b"(?!a)+?", b"(?>a){2}", b"(?=a)*+", b"\\R", b"\\R*", b"\\R{2}?", b"\\R++", b"a\\Rb",
+    b"a*+", b"a++", b"a?+", b"a{2}+", b"a{2,}+", b"a{2,3}+", b"()*+", b"[a]?+", b"\\d++", b".*+", b"()\\1*+", b"(?<a>)\\k<a>?+",
+    b"(?=", b"(?!", b"(?>", b"(?=a", b"(?!(a)", b"a(?>", b"(?=a))", b"(?=*)", b"(?!{2})", b"(?>a|+)", b"(?=^*)", b"(?=[)", b"(?=\\)", b"(?>\\q)", b"(?=)**", b"(?!a)*+?", b"(?=\\1)", b"(?!(a))\\2", b"(?=(?<a>))(?!(?<a>))",
+    b"a*+?", b"a*++", b"a+++", b"a?+?", b"a?++", b"a{2}++", b"a{2}+{3}", b"a*+*", b"a*?+", b"a+?+", b"a??+", b"a{2}?+", b"a**+", b"a*+{2}", b"a*+{256}", b"a*+{2,1}", b"a*+{", b"a{,2}+", b"a{256}+", b"++", b"*+", b"(++)", b"a|++", b"^++", b"\\b*+",
+    b"(?", b"(?#a)", b"(?|a)", b"(?i)", b"(?i:a)", b"(?^:a)", b"(?*a)", b"(?+1)", b"(?-1)", b"(?0)", b"(?R)", b"(?P=a)", b"(?P>a)", b"(?[a])", b"(?{a})", b"(??{a})", b"(?(1)a)", b"(?<=a)", b"(?<!a)", b"(?<>a)", b"(?=:a)", b"(?:=a)",
+    b"[\\R]", b"[^\\R]", b"[a-\\R]", b"[\\R-a]", b"[\\w-\\R]", b"[\\R", b"\\R(", b"(\\R", b"\\R**", b"\\r\\R\\RR",
+    *(opening * n + b"a" + b")" * n for opening in (b"(?=", b"(?!", b"(?>") for n in (24, 25)), b"(?:" * 24 + b"\\R*+" + b")" * 24, b"(?:" * 24 + b"(?=", b"(?=(?!" * 12 + b"(", b"(?>(" * 12 + b"\\R" + b"))" * 12, b"(?>(" * 13,
+    MOST + b"(?=a)(?!a)(?>a)", MOST + b"(?=())", b"(?=()" * 24 + b")" * 24, b"\\R" * 500, b"a++" * 333, b"(?=)" * 250, b"(?=" * 24 + b"\\R?+" * 226 + b")" * 24,
+]
+# The same under the depot profile.
+HELD_PROFILE = [
+    b"(?=a)", b"(?!a)b", b"(?>a)*", b"\\R", b"\\R*", b"\\R{0,}+", b"a*+", b"(?:a++)*", b"(?:(?=a)b)*", b"(?>a|bc)*", b"(?=a*)", b"(?=a){2}", b"(?=a)*", b"(?!a)+", b"(?=a)*+", b"(?=a){2,}?", b"(?>a?)*", b"(?>a|)*", b"(?>)*", b"(a?)*+",
+    b"(?:a*+)*", b"(?:(?=ab))*", b"(?=()*)", b"(?!(?:a?)+)", b"(?>(?:^)*)", b"(?=(a)\\1)", b"(?!()*\\1)", b"(?=[A-z])", b"[\\R]", b"(?=a)*[A-z]", b"(?:\\R?)*", b"(?:(?>a{0})|b)*", b"(?>(?>(?>a)))*", b"(?:(?!a)\\R)*+",
+]
+
 # Rules whose parts blanks must not stand in: one is put at each of their places.
-WHOLE = [b"(?<a>)\\k<a>*", b"(?<b>)\\g{b}", b"(?:a){1,2}?", b"()\\g{-1}*?", b"\\x{41}\\x4a+", b"\\o{7}\\cA\\012", b"[[:^digit:]a-z]??", b"()|\\1", b"^a*$"]
+WHOLE = [b"(?=a)*+", b"(?!\\R)b", b"(?>a){2}+", b"(?<a>)\\k<a>*", b"(?<b>)\\g{b}", b"(?:a){1,2}?", b"()\\g{-1}*?", b"\\x{41}\\x4a+", b"\\o{7}\\cA\\012", b"[[:^digit:]a-z]??", b"()|\\1", b"^a*$"]
 
 # Folding moves no verdict: the ends of a range are compared as they are written.
 LETTERS = [b"[a-Z]", b"[Z-a]", b"[z-A]", b"[A-a]", b"[\\x41-\\x5a]", b"[a-\\w]", b"[[:UPPER:]]", b"[[:^upper:]]", b"\\Q", b"\\D", b"(A)\\1"]
@@ -281,6 +298,12 @@ def rules():
     yield from PRECEDENCE
     yield from NO_BREAK_SPACES
     yield from NAMES
+    yield from HELD
+    # each byte behind `(?` and behind a possessive repeat
+    for b in range(256):
+        yield b"(?" + bytes([b]) + b"a)"
+        yield b"a*" + bytes([b])
+        yield b"a*+" + bytes([b])
     # each byte in a name and behind it, and those that could begin or end one
     for b in range(256):
         yield b"(?<" + bytes([b]) + b">)"
@@ -320,7 +343,7 @@ def main():
     cases += [(rule, X) for rule in dict.fromkeys(rules_under_x())]
     cases += [(rule, I) for rule in LETTERS]
     cases += [(rule, flags) for flags in (I, X, I | X) for rule in (b"(?<a>)(?<A>)\\k<A>", b"(?<a>)\\k<A>", b"(?<a>#)\n)\\k<a> *", b"(?<#>)\n)", b"(?<a>) \\g {a}", b"(?<a>)(?<a>)")]
-    cases += [(rule, DEPOT) for rule in PROFILE]
+    cases += [(rule, DEPOT) for rule in PROFILE + HELD_PROFILE]
     cases += [(rule, DEPOT | I) for rule in (b"[Z-a]", b"[a-Z]", b"[A-Z]", b"[z-z]", b"(A)\\1")]
     cases += [(rule, DEPOT | X) for rule in (b"( )  *", b"( a ) +", b"( #a\n ) #\n *", b"(a) \\1", b"[A-z] (", b"[ -a]", b"a#[A-z]", b"a *#*", b" \\ *")]
     cases += [(rule, flags) for flags in range(FLAGS) for rule in (b"^ *", b". *", b"[A-z]  {2 }", b"(a) \\1#\\2")]

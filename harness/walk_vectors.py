@@ -38,6 +38,14 @@ READINGS = [
     (b"(\\d+),(\\d+)", DEPOT, b"1,5"), (b"(?:a+)*", DEPOT, b"aa"), (b"(?:ab|c)*?$", DEPOT, b"cab"), (b"[a-z]+(?:,[0-9]{3})*", DEPOT, b"ab,500"), (b"(){0,9}", DEPOT, b""), (b"(a?){2}", DEPOT, b"a"),
     (b"(a?)*", DEPOT, b"a"), (b"(a)\\1", DEPOT, b"aa"), (b"[A-z]", DEPOT, b"a"), (b"()*\\1", DEPOT, b""),
 ]
+# The same for what looks ahead or holds on.
+HELD_READINGS = [
+    (b"(?=a)", 0, b"a"), (b"(?!b)", 0, b"a"), (b"(?!a)", 0, b"a"), (b"(?!)", 0, b""), (b"(?=)(?>)", 0, b""), (b"\\R", 0, b"\n"), (b"\\R", 0, b"\r\n"), (b"\\R\\n", 0, b"\r\n"), (b"\\R*b", 0, b"\r\r\n\x0b\x85b"),
+    (b"a*+", 0, b""), (b"a{2}+", 0, b"aa"), (b"a++a", 0, b"aaa"), (b"a?+a", 0, b"aa"), (b"(?:ab|a)*+c", 0, b"abac"), (b"(?>a|b)", 0, b"b"), (b"(?>a|ab)c", 0, b"abc"), (b"(?>a*?)a", 0, b"aa"), (b"(?>a|a)", 0, b"a"),
+    (b"(?=(a))\\1", 0, b"a"), (b"(?!(a)b)a", 0, b"a"), (b"(?!(a)b)\\1a", 0, b"a"), (b"(a)(?!\\1)", 0, b"aab"), (b"(?=(a))b|a", 0, b"a"), (b"(?:(?=(a))a|b)*", 0, b"ab"), (b"(?>(a)|b)*", 0, b"ab"), (b"(a(?!\\1))+", 0, b"aa"),
+    (b"a(?=(b))", 0, b"ab"), (b"(?=(a|ab))", 0, b"ab"), (b"(?=(a))?", 0, b"a"), (b"(?=a)*", 0, b"a"), (b"(?=a){2}", 0, b"a"), (b"(?!a)*", 0, b"a"), (b"(?=a)*+a", 0, b"a"), (b"(?!(?!a))", 0, b"a"), (b"(?=(?>a|ab)c)", 0, b"abc"),
+    (b"(?!a*b)", 0, b"aaa"), (b"(?=(aa)\\1)", 0, b"aaaa"), (b"((?!\\1)){2}", 0, b""), (b"(?=A)a", I, b"a"), (b"(?= a ) a ++ # b", X, b"aa"), (b"a* +", X, b""), (b"(?=a)*", DEPOT, b"a"), (b"\\R*", DEPOT, b"\n"), (b"a*+?", 0, b""),
+]
 # The same with names.
 NAMED_READINGS = [
     (b"(?<litres>\\d+)=\\k<litres>", 0, b"7=7"), (b"(?<a>b|c\\g{a})+", 0, b"bcb"), (b"\\k'a'(?<a>b)", 0, b"bb"), (b"(?:\\k{a}c|(?<a>b))+", 0, b"bbc"), (b"(?<a>b)(?<A>c)\\k<A>", I, b"bcC"),
@@ -48,11 +56,12 @@ MANY_GROUPS = [
     (b"(a)" * (GROUPS // 2) + b"(b)?" * 2 + b"(c)?" * (GROUPS // 2 - 2) + b"\\%d?" % (GROUPS // 2 + 1), b"a" * (GROUPS // 2) + b"bb"), (b"(" * 24 + b"a" + b")" * 24 + b"(b)" * (GROUPS - 24) + b"\\%d" % GROUPS, b"a" + b"b" * (GROUPS - 23)),
     (b"(?:" + b"(a)|" * (GROUPS - 1) + b"(b))*\\%d" % GROUPS, b"abb"), (b"()" * GROUPS + b"\\%d" % (GROUPS + 1), b""), (b"()" * (GROUPS + 1), b""), (b"()" * (GROUPS - 1) + b"(?<n>a)\\k<n>", b"aa"),
 ]
-ATOMS = ["a", "b", "c", ".", "^", "$", "\\b", "\\B", "\\A", "\\z", "\\Z", "\\d", "\\w", "[ab]", "[^a]", "[a-c]", "\\1", "\\2", "\\g-1", "\\n", "1", "\\N"]
+ATOMS = ["a", "b", "c", ".", "^", "$", "\\b", "\\B", "\\A", "\\z", "\\Z", "\\d", "\\w", "[ab]", "[^a]", "[a-c]", "\\1", "\\2", "\\g-1", "\\n", "1", "\\N", "\\R"]
 FOLDED = ["A", "B", "[A-B]", "[^B]", "[[:upper:]]", "[[:^lower:]]", "[Z-a]", "\\x41", "(A)", "\\1"]  # what `i` makes a difference to
 BLANKS = [" ", "\t", "\n", "\x0b", "#\n", "# (\n"]  # what `x` skips
 NAMED = ["(?<%s>a)", "(?<%s>a|b)", "(?<%s>[ab]*)", "(?<%s>)", "\\k<%s>", "\\k{%s}", "\\k'%s'", "\\g{%s}"]  # with one of two names, which may be used twice or never
-REPEATS = ["*", "+", "?", "*?", "+?", "??", "{2}", "{0,2}", "{1,}", "{1,2}?", "{0}"]
+REPEATS = ["*", "+", "?", "*?", "+?", "??", "{2}", "{0,2}", "{1,}", "{1,2}?", "{0}", "*+", "?+", "{1,2}+"]
+OPENINGS = ["", "", "", "?:", "?:", "?:", "?>", "?=", "?!"]
 
 
 def blank(flags):
@@ -66,7 +75,7 @@ def random_rule(depth, flags=0, named=False):
         text = blank(flags)
         for _ in range(random.randint(0, 3)):
             if depth > 0 and random.random() < 0.4:
-                part = "(" + random.choice(["", "?:"]) + random_rule(depth - 1, flags, named) + ")"
+                part = "(" + random.choice(OPENINGS) + random_rule(depth - 1, flags, named) + ")"
             elif named and random.random() < 0.5:
                 part = random.choice(NAMED) % random.choice(["n", "m"])
             else:
@@ -99,7 +108,7 @@ def told(rule, flags, subject, start, budget):
 
 
 def cases():
-    for rule, flags, subject in READINGS + NAMED_READINGS:
+    for rule, flags, subject in READINGS + NAMED_READINGS + HELD_READINGS:
         for start in range(len(subject) + 1):
             yield rule, flags, subject, start, 20000
         steps = told(rule, flags, subject, 0, 20000)[1]

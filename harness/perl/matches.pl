@@ -1,15 +1,19 @@
 # Reads one question a line: flags, the character set's modifier (`a`, or nothing for `/d`), rule and subject in hex, the number of groups, and 1 for
 # all matches by `/g` or 0 for the first one, with tabs between them.
-# Answers on one line each: `failed` for a rule refused or a panic, `slow` for a match that takes more than ten seconds, `none`, or start, end and
-# the span of each group that is set. Behind the first match stands each name that `%-` has, with what `%+` has of it in hex, or `-` for nothing;
+# Answers on one line each: `failed` for a rule refused or a panic, `slow` for a match that takes more than ten seconds, and then nothing more, `none`, or
+# start, end and the span of each group that is set. Behind the first match stands each name that `%-` has, with what `%+` has of it in hex, or `-` for nothing;
 # between all matches stand bars.
 # The rule stands in a variable, so that nothing in it is interpolated.
 use strict;
 no warnings;
 use POSIX ();
 $| = 0;
-# Taken at once, and not between two of Perl's own steps: a match is one of these.
-POSIX::sigaction(POSIX::SIGALRM(), POSIX::SigAction->new(sub { die "slow\n" }));
+# Taken at once, and not between two of Perl's own steps: a match is one of these. Nothing can be done after one that was broken off: Perl may crash.
+POSIX::sigaction(POSIX::SIGALRM(), POSIX::SigAction->new(sub {
+    print "slow\n";
+    $| = 1;
+    POSIX::_exit(0);
+}));
 
 # The match that was just made.
 sub row {
@@ -49,5 +53,5 @@ while (my $line = <STDIN>) {
         $all ? all_matches($compiled, $subject, $groups) : first_match($compiled, $subject, $groups);
     };
     alarm 0;
-    print defined $answer ? $answer : $@ eq "slow\n" ? "slow" : "failed", "\n";
+    print defined $answer ? $answer : "failed", "\n";
 }

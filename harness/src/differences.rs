@@ -18,7 +18,7 @@ pub enum Class {
     EmptyClass = 4,
     /// 5: `$` before a byte 00, directly or with what `x` skips between them.
     DollarBeforeZero = 5,
-    /// 8: PCRE2 unrolls a bounded repeat and does not stop after an empty round.
+    /// 8: PCRE2 unrolls a bounded repeat, and any of a `(?=`, and does not stop after an empty round.
     Unrolled = 8,
     /// 11: Perl looks for a text at a wrong place and misses a match.
     MissedText = 11,
@@ -40,6 +40,16 @@ pub enum Class {
     BlankInBraces = 19,
     /// 20: forms that document 02 has not: looking behind in both, and `\g<a>` in PCRE2.
     OtherForm = 20,
+    /// 22: Perl keeps what was set inside a `(?!`.
+    NotAheadKept = 22,
+    /// 23: Perl drops a `(?!)` under a repeat.
+    DroppedFailure = 23,
+    /// 24: Perl gives back single bytes of a repeated `\R`.
+    RepeatedLineBreak = 24,
+    /// 25: Perl passes over starts with a byte that a `(?=` cannot begin with, though its inside can take none.
+    EmptyAhead = 25,
+    /// 26: Perl remembers where a repeat failed, though a reference by name behind it sees other spans by now.
+    NameBehindRepeat = 26,
 }
 
 /// Who is asked whether a rule with a name is sound.
@@ -87,10 +97,12 @@ pub struct Compared<'a> {
 
 impl Compared<'_> {
     /// The class of what Perl may do here beyond document 02, if it has the marks of one. It is left out by `/d` in place of `/a`, and by
-    /// `plain_rule`.
+    /// `rule_for_perl`.
     pub fn perl_excess(&self) -> Option<Class> {
         if self.case.tree.folds && has_folded_above(&self.case.subject) {
             Some(Class::FoldedAbove)
+        } else if shape(&self.case.tree).has_repeated_line_break {
+            Some(Class::RepeatedLineBreak)
         } else {
             self.pcre2_excess()
         }
@@ -103,20 +115,13 @@ impl Compared<'_> {
 
     /// The rule with each byte 85 written as an escape under `x`, so that all take it for a literal.
     pub fn plain_rule(&self) -> Vec<u8> {
-        if self.case.flags & FLAG_X == 0 {
-            return self.case.rule.clone();
-        }
-        let mut plain = Vec::new();
-        let mut is_escaped = false;
-        for &byte in &self.case.rule {
-            if byte == 0x85 && !is_escaped {
-                plain.extend(b"\\x85");
-            } else {
-                plain.push(byte);
-            }
-            is_escaped = byte == b'\\' && !is_escaped;
-        }
-        plain
+        let skips = self.case.flags & FLAG_X != 0;
+        rewritten(&self.case.rule, |written| (skips && written == [0x85]).then_some(b"\\x85"))
+    }
+
+    /// The same with each `\R` as document 02 writes it.
+    pub fn rule_for_perl(&self) -> Vec<u8> {
+        rewritten(&self.plain_rule(), |written| (written == b"\\R").then_some(br"(?>\x0D\x0A|[\x0A-\x0D\x85])"))
     }
 
     /// The class of a difference from Perl, if it has the marks of one. Rows are none where nothing matched.
@@ -128,6 +133,9 @@ impl Compared<'_> {
         if shape.has_repeated_empty_class {
             return Some(Class::EmptyClass);
         }
+        if shape.has_repeated_failure {
+            return Some(Class::DroppedFailure);
+        }
         if shape.has_s_in_branch && self.case.tree.folds && self.case.subject.contains(&0xDF) {
             return Some(Class::SharpS);
         }
@@ -135,16 +143,37 @@ impl Compared<'_> {
         if missed && shape.has_unbounded_repeat && shape.has_exact_in_repeat {
             return Some(Class::MissedText);
         }
-        let moved = !shape.referred_groups.is_disjoint(&shape.repeated_groups) || shape.has_early_reference;
+        if missed && shape.has_empty_ahead {
+            return Some(Class::EmptyAhead);
+        }
+        if missed && shape.has_unbounded_repeat && self.has_reference_by_name() {
+            return Some(Class::NameBehindRepeat);
+        }
+        // A reference sees what Perl kept or unset, so that the match itself may be another.
+        let refers_to = |groups| !shape.referred_groups.is_disjoint(groups);
+        let moved = refers_to(&shape.repeated_groups) || refers_to(&shape.inner_groups) || shape.has_early_reference;
+        let kept = refers_to(&shape.not_ahead_groups);
         let differing = match (ours, perls) {
             (Some(ours), Some(perls)) if ours[..2] == perls[..2] => differing_groups(ours, perls),
-            // A reference sees what Perl kept or unset, so that the match itself may be another.
+            _ if kept => return Some(Class::NotAheadKept),
             _ => return moved.then_some(Class::GivenUp),
         };
+        let is_kept = |(group, unset): &(usize, bool)| !unset && shape.not_ahead_groups.contains(group);
+        if kept || differing.iter().all(is_kept) {
+            return Some(Class::NotAheadKept);
+        }
         if differing.iter().all(|(group, unset)| *unset && shape.twice_repeated_groups.contains(group)) {
             return Some(Class::EnteredAgain);
         }
-        (moved || differing.iter().all(|(group, _)| shape.repeated_groups.contains(group))).then_some(Class::GivenUp)
+        let may_be_left = |(group, _): &(usize, bool)| shape.repeated_groups.contains(group) || shape.inner_groups.contains(group);
+        (moved || differing.iter().all(|group| may_be_left(group) || is_kept(group))).then_some(Class::GivenUp)
+    }
+
+    /// Has the rule a `\k`, or a `\g` with a name in its braces?
+    fn has_reference_by_name(&self) -> bool {
+        let rule = &self.case.rule;
+        let is_letter = |byte: &u8| byte.is_ascii_alphabetic() || *byte == b'_';
+        rule.windows(2).any(|pair| pair == b"\\k") || rule.windows(4).any(|bytes| bytes.starts_with(b"\\g{") && is_letter(&bytes[3]))
     }
 
     /// Has the rule a `$` with a byte 00 right behind it, or under `x` behind what is skipped there?
@@ -169,7 +198,7 @@ impl Compared<'_> {
     /// The class of a difference from PCRE2.
     pub fn pcre2_class(&self) -> Option<Class> {
         let shape = shape(&self.case.tree);
-        let classes = [(shape.has_bounded_repeat_of_empty, Class::Unrolled), (shape.has_skipped_start, Class::SkippedStart)];
+        let classes = [(shape.has_unrolled_empty_round, Class::Unrolled), (shape.has_skipped_start, Class::SkippedStart)];
         classes.into_iter().find(|(marked, _)| *marked).map(|(_, class)| class)
     }
 
@@ -177,6 +206,18 @@ impl Compared<'_> {
     pub fn pcre2_refusal_class(&self, error: i32) -> Option<Class> {
         (error == PCRE2_NAMED_SET_OUTSIDE && self.case.rule.windows(2).any(|pair| pair == b"[:")).then_some(Class::ColonClass)
     }
+}
+
+/// The rule with some of its escapes and bytes written otherwise: each backslash is handed over with the byte behind it, any other byte alone.
+fn rewritten<const N: usize>(rule: &[u8], otherwise: impl Fn(&[u8]) -> Option<&'static [u8; N]>) -> Vec<u8> {
+    let (mut rewritten, mut rest) = (Vec::new(), rule);
+    while let [first, ..] = rest {
+        let length = if *first == b'\\' { rest.len().min(2) } else { 1 };
+        let (written, behind) = rest.split_at(length);
+        rewritten.extend(otherwise(written).map_or(written, |otherwise| &otherwise[..]));
+        rest = behind;
+    }
+    rewritten
 }
 
 /// Has the subject what Unicode folds into other bytes: a letter from C0 on (D7 and F7 are none), or two `s`, which fold with DF?

@@ -1,4 +1,6 @@
 //! PCRE2's own answers: matches, all readings from a start by a callout at the rule's end, successive matches, and the names of groups.
+//!
+//! The callout stands behind the whole rule, outside all brackets: the end of what looks ahead or holds on is no reading.
 
 pub mod sys;
 

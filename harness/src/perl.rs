@@ -1,7 +1,7 @@
 //! Perl's own answers: one `perl` process for a batch of questions.
 
 use std::collections::BTreeMap;
-use std::io::Write;
+use std::io::{ErrorKind, Write};
 use std::process::{Command, Stdio};
 
 use crate::independent::{Row, ROW_LENGTH, UNSET};
@@ -41,8 +41,17 @@ pub type Fields = BTreeMap<Vec<u8>, Option<Vec<u8>>>;
 
 const SCRIPT: &str = include_str!("../perl/matches.pl");
 
-/// Perl's answers in the order of the questions, or what went wrong.
+/// Perl's answers in the order of the questions, or what went wrong. The script ends at a match that takes too long, and what is left is asked anew.
 pub fn answers(questions: &[Question]) -> Result<Vec<Answer>, String> {
+    let mut answers = Vec::new();
+    while answers.len() < questions.len() {
+        answers.extend(first_answers(&questions[answers.len()..])?);
+    }
+    Ok(answers)
+}
+
+/// The answers to all questions, or to those up to the first that takes too long.
+fn first_answers(questions: &[Question]) -> Result<Vec<Answer>, String> {
     let mut asked = String::new();
     for question in questions {
         let Question { flags, groups, .. } = question;
@@ -53,20 +62,22 @@ pub fn answers(questions: &[Question]) -> Result<Vec<Answer>, String> {
     let output = run_script(SCRIPT, asked).map_err(|error| format!("perl does not run: {error}"))?;
     let answers: Option<Vec<Answer>> = output.lines().map(answer).collect();
     match answers {
-        Some(answers) if answers.len() == questions.len() => Ok(answers),
+        Some(answers) if answers.len() == questions.len() || matches!(answers.last(), Some(Answer::Slow)) => Ok(answers),
         _ => Err(format!("perl gave {} lines for {} questions, or one that cannot be read", output.lines().count(), questions.len())),
     }
 }
 
-/// What a script prints that is given these lines.
+/// What a script prints that is given these lines. It need not read all of them.
 pub fn run_script(script: &str, asked: String) -> std::io::Result<String> {
     let mut perl = Command::new("perl").args(["-e", script]).stdin(Stdio::piped()).stdout(Stdio::piped()).spawn()?;
     let mut pipe = perl.stdin.take().expect("the pipe was asked for");
     // Written beside the reading: neither pipe can fill up and block the other.
     let writer = std::thread::spawn(move || pipe.write_all(asked.as_bytes()));
     let output = perl.wait_with_output()?;
-    writer.join().expect("the writer does not panic")?;
-    Ok(String::from_utf8_lossy(&output.stdout).into_owned())
+    match writer.join().expect("the writer does not panic") {
+        Err(error) if error.kind() != ErrorKind::BrokenPipe => Err(error),
+        _ => Ok(String::from_utf8_lossy(&output.stdout).into_owned()),
+    }
 }
 
 /// One line of the script: `failed`, `slow`, `none`, or rows with bars between them, the names of the first among its parts.

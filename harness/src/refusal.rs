@@ -73,7 +73,7 @@ const SENTENCES: [(Reason, &str); 34] = [
     (Reason::RepeatOnRepeat, "a repeat on a repeat"),
     (Reason::GroupNotClosed, "the group is not closed"),
     (Reason::GroupNotOpened, "a `)` without opening"),
-    (Reason::UnknownOpening, "`(?` is followed by neither `:` nor `<`"),
+    (Reason::UnknownOpening, "`(?` is followed by none of `:`, `<`, `>`, `=` and `!`"),
     (Reason::TooManyGroups, "more capturing groups than a rule can have"),
     (Reason::TooDeep, "groups nest more than 24 deep"),
     (Reason::NameIllFormed, "a name is missing, malformed or not closed"),

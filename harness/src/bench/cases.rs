@@ -28,6 +28,7 @@ pub fn all() -> Vec<Case> {
         with_spaces(),
         with_names(),
         catastrophes(),
+        holding_on(),
         listings(),
     ];
     kinds.into_iter().flatten().collect()
@@ -237,6 +238,12 @@ fn catastrophes() -> Vec<Case> {
         cut("(a*)*b", 27_273),
         cut("(a|a)*b", 37_500),
     ]
+}
+
+/// Walks up to the budget that go back over held parts and looking ahead again and again.
+fn holding_on() -> Vec<Case> {
+    let cut = |rule| Case { match_limit: Some(37_500), ..matching("holding on, cut off", rule, &[b'a'; 30], 100_000) };
+    ["((?>a*)|a)*b", "((?>a)|a)*b", "(a++|a)*b", "((?=(a))a|a)*b", "((?!b)a|a)*b", "((?>(a)|b)|a)*b"].into_iter().map(cut).collect()
 }
 
 fn listings() -> Vec<Case> {

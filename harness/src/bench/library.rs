@@ -6,9 +6,10 @@ use super::{Case, Reply};
 use crate::independent::{INDEX_LENGTH, PART_LENGTH, ROW_LENGTH, RULE_AREA, WORK_PER_STEP};
 use crate::raw::{self, Areas, Call, Question, ANSWER_LENGTH};
 
-/// An answer's kind when the call is refused, and the reasons for which a library from before a flag, `\k` or `(?<` refuses one that has it.
+/// An answer's kind when the call is refused, and the reasons for which a library from before a flag, `\k`, a possessive repeat, `(?<` or looking ahead
+/// refuses one that has it.
 const REFUSED: u32 = 3;
-const NOT_HELD: [u32; 3] = [3, 11, 22];
+const NOT_HELD: [u32; 4] = [3, 11, 19, 22];
 
 pub struct Library<'c> {
     case: &'c Case,

@@ -11,6 +11,7 @@ use harness::pcre2::{Found, Loop, Pattern};
 use harness::random::shared::{self, Shared};
 use harness::raw::Call;
 use harness::report::Group;
+use harness::shapes::shape;
 use harness::text;
 
 /// Cases with more readings than one in so many steps are left out.
@@ -27,6 +28,7 @@ fn main() -> std::process::ExitCode {
         aside: SetAside::default(),
         rows: 0,
         names: 0,
+        inner: 0,
         left_out: 0,
     };
     let make = if scans { shared::scan_case } else { shared::case };
@@ -37,7 +39,8 @@ fn main() -> std::process::ExitCode {
         (0..arguments.cases).filter_map(|number| make(seed, number)).for_each(|case| tester.judge(&case));
         (0..classes).flat_map(|number| shared::class_cases(seed, number)).for_each(|case| tester.judge(&case));
     }
-    let remark = format!("{} rows; {} names; {}; {} left out as too long", tester.rows, tester.names, tester.aside.told(), tester.left_out);
+    let rows = format!("{} rows; {} names; {} rules look ahead or hold on", tester.rows, tester.names, tester.inner);
+    let remark = format!("{rows}; {}; {} left out as too long", tester.aside.told(), tester.left_out);
     tester.group.end(&remark)
 }
 
@@ -66,6 +69,8 @@ struct Tester {
     aside: SetAside,
     rows: usize,
     names: usize,
+    /// Rules that look ahead or hold on.
+    inner: u64,
     left_out: u64,
 }
 
@@ -92,6 +97,7 @@ impl Tester {
             _ => {
                 self.rows += ours.rows[1].len();
                 self.names += ours.names.len();
+                self.inner += u64::from(shape(&case.tree).has_inner);
                 self.group.pass();
             }
         }

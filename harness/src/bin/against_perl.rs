@@ -13,6 +13,7 @@ use harness::perl::{self, Answer, Charset, Fields, Question};
 use harness::random::shared::{self, Shared};
 use harness::raw::{Call, Lookup};
 use harness::report::Group;
+use harness::shapes::shape;
 use harness::text;
 
 /// Random classes that are tried on every byte.
@@ -31,6 +32,7 @@ fn main() -> std::process::ExitCode {
         left_out: 0,
         rows: 0,
         fields: 0,
+        inner: 0,
     };
     let make = if scans { shared::scan_case } else { shared::case };
     // Sets and classes on single bytes tell nothing more of successive matches.
@@ -44,7 +46,8 @@ fn main() -> std::process::ExitCode {
         tester.batch((0..classes).flat_map(|number| shared::class_cases(seed, number)).collect());
     }
     let aside = format!("{}, {} of them confirmed by PCRE2", tester.aside.told(), tester.confirmed);
-    let remark = format!("{} rows; {} fields by name; {aside}; {} left out as too long", tester.rows, tester.fields, tester.left_out);
+    let rows = format!("{} rows; {} fields by name; {} rules look ahead or hold on", tester.rows, tester.fields, tester.inner);
+    let remark = format!("{rows}; {aside}; {} left out as too long", tester.left_out);
     tester.group.end(&remark)
 }
 
@@ -58,6 +61,8 @@ struct Tester {
     left_out: u64,
     rows: usize,
     fields: usize,
+    /// Rules that look ahead or hold on.
+    inner: u64,
 }
 
 /// A case with what the library answers: its rows, none where it does not match, and the fields of a match.
@@ -90,7 +95,7 @@ impl Tester {
     /// Where Perl does more than document 02 says, the library is held to what it answers without that. What it answers with it is asked for too,
     /// and set aside where it differs.
     fn without_excess(&mut self, cases: &[(&Ours, Class)]) {
-        let rules: Vec<Vec<u8>> = cases.iter().map(|(ours, _)| Compared { case: &ours.case }.plain_rule()).collect();
+        let rules: Vec<Vec<u8>> = cases.iter().map(|(ours, _)| Compared { case: &ours.case }.rule_for_perl()).collect();
         let without: Vec<Question> = cases.iter().zip(&rules).map(|((ours, _), rule)| self.question(&ours.case, rule, Charset::Native)).collect();
         let with: Vec<Question> = cases.iter().map(|(ours, _)| self.question(&ours.case, &ours.case.rule, Charset::Ascii)).collect();
         let answers = self.answers(&without).into_iter().zip(self.answers(&with));
@@ -121,6 +126,7 @@ impl Tester {
             Ending::Matched | Ending::NotMatched | Ending::Complete => {
                 let fields = if self.call == Call::Match { self.fields(&case, &answer) } else { Fields::new() };
                 self.rows += answer.rows.len();
+                self.inner += u64::from(shape(&case.tree).has_inner);
                 return Some(Ours { case, rows: answer.rows, fields });
             }
             Ending::Exhausted(_) => self.left_out += 1,

@@ -1,5 +1,6 @@
 //! Calls at the limits of documents 01 and 02: each of refusals 1 to 8 at its last good and first bad value, all of them together in their order,
-//! subjects of 65,535 bytes, the greatest budget, also within a reference, every flag setting, rules of 1,000 bytes that `x` mostly skips, the
+//! subjects of 65,535 bytes, the greatest budget, also within a reference and within what looks ahead or holds on, such parts as deep as they nest and one
+//! deeper, every flag setting, rules of 1,000 bytes that `x` mostly skips, the
 //! longest names and the most, least lengths beyond what is held, marks of every length around a rule's, as many successive matches as there can be,
 //! lines of every length around the limit and result areas around what they need, and lookups at the edges of an index and of a row.
 
@@ -28,6 +29,8 @@ fn main() -> std::process::ExitCode {
         long_rules_with_blanks(&mut group, &mut lender, call);
         names(&mut group, &mut lender, call);
         index_lengths(&mut group, &mut lender, call);
+        nesting(&mut group, &mut lender, call);
+        far_ahead(&mut group, &mut lender, call);
     }
     least_lengths(&mut group, &mut lender);
     marks(&mut group, &mut lender);
@@ -108,6 +111,15 @@ fn long_rules(group: &mut Group, lender: &mut Lender, call: Call) {
         format!("{}{}{}", "(".repeat(24), "x".repeat(952), ")".repeat(24)),
         format!("{}{}", (10..42).map(|number| format!("(?<abcdefghijklm_{number}>)")).collect::<String>(), "\\g{abcdefghijklm_41}".repeat(14)),
         format!("{}{}{}", "(?:".repeat(24), "|".repeat(904), ")".repeat(24)),
+        "\\R".repeat(500),
+        "\\R*+".repeat(250),
+        "a++".repeat(333),
+        "a?+".repeat(333),
+        "(?=)".repeat(250),
+        "(?!b)".repeat(200),
+        "(?>|a)".repeat(166),
+        "(?=a)*+".repeat(142),
+        format!("{}{}{}", "(?=".repeat(24), "\\R?+".repeat(226), ")".repeat(24)),
     ];
     for rule in &rules {
         judge(group, lender, &Case::new(call, rule.as_bytes(), 0, b"ab", 1_000, 3));
@@ -118,6 +130,9 @@ fn long_rules(group: &mut Group, lender: &mut Lender, call: Call) {
 fn long_subjects(group: &mut Group, lender: &mut Lender, call: Call) {
     let mut subject = vec![b'a'; 65_535];
     for rule in [&br"\z"[..], br"\A(?:a{255}){128}", br"b", br"a\z", br"\n$", br"^a{255}|a{255}\z", br"(a)\1{200}\z"] {
+        judge(group, lender, &Case::new(call, rule, 0, &subject, 1_000, 3));
+    }
+    for rule in [&br"(?=a)a\z"[..], br"(?!aa)(a)", br"(?>a|b)\z", br"a{9,200}+b", br"\R", br"a(?!(?=a))", br"(?=(a{200})\z)\1"] {
         judge(group, lender, &Case::new(call, rule, 0, &subject, 1_000, 3));
     }
     subject[65_534] = b'\n';
@@ -138,6 +153,42 @@ fn greatest_budget(group: &mut Group, lender: &mut Lender, call: Call) {
     }
     for rule in [&br"(a*)*b"[..], br"(?:a|aa)+$", br"(a|b|ab)*?c"] {
         judge(group, lender, &Case::new(call, rule, 0, &[b'a'; 40], 100_000, 5));
+    }
+}
+
+/// The three openings nest as groups do; `\R` and a possessive `+` nest nothing. One level less than there can be, the most, and more, of one kind and
+/// mixed, closed and not.
+fn nesting(group: &mut Group, lender: &mut Lender, call: Call) {
+    let kinds = [&["(?>"][..], &["(?="], &["(?!"], &["(", "(?="], &["(?:", "(?!", "(?>"], &["(?!", "(?!", "(?<n", "("]];
+    for openings in kinds {
+        for depth in [23, 24, 25, 26] {
+            // A name is used once.
+            let named = |level: usize, opening: &str| if opening == "(?<n" { format!("(?<n{level}>") } else { opening.to_string() };
+            let opened: String = openings.iter().cycle().take(depth).enumerate().map(|(level, opening)| named(level, opening)).collect();
+            for inside in ["a", "", "\\R", "a*+", "\\R++", "(?=a)", "(?>", "(?!a"] {
+                for closed in [depth, depth + 1, depth - 1] {
+                    let rule = format!("{opened}{inside}{}", ")".repeat(closed));
+                    judge(group, lender, &Case::new(call, rule.as_bytes(), 0, b"a\r\n", 300, 3));
+                }
+            }
+        }
+    }
+}
+
+/// What looks far ahead or holds on to much: captures at the other end of a long line, and the greatest budget used up to its last step inside it, at its
+/// inner end and behind it.
+fn far_ahead(group: &mut Group, lender: &mut Lender, call: Call) {
+    let line = |length: usize| [vec![b'a'; length], b"b\r\n".to_vec()].concat();
+    // `a*+` and `(?=a*)` take 2n + 5 steps on n bytes, with those of the end.
+    for length in 49_995..50_000 {
+        for rule in [&b"a*+"[..], b"(?=a*)", b"(?>(a*))", b"(?!a*+a)"] {
+            judge(group, lender, &Case::new(call, rule, 0, &vec![b'a'; length], 100_000, 1));
+        }
+    }
+    for rule in [&br"^(?=a*(b)(\R))a"[..], br"^(?>a*(b))\R", br"^a*+b\R\z", br"^(?!a*+b\n)a*+(b)", br"^(?=a*+(?=(b)))(a)(?!\1)\2"] {
+        for length in [1, 20_000, 33_000, 49_000] {
+            judge(group, lender, &Case::new(call, rule, 0, &line(length), 100_000, 2));
+        }
     }
 }
 

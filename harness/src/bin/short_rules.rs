@@ -1,10 +1,11 @@
 //! All short rules against the independent matcher: every escape with every byte, every named set with every byte, with and without `i`, and every
 //! rule of up to four bytes over those that mean something, also over those that mean something under `x`; every beginning of a name with up to four
-//! bytes behind it, up to four pieces with names in every order, and up to four pieces that the depot profile takes or refuses. Each is matched or listed, and explained, with marks of each length up to one
+//! bytes behind it, up to four pieces with names in every order, up to four pieces that the depot profile takes or refuses, up to four pieces that look
+//! ahead or hold on, and such parts around and before up to three others. Each is matched or listed, and explained, with marks of each length up to one
 //! more than the rule has bytes, and scanned for successive matches. Where faults hide in the order of refusals, a short rule shows them.
 
 use harness::case::Case;
-use harness::independent::{FLAG_D, FLAG_I, FLAG_X};
+use harness::independent::{FLAG_D, FLAG_I, FLAG_M, FLAG_S, FLAG_X};
 use harness::lender::Lender;
 use harness::raw::Call;
 use harness::report::Group;
@@ -19,6 +20,12 @@ const PIECES: [&str; 14] = ["(?<a>", "(?<b>", "(?<", "\\k<a>", "\\g{b}", "\\k'",
 /// What the depot profile takes, and what it refuses.
 const PROFILE_PIECES: [&str; 18] =
     ["a", "[a-z]", "[Z-a]", "[0-\\x39]", "[z-a]", "\\1", "\\2", "^", "?", "*", "+", "{2,}", "{0}", "(?:", "(", ")", ")", "|"];
+
+/// What looks ahead or holds on, and what makes a difference inside it, behind it or before it.
+const INNER_PIECES: [&str; 15] = ["(?=", "(?!", "(?>", "\\R", "(", ")", "|", "*", "+", "?", "{2}", "a", "b", "\\1", " "];
+/// What stands between the brackets of such a part, and what follows its bracket.
+const INSIDE: [&str; 14] = ["a", "b", "(a)", "(b|)", "a*", "b?+", ".+?", "|", "\\R", "\\1", "$", "(?=(a))", "(?!a)", "(?>a|ab)"];
+const BEHIND: [&str; 14] = ["", "a", "b", ".", "\\1", "\\R", "|a", "(a)*", "?", "??", "*", "+?", "{2}", "*+"];
 
 const NAMES: [&str; 16] =
     ["alpha", "upper", "lower", "alnum", "xdigit", "blank", "cntrl", "ascii", "print", "graph", "punct", "digit", "word", "space", "h", ""];
@@ -35,6 +42,10 @@ fn main() -> std::process::ExitCode {
     }
     tester.pieces(&PIECES, &[0, FLAG_I, FLAG_X], &mut Vec::new(), 4);
     tester.pieces(&PROFILE_PIECES, &[FLAG_D, FLAG_D, FLAG_D | FLAG_I, FLAG_D | FLAG_X], &mut Vec::new(), 4);
+    tester.pieces(&INNER_PIECES, &[0, FLAG_D, FLAG_I, FLAG_X], &mut Vec::new(), 4);
+    for opening in ["(?=", "(?!", "(?>", "(?:(?=", "(a(?!"] {
+        tester.inner(opening, &mut Vec::new(), 3);
+    }
     tester.group.end("")
 }
 
@@ -106,6 +117,24 @@ impl Tester {
                 rule.push(byte);
                 self.rules(meant, flag, rule, more - 1);
                 rule.pop();
+            }
+        }
+    }
+
+    /// Every rule of this opening, up to so many of the pieces inside it, its brackets, and one of the endings. Each has a group for a reference.
+    fn inner(&mut self, opening: &str, inside: &mut Vec<&str>, more: usize) {
+        let closing = ")".repeat(opening.matches('(').count());
+        for behind in BEHIND {
+            let rule = format!("{opening}{}{closing}{behind}|()", inside.concat());
+            let (call, flags) = ([Call::List, Call::Match][self.number % 2], [0, FLAG_I, FLAG_X, FLAG_S | FLAG_M][self.number % 4]);
+            let (subject, budget) = ([&b"aab\r\n"[..], b"ab\n", b"baab"][self.number % 3], [25, 100, 400][self.number / 3 % 3]);
+            self.judge(&Case::new(call, rule.as_bytes(), flags, subject, budget, 3));
+        }
+        if more > 0 {
+            for piece in INSIDE {
+                inside.push(piece);
+                self.inner(opening, inside, more - 1);
+                inside.pop();
             }
         }
     }

@@ -76,7 +76,7 @@ impl Reader<'_> {
             b'\\' => Ok(match self.escape_in_class()? {
                 Escape::Byte(byte) => Member::Byte(byte),
                 Escape::Set(set) => Member::Set(set),
-                Escape::Place(_) | Escape::Reference(_) => unreachable!("none of these is an escape of a class"),
+                Escape::Place(_) | Escape::Reference(_) | Escape::LineBreak => unreachable!("none of these is an escape of a class"),
             }),
             b'[' => self.named_set_or_bracket(),
             byte => {

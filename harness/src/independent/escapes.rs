@@ -10,6 +10,8 @@ pub enum Escape {
     Set(ByteSet),
     Place(Place),
     Reference(Option<u64>),
+    /// `\R`.
+    LineBreak,
 }
 
 /// "10: an escape's backslash is the rule's last byte", "11: escape not held here", "12: escape's number or letter missing, of another
@@ -46,6 +48,7 @@ impl Reader<'_> {
         };
         match letter {
             b'N' => Ok(Escape::Set(ByteSet::one(0x0A).complement())),
+            b'R' => Ok(Escape::LineBreak),
             b'A' => Ok(Escape::Place(Place::Start)),
             b'z' => Ok(Escape::Place(Place::End)),
             b'Z' => Ok(Escape::Place(Place::EndOrLastNewline)),

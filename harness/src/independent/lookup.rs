@@ -45,11 +45,11 @@ fn group_of(name: &[u8], index: &[u8]) -> Option<usize> {
     None
 }
 
-/// "If the answer row breaks 01's row rules for the line, that counts as not matched": "A row becomes 130 numbers", "old rows are not read", "an unset or missing group is 4294967295
-/// twice. Start <= end <= length, and each set span lies within them." What stands behind these numbers is no part of the row.
+/// "If the answer row breaks 01's row rules for the line, that counts as not matched": "A row becomes 130 numbers", "old rows are not read", "an unset or
+/// missing group is 4294967295 twice. Start <= end <= length", and since 02 l) a set span "may now lie outside the match, but within the line". What stands behind
+/// these numbers is no part of the row.
 fn has_matched(lookup: &Lookup) -> bool {
     let Some(row) = lookup.row.get(..ROW_LENGTH) else { return false };
-    let within = |low: u32, span: &[u32], high: usize| low <= span[0] && span[0] <= span[1] && span[1] as usize <= high;
-    let is_good = |span: &[u32]| span == [UNSET, UNSET] || within(row[0], span, row[1] as usize);
-    lookup.kind == MATCHED && within(0, &row[..2], lookup.line.len()) && row[2..].chunks(2).all(is_good)
+    let is_within = |span: &[u32]| span[0] <= span[1] && span[1] as usize <= lookup.line.len();
+    lookup.kind == MATCHED && is_within(&row[..2]) && row[2..].chunks(2).all(|span| span == [UNSET, UNSET] || is_within(span))
 }

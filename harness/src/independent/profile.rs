@@ -1,7 +1,7 @@
 //! The depot profile: document 02, request k). "Flag bit 4 asks for a narrower rule".
 
 use super::reader::Refusal;
-use super::tree::{Alternation, Kind, Part, Repeat};
+use super::tree::{Alternation, Form, Inner, Kind, Part, Repeat};
 
 /// "no references (27), no repeat without upper bound over a body of least length 0 (28), no range whose ends aren't both digits, both upper or both
 /// lower letters (29)".
@@ -42,6 +42,7 @@ impl Found {
         match part {
             Part::Item(item) => self.references.extend(matches!(item.kind, Kind::Reference(_)).then_some(item.at)),
             Part::Group(group) => self.alternation(&group.inside),
+            Part::Inner(inner) => self.alternation(&inner.inside),
             Part::Repeat(repeat) => {
                 let can_be_empty = repeat.most.is_none() && least_length(&repeat.body) == 0;
                 self.repeats.extend(can_be_empty.then_some(repeat.at));
@@ -52,18 +53,22 @@ impl Found {
 }
 
 /// "a byte item 1, a place 0, a repeat its minimum times its body's, an alternation the smallest branch, parts that follow one another their sum, a
-/// reference 0".
+/// reference 0". 02 l): "Looking ahead .. has least length 0".
 fn least_length(part: &Part) -> u64 {
     let length = match part {
         Part::Item(item) => u64::from(matches!(item.kind, Kind::Byte(_))),
-        Part::Group(group) => {
-            let branches = group.inside.branches.iter().map(|branch| branch.iter().map(least_length).sum::<u64>());
-            branches.min().expect("there is always a branch")
-        }
+        Part::Group(group) => least_of_branches(&group.inside),
+        Part::Inner(Inner { form: Form::Ahead | Form::NotAhead, .. }) => 0,
+        Part::Inner(held) => least_of_branches(&held.inside),
         Part::Repeat(repeat) => {
             let Repeat { body, least, .. } = &**repeat;
             least * least_length(body)
         }
     };
     length.min(MOST_HELD)
+}
+
+fn least_of_branches(alternation: &Alternation) -> u64 {
+    let branches = alternation.branches.iter().map(|branch| branch.iter().map(least_length).sum::<u64>());
+    branches.min().expect("there is always a branch")
 }

@@ -3,7 +3,7 @@
 use super::escapes::Escape;
 use super::profile;
 use super::sets::ByteSet;
-use super::tree::{Alternation, Group, Item, Kind, Part, Place, Repeat, Rule};
+use super::tree::{Alternation, Form, Group, Inner, Item, Kind, Part, Place, Repeat, Rule};
 
 /// A refusal's number and its place in the rule, counted from 0.
 #[derive(Clone, Copy, PartialEq, Eq, Debug)]
@@ -50,12 +50,22 @@ pub struct Reader<'r> {
     references: Vec<(usize, Option<u64>)>,
 }
 
+/// What a bracket opens.
+#[derive(Clone, Copy, PartialEq, Eq)]
+enum Opening {
+    Capturing,
+    /// A capturing group whose name comes next.
+    Named,
+    Plain,
+    Inner(Form),
+}
+
 /// What stands where a repeat could stand.
-enum Form {
+enum Written {
     Nothing,
     /// A `{` that begins no well-formed repeat.
     Stray,
-    /// A repeat by its form, its bounds as they are written, and its length without a lazy mark.
+    /// A repeat by its form, its bounds as they are written, and its length without a lazy or possessive mark.
     Bounds {
         least: u64,
         most: Option<u64>,
@@ -185,10 +195,10 @@ impl<'r> Reader<'r> {
 
     /// Behind the rule's start, a group's opening, a bar or a place there is nothing to repeat.
     fn no_repeat_here(&self) -> Result<(), Refusal> {
-        match self.form_here() {
-            Form::Nothing => Ok(()),
-            Form::Stray => Err(Refusal { number: BAD_BRACE, place: self.at }),
-            Form::Bounds { .. } => Err(Refusal { number: NOTHING_TO_REPEAT, place: self.at }),
+        match self.written_here() {
+            Written::Nothing => Ok(()),
+            Written::Stray => Err(Refusal { number: BAD_BRACE, place: self.at }),
+            Written::Bounds { .. } => Err(Refusal { number: NOTHING_TO_REPEAT, place: self.at }),
         }
     }
 
@@ -197,8 +207,8 @@ impl<'r> Reader<'r> {
         let at = self.at;
         let kind = match self.peek().expect("the caller has looked") {
             b'(' => return self.group(depth),
+            b'\\' => return self.escaped(at),
             b'[' => Kind::Byte(self.class()?),
-            b'\\' => self.escaped(at)?,
             byte => {
                 self.at += 1;
                 self.plain(byte)
@@ -221,29 +231,43 @@ impl<'r> Reader<'r> {
         }
     }
 
-    fn escaped(&mut self, place: usize) -> Result<Kind, Refusal> {
-        Ok(match self.escape_outside()? {
+    fn escaped(&mut self, at: usize) -> Result<Part, Refusal> {
+        let kind = match self.escape_outside()? {
+            Escape::LineBreak => return Ok(line_break(at)),
             Escape::Byte(byte) => Kind::Byte(self.folded(ByteSet::one(byte))),
             Escape::Set(set) => Kind::Byte(set),
             Escape::Place(place) => Kind::Place(place),
             Escape::Reference(group) => {
-                self.references.push((place, group));
+                self.references.push((at, group));
                 // A group that is not there is refused before the tree is used.
                 Kind::Reference(group.and_then(|number| usize::try_from(number).ok()).unwrap_or(0))
             }
+        };
+        Ok(Part::Item(Item { at, kind }))
+    }
+
+    /// Takes what follows a `(` and says what it opens; none for a form that is not held.
+    fn opening(&mut self) -> Option<Opening> {
+        if !self.skip(b'?') {
+            return Some(Opening::Capturing);
+        }
+        Some(match self.take()? {
+            b'<' => Opening::Named,
+            b':' => Opening::Plain,
+            b'>' => Opening::Inner(Form::Held),
+            b'=' => Opening::Inner(Form::Ahead),
+            b'!' => Opening::Inner(Form::NotAhead),
+            _ => return None,
         })
     }
 
-    /// Reads a group. All five faults of an opening have its place: "on one byte the lower number".
+    /// Reads a group, or what looks ahead or holds on. All five faults of an opening have its place: "on one byte the lower number".
     fn group(&mut self, depth: usize) -> Result<Part, Refusal> {
         let place = self.at;
         self.at += 1;
-        let marked = self.skip(b'?');
-        let named = marked && self.skip(b'<');
-        let capturing = named || !marked;
-        if !capturing && !self.skip(b':') {
-            return Err(Refusal { number: OTHER_OPENING, place });
-        }
+        let Some(opening) = self.opening() else { return Err(Refusal { number: OTHER_OPENING, place }) };
+        let named = opening == Opening::Named;
+        let capturing = named || opening == Opening::Capturing;
         if capturing && self.names.len() == MOST_GROUPS {
             return Err(Refusal { number: TOO_MANY_GROUPS, place });
         }
@@ -260,10 +284,13 @@ impl<'r> Reader<'r> {
         if !self.skip(b')') {
             return Err(Refusal { number: BRACKET_NOT_CLOSED, place });
         }
-        Ok(Part::Group(Group { number, inside }))
+        Ok(match opening {
+            Opening::Inner(form) => Part::Inner(Inner { at: place, form, inside }),
+            _ => Part::Group(Group { number, inside }),
+        })
     }
 
-    /// The part with the repeat that stands here behind it, if one does, and the blanks behind that.
+    /// The part with the repeat that stands here behind it, if one does, and the blanks behind that. 02 l): "possessive `+` after a greedy repeat".
     fn with_repeat(&mut self, body: Part) -> Result<Part, Refusal> {
         let at = self.at;
         let (least, most) = match self.good_bounds_here()? {
@@ -274,39 +301,52 @@ impl<'r> Reader<'r> {
             }
         };
         let greedy = !self.skip(b'?');
+        let plus = self.at;
+        let possessive = greedy && self.skip(b'+');
         self.skip_blanks();
         if self.good_bounds_here()?.is_some() {
             return Err(Refusal { number: REPEATED_REPEAT, place: self.at });
         }
-        Ok(Part::Repeat(Box::new(Repeat { at, body, least, most, greedy })))
+        let repeat = Part::Repeat(Box::new(Repeat { at, body, least, most, greedy }));
+        Ok(if possessive { held(plus, vec![vec![repeat]]) } else { repeat })
     }
 
     /// The bounds and the length of the repeat that stands here, if one does; "18: stray `{`, a bound over 255, or n > m".
     fn good_bounds_here(&self) -> Result<Option<(u64, Option<u64>, usize)>, Refusal> {
-        match self.form_here() {
-            Form::Nothing => Ok(None),
-            Form::Bounds { least, most, length } if least.max(most.unwrap_or(0)) <= GREATEST_BOUND && most.is_none_or(|most| least <= most) => {
+        match self.written_here() {
+            Written::Nothing => Ok(None),
+            Written::Bounds { least, most, length } if least.max(most.unwrap_or(0)) <= GREATEST_BOUND && most.is_none_or(|most| least <= most) => {
                 Ok(Some((least, most, length)))
             }
             _ => Err(Refusal { number: BAD_BRACE, place: self.at }),
         }
     }
 
-    fn form_here(&self) -> Form {
+    fn written_here(&self) -> Written {
         match self.peek() {
-            Some(b'*') => Form::Bounds { least: 0, most: None, length: 1 },
-            Some(b'+') => Form::Bounds { least: 1, most: None, length: 1 },
-            Some(b'?') => Form::Bounds { least: 0, most: Some(1), length: 1 },
-            Some(b'{') => self.braces_here().unwrap_or(Form::Stray),
-            _ => Form::Nothing,
+            Some(b'*') => Written::Bounds { least: 0, most: None, length: 1 },
+            Some(b'+') => Written::Bounds { least: 1, most: None, length: 1 },
+            Some(b'?') => Written::Bounds { least: 0, most: Some(1), length: 1 },
+            Some(b'{') => self.braces_here().unwrap_or(Written::Stray),
+            _ => Written::Nothing,
         }
     }
 
     /// `{n}`, `{n,}` or `{n,m}`, if that is what stands here.
-    fn braces_here(&self) -> Option<Form> {
+    fn braces_here(&self) -> Option<Written> {
         let mut ahead = Reader::new(self.bytes, self.at + 1, 0);
         let least = ahead.digits(10, usize::MAX)?;
         let most = if ahead.skip(b',') { ahead.digits(10, usize::MAX) } else { Some(least) };
-        ahead.skip(b'}').then_some(Form::Bounds { least, most, length: ahead.at - self.at })
+        ahead.skip(b'}').then_some(Written::Bounds { least, most, length: ahead.at - self.at })
     }
+}
+
+fn held(at: usize, branches: Vec<Vec<Part>>) -> Part {
+    Part::Inner(Inner { at, form: Form::Held, inside: Alternation { branches } })
+}
+
+/// 02 l): "`\R` as `(?>\x0D\x0A|[\x0A-\x0D\x85])`", and for f) its items are "at its place".
+fn line_break(at: usize) -> Part {
+    let item = |ranges: &[(u8, u8)]| Part::Item(Item { at, kind: Kind::Byte(ByteSet::of(ranges)) });
+    held(at, vec![vec![item(&[(0x0D, 0x0D)]), item(&[(0x0A, 0x0A)])], vec![item(&[(0x0A, 0x0D), (0x85, 0x85)])]])
 }

@@ -21,9 +21,10 @@ pub enum Part {
     Item(Item),
     Group(Group),
     Repeat(Box<Repeat>),
+    Inner(Inner),
 }
 
-/// What can fail by itself. 02 f): "A failed item is a byte item, a place or a reference."
+/// What can fail by itself, beside a `(?!`. 02 f): "A failed item is a byte item, a place or a reference."
 pub struct Item {
     /// Where it begins in the rule.
     pub at: usize,
@@ -41,6 +42,31 @@ pub struct Group {
     /// The group's number, counted from 1, or none for `(?: )`.
     pub number: Option<usize>,
     pub inside: Alternation,
+}
+
+/// 02 l): a part whose inside is walked by itself, up to its first end.
+pub struct Inner {
+    /// Where it stands in the rule: its bracket, the backslash of `\R`, or the `+` of a possessive repeat.
+    pub at: usize,
+    pub form: Form,
+    pub inside: Alternation,
+}
+
+#[derive(Clone, Copy, PartialEq, Eq)]
+pub enum Form {
+    /// `(?>..)`. A possessive repeat and `\R` are held groups too.
+    Held,
+    /// `(?=..)`.
+    Ahead,
+    /// `(?!..)`.
+    NotAhead,
+}
+
+impl Inner {
+    /// Is it a `\R`? Only there does an item of the inside stand where the whole does.
+    pub fn is_line_break(&self) -> bool {
+        matches!(self.inside.branches[0].first(), Some(Part::Item(item)) if item.at == self.at)
+    }
 }
 
 pub struct Repeat {

@@ -1,12 +1,12 @@
 //! The walk from one start: it tries derivations depth first, in the order of their priority, and counts its steps.
 //!
-//! What is still to be done is a list of tasks that states share, and the tries put off are a stack of states: nothing recurses, so a
-//! long subject cannot overflow the program's own stack.
+//! What is still to be done is a list of tasks that states share, and the tries put off are a stack of states: nothing recurses but the walks
+//! inside what looks ahead or holds on, which are as deep as the rule nests. So a long subject cannot overflow the program's own stack.
 
 use std::rc::Rc;
 
 use super::sets;
-use super::tree::{Alternation, Item, Kind, Part, Place, Repeat, Rule};
+use super::tree::{Alternation, Form, Inner, Item, Kind, Part, Place, Repeat, Rule};
 
 /// The spans of the groups that are set, by number; entry 0 is not used.
 pub type Spans = Vec<Option<(usize, usize)>>;
@@ -27,7 +27,7 @@ pub enum Event {
 /// An item that failed.
 #[derive(Clone, Copy, PartialEq, Eq, Debug)]
 pub struct Miss {
-    /// Where it was tried in the line; a reference where it was begun.
+    /// Where it was tried in the line; a reference where it was begun, a `(?!` where it was entered.
     pub at: usize,
     /// Where it begins in the rule.
     pub item: usize,
@@ -43,7 +43,7 @@ pub struct Walk<'r> {
     pub references: Vec<(u64, u64)>,
     /// The items that failed so far, in the order in which they were tried.
     pub misses: Vec<Miss>,
-    /// Tries put off, the next one last.
+    /// Tries put off, the next one last; inside what looks ahead or holds on, those of its inside alone.
     pending: Vec<State<'r>>,
 }
 
@@ -94,23 +94,30 @@ impl<'r> Walk<'r> {
 
     /// Goes on until the rule's end is reached, the budget is used or nothing is left.
     pub fn next_event(&mut self) -> Event {
+        match self.next_end() {
+            Ok(Some(end)) => Event::End(end),
+            Ok(None) => Event::Over,
+            Err(NoStepLeft) => Event::Exhausted,
+        }
+    }
+
+    /// Goes on with what is pending until nothing is to be done in a state, which is the end of what is walked, or nothing is left. An end costs its
+    /// step: "the rule's end reached", and of what looks ahead or holds on "its inner end 1".
+    fn next_end(&mut self) -> Result<Option<End>, NoStepLeft> {
         while let Some(mut state) = self.pending.pop() {
             loop {
                 let Some(tasks) = state.todo.clone() else {
-                    return match self.step() {
-                        Ok(()) => Event::End(End { end: state.at, spans: state.spans }),
-                        Err(NoStepLeft) => Event::Exhausted,
-                    };
+                    self.step()?;
+                    return Ok(Some(End { end: state.at, spans: state.spans }));
                 };
                 state.todo = tasks.rest.clone();
-                match self.perform(tasks.first, state) {
-                    Ok(Tried::On(next)) => state = next,
-                    Ok(Tried::Failed) => break,
-                    Err(NoStepLeft) => return Event::Exhausted,
+                match self.perform(tasks.first, state)? {
+                    Tried::On(next) => state = next,
+                    Tried::Failed => break,
                 }
             }
         }
-        Event::Over
+        Ok(None)
     }
 
     fn step(&mut self) -> Result<(), NoStepLeft> {
@@ -175,7 +182,38 @@ impl<'r> Walk<'r> {
                 state.todo = push(Task::Decide { repeat, rounds: 0, last_from: None }, &state.todo);
                 Ok(Tried::On(state))
             }
+            Part::Inner(inner) => self.enter(inner, state),
         }
+    }
+
+    /// "A held group and `(?=` keep only the first derivation of their inside, captures included; `(?!` holds when its inside has none, and sets nothing."
+    /// One that fails was "tried when it is entered", before the items inside.
+    fn enter(&mut self, inner: &'r Inner, mut state: State<'r>) -> Result<Tried<'r>, NoStepLeft> {
+        self.step()?;
+        let missed_before = self.misses.len();
+        let first = self.first_end(&inner.inside, &state)?;
+        Ok(match (inner.form, first) {
+            (Form::NotAhead, None) => Tried::On(state),
+            (Form::NotAhead, Some(_)) => {
+                self.misses.insert(missed_before, Miss { at: state.at, item: inner.at });
+                Tried::Failed
+            }
+            (_, None) => Tried::Failed,
+            (form, Some(End { end, spans })) => {
+                state.at = if form == Form::Held { end } else { state.at };
+                state.spans = spans;
+                Tried::On(state)
+            }
+        })
+    }
+
+    /// The first end of a walk through these branches alone.
+    fn first_end(&mut self, inside: &'r Alternation, state: &State<'r>) -> Result<Option<End>, NoStepLeft> {
+        let begin = State { at: state.at, spans: state.spans.clone(), todo: push(Task::Branch(inside, 0), &None) };
+        let outside = std::mem::replace(&mut self.pending, vec![begin]);
+        let end = self.next_end()?;
+        self.pending = outside;
+        Ok(end)
     }
 
     fn try_item(&mut self, item: &Item, mut state: State<'r>) -> Result<Tried<'r>, NoStepLeft> {

@@ -25,7 +25,7 @@ pub fn with_odd_blanks(rng: &mut Rng, style: Style) -> Vec<u8> {
     for _ in 0..times {
         let places: Vec<usize> = (0..=rule.len()).filter(|&at| !style.plain || !is_in_name(&rule, at)).collect();
         // Mostly right behind a byte after which it makes a difference.
-        let telling: Vec<usize> = places.iter().copied().filter(|&at| at > 0 && b"\\({[?*+}:,x1<k'>".contains(&rule[at - 1])).collect();
+        let telling: Vec<usize> = places.iter().copied().filter(|&at| at > 0 && b"\\({[?*+}:,x1<k'>=!R".contains(&rule[at - 1])).collect();
         let at = if telling.is_empty() || rng.percent(40) { *rng.pick(&places) } else { *rng.pick(&telling) };
         let blank = *rng.pick(&[" ", " ", "\t", "\n", "\x0B", "#", "#\n", "# )\n"]);
         rule.splice(at..at, blank.bytes());
@@ -120,14 +120,19 @@ pub fn noise(rng: &mut Rng) -> Vec<u8> {
 pub fn at_limit(rng: &mut Rng) -> Vec<u8> {
     let groups = rng.between(MOST_GROUPS - 1, MOST_GROUPS + 2);
     let depth = rng.between(23, 26);
-    let opening = *rng.pick(&["(", "(?:"]);
+    let opening = *rng.pick(&["(", "(?:", "(?>", "(?=", "(?!"]);
     let digits = "9".repeat(rng.between(1, 25));
     let name: String =
         (0..rng.between(LONGEST_NAME - 1, LONGEST_NAME + 2)).map(|index| char::from(if index == 0 { b'n' } else { *rng.pick(b"aZ09_") })).collect();
     let text = match rng.below(13) {
         0 => "()".repeat(groups),
         1 => format!("{}a{}", opening.repeat(depth), ")".repeat(rng.between(depth - 1, depth))),
-        2 => format!("{}{}{}", "()".repeat(groups), "(?:".repeat(depth - 1), rng.pick(&["(", "(?:", "(?a", "(?<a>", "(?<", "[", "a"])),
+        2 => format!(
+            "{}{}{}",
+            "()".repeat(groups),
+            "(?:".repeat(depth - 1),
+            rng.pick(&["(", "(?:", "(?a", "(?<a>", "(?<", "[", "a", "(?=", "(?>", "\\R", "a++"])
+        ),
         3 => format!("a{{{}}}", rng.between(250, 260)),
         4 => format!("a{{{},{}}}?", rng.between(0, 257), rng.between(0, 257)),
         5 => format!("()\\{digits}"),

@@ -125,8 +125,10 @@ fn row(rng: &mut Rng, length: usize) -> Vec<u32> {
     let (start, end) = within(rng, 0, length);
     let mut row = vec![start as u32, end as u32];
     let set = *rng.pick(&[0, 50, 100]);
+    // What was looked at ahead may lie behind the match, and by a row's rules anywhere in the line.
+    let outside = *rng.pick(&[0, 0, 10, 100]);
     while row.len() < ROW_LENGTH {
-        let (from, to) = within(rng, start, end);
+        let (from, to) = if rng.percent(outside) { within(rng, 0, length) } else { within(rng, start, end) };
         row.extend(if rng.percent(set) { [from as u32, to as u32] } else { [UNSET; 2] });
     }
     if rng.percent(30) {
@@ -144,7 +146,7 @@ fn row(rng: &mut Rng, length: usize) -> Vec<u32> {
 fn break_rule(rng: &mut Rng, row: &mut [u32], length: u32) {
     let pair = 2 * rng.between(1, MOST_GROUPS);
     let (start, end) = (row[0], row[1]);
-    match rng.below(10) {
+    match rng.below(12) {
         0 => row[1] = length + rng.below(2) as u32,
         1 => row.swap(0, 1),
         2 => row[rng.below(2)] = UNSET,
@@ -154,6 +156,8 @@ fn break_rule(rng: &mut Rng, row: &mut [u32], length: u32) {
         6 => (row[pair], row[pair + 1]) = (end, start),
         7 => row[pair + rng.below(2)] = *rng.pick(&[0, 1, start, end, length, UNSET - 1]),
         8 => row[ROW_LENGTH - 1] = 0,
+        9 => (row[pair], row[pair + 1]) = (rng.between(0, length as usize) as u32, length + rng.below(2) as u32),
+        10 => (row[pair], row[pair + 1]) = (length + rng.below(2) as u32, length + rng.below(2) as u32),
         _ => row.iter_mut().for_each(|number| *number = rng.below(length as usize + 2) as u32),
     }
 }

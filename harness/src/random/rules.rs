@@ -1,6 +1,6 @@
 //! Random rules within the held syntax. Weights favour what goes wrong in matchers: nested repeats, empty rounds and branches, references
 //! to groups before and behind, by number and by name, classes with `-` and `]` at odd places; letters in both cases, and under `x` blanks and
-//! comments.
+//! comments. Many of the rules look ahead or hold on.
 
 use super::Rng;
 use crate::independent::{FLAG_X, MOST_GROUPS};
@@ -19,9 +19,12 @@ pub struct Style {
     pub blanks: bool,
 }
 
-/// Among them letters in both cases with the bytes beside A, Z, a and z, what `x` skips, and bytes above 7F that are letters elsewhere.
-pub const ALPHABETS: [&[u8]; 9] =
-    [b"ab", b"ab", b"aAbB", b"ab1\n", b"a1, -_", b"aAzZ@[`{", b"a# \t\n\x0B", b"\x00a\n\x7F\x80\x85\xA0\xFF]", b"sSkE\xC9\xE9\xDF"];
+/// Among them letters in both cases with the bytes beside A, Z, a and z, what `x` skips, line ends, and bytes above 7F that are letters elsewhere.
+pub const ALPHABETS: [&[u8]; 10] =
+    [b"ab", b"ab", b"aAbB", b"ab1\n", b"a1, -_", b"aAzZ@[`{", b"a# \t\n\x0B", b"a\r\n\x85", b"\x00a\n\x7F\x80\x85\xA0\xFF]", b"sSkE\xC9\xE9\xDF"];
+
+/// What opens a part that looks ahead or holds on. A `(?!` fails on much of what the others are tried on.
+const INNER: [&str; 5] = ["(?>", "(?>", "(?=", "(?=", "(?!"];
 
 /// What `x` skips. A comment may hold anything but an 0A.
 const BLANKS: [&str; 16] =
@@ -54,6 +57,10 @@ pub fn rule(rng: &mut Rng, style: Style) -> Vec<u8> {
     if maker.rule.is_empty() && maker.rng.percent(90) {
         maker.item(style.depth);
     }
+    if maker.holds && maker.rng.percent(40) {
+        maker.blank();
+        maker.look_at_group();
+    }
     maker.keep_promises();
     // Behind all groups a reference mostly finds its group set.
     if maker.groups > 0 && maker.rng.percent(25) {
@@ -73,7 +80,7 @@ pub fn rule(rng: &mut Rng, style: Style) -> Vec<u8> {
 }
 
 /// What the depot profile takes and what it refuses, with repeats of every kind over what can take no bytes and over what cannot.
-const PROFILE_PIECES: [&str; 30] = [
+const PROFILE_PIECES: [&str; 37] = [
     "a",
     "a",
     "b",
@@ -104,6 +111,13 @@ const PROFILE_PIECES: [&str; 30] = [
     "|",
     "*",
     "\\1",
+    "(?>",
+    "(?=",
+    "(?!",
+    "\\R",
+    "++",
+    ")*+",
+    "){0,}+",
 ];
 
 /// A few of these pieces in any order, with the brackets that are open closed.
@@ -121,7 +135,7 @@ pub fn for_profile(rng: &mut Rng) -> Vec<u8> {
         rule += piece;
     }
     for _ in 0..open {
-        rule += *rng.pick(&[")", ")", ")*", ")+?", ")?", "){3}", "){0,}"]);
+        rule += *rng.pick(&[")", ")", ")*", ")+?", ")?", "){3}", "){0,}", ")*+"]);
     }
     rule.into_bytes()
 }
@@ -137,7 +151,8 @@ pub fn many_groups(rng: &mut Rng, plain: bool) -> Vec<u8> {
     for number in 1..=groups {
         let opening = if names[number - 1] { format!("(?<n{number}>") } else { "(".to_string() };
         let (inside, repeat) = (*rng.pick(&["", "a", "a?", "b?", "a|b", "[ab]", "."]), *rng.pick(&["", "", "", "?", "??", "*"]));
-        rule += &format!("{opening}{inside}){repeat}");
+        let (before, behind) = *rng.pick(&[("", ""), ("", ""), ("", ""), ("", ""), ("(?=", ")"), ("(?>", ")")]);
+        rule += &format!("{before}{opening}{inside}){repeat}{behind}");
         if rng.percent(referred) || (referred > 0 && number == groups) {
             let missing = usize::from(!plain && rng.percent(2));
             let group = rng.between(1, groups) + missing * groups;
@@ -176,13 +191,15 @@ struct Maker<'r> {
     promised: Vec<&'static str>,
     /// Do groups have names in this rule?
     is_named: bool,
+    /// Are there parts in it that look ahead or hold on?
+    holds: bool,
     rule: Vec<u8>,
 }
 
 impl<'r> Maker<'r> {
     fn new(rng: &'r mut Rng, style: Style) -> Maker<'r> {
-        let is_named = rng.percent(35);
-        Maker { rng, style, groups: 0, names: Vec::new(), promised: Vec::new(), is_named, rule: Vec::new() }
+        let (is_named, holds) = (rng.percent(35), rng.percent(60));
+        Maker { rng, style, groups: 0, names: Vec::new(), promised: Vec::new(), is_named, holds, rule: Vec::new() }
     }
 
     fn write(&mut self, text: &str) {
@@ -213,8 +230,13 @@ impl<'r> Maker<'r> {
     }
 
     fn item(&mut self, depth: usize) {
-        let group = if depth > 0 { 25 } else { 0 };
-        match self.rng.weighted(&[30, 5, 4, 6, 10, 8, 8, group, group / 2]) {
+        let (group, inner, line_break) = match (depth, self.holds) {
+            (0, false) => (0, 0, 0),
+            (0, true) => (0, 0, 5),
+            (_, false) => (25, 0, 0),
+            (_, true) => (18, 20, 5),
+        };
+        match self.rng.weighted(&[30, 5, 4, 6, 10, 8, 8, group, group / 2, inner, line_break]) {
             0 => self.literal(),
             1 => self.write("."),
             2 => self.byte_escape(),
@@ -230,7 +252,12 @@ impl<'r> Maker<'r> {
             }
             6 => self.reference(),
             7 => self.capturing_group(depth),
-            _ => self.group("(?:", depth),
+            8 => self.group("(?:", depth),
+            9 => {
+                let opening = *self.rng.pick(&INNER);
+                self.group(opening, depth);
+            }
+            _ => self.write("\\R"),
         }
         if self.rng.percent(45) {
             self.blank();
@@ -277,10 +304,25 @@ impl<'r> Maker<'r> {
         self.write(")");
     }
 
+    /// A group that is only looked at: at the rule's end it mostly lies behind the match.
+    fn look_at_group(&mut self) {
+        let opening = if self.rng.percent(85) { "(?=" } else { "(?!" };
+        self.write(opening);
+        let before = self.rng.weighted(&[50, 35, 15]);
+        for _ in 0..before {
+            self.item(0);
+        }
+        self.capturing_group(1);
+        if self.rng.percent(25) {
+            self.item(0);
+        }
+        self.write(")");
+    }
+
     fn literal(&mut self) {
         let byte = *self.rng.pick(self.style.alphabet);
         // A blank that is meant as a literal needs its backslash under `x`.
-        let escaped = if self.style.blanks && b"\t\n\x0B #".contains(&byte) { 90 } else { 10 };
+        let escaped = if self.style.blanks && b"\t\n\x0B\r #".contains(&byte) { 90 } else { 10 };
         if b"\\^$.|()[*+?{".contains(&byte) || (!byte.is_ascii_alphanumeric() && byte != b'_' && self.rng.percent(escaped)) {
             self.rule.push(b'\\');
         }
@@ -359,9 +401,9 @@ impl<'r> Maker<'r> {
             _ => format!("{{{low},{zero}{high}}}"),
         };
         self.write(&text);
-        if self.rng.percent(30) {
-            self.write("?");
-        }
+        let possessive = if self.holds { 25 } else { 0 };
+        let mark = ["", "?", "+"][self.rng.weighted(&[70, 30, possessive])];
+        self.write(mark);
     }
 
     fn class(&mut self) {

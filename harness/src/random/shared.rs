@@ -2,7 +2,7 @@
 
 use super::rules::{self, Style};
 use super::{damage, scans, sound, subjects, Rng};
-use crate::independent::{self, tree::Rule, ALL_FLAGS, FLAG_D, FLAG_I};
+use crate::independent::{self, tree::Rule, ALL_FLAGS, FLAG_D, FLAG_I, LONGEST_RULE};
 
 pub struct Shared {
     pub rule: Vec<u8>,
@@ -28,7 +28,7 @@ fn flags(rng: &mut Rng) -> u32 {
     rng.number() as u32 & ALL_FLAGS & !FLAG_D
 }
 
-/// The case of this seed and number, or none where the rule made is refused.
+/// The case of this seed and number, or none where the rule made is refused or too long.
 pub fn case(seed: u64, number: u64) -> Option<Shared> {
     let rng = &mut Rng::new(seed, number);
     let flags = flags(rng);
@@ -39,7 +39,7 @@ pub fn case(seed: u64, number: u64) -> Option<Shared> {
         1 => rules::many_groups(rng, true),
         _ => rules::rule(rng, style),
     };
-    let tree = independent::read(&rule, flags).ok()?;
+    let tree = independent::read(&rule, flags).ok().filter(|_| rule.len() <= LONGEST_RULE)?;
     let subject = subjects::subject(rng, Some(&tree), style.alphabet);
     Some(Shared { rule, flags, tree, subject })
 }

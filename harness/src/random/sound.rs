@@ -2,17 +2,18 @@
 
 use super::rules::{self, Style};
 use super::Rng;
-use crate::independent::{self, tree::Rule};
+use crate::independent::{self, tree::Rule, LONGEST_RULE};
 
-/// A sound rule of styles that are made so, with one of these pairs written around it.
+/// A sound rule of styles that are made so, with one of these pairs written around it; seldom one is made that is too long.
 pub fn rule(rng: &mut Rng, flags: u32, style: impl Fn(&mut Rng) -> Style, around: &[(&str, &str)]) -> (Vec<u8>, Rule) {
     loop {
         let style = style(rng);
         let inside = rules::rule(rng, style);
         let (before, behind) = *rng.pick(around);
         let rule = [before.as_bytes(), &inside, behind.as_bytes()].concat();
-        if let Ok(tree) = independent::read(&rule, flags) {
-            return (rule, tree);
+        match independent::read(&rule, flags) {
+            Ok(tree) if rule.len() <= LONGEST_RULE => return (rule, tree),
+            _ => {}
         }
     }
 }

@@ -1,7 +1,10 @@
 //! Random subjects: bytes of a small alphabet, and lines that a rule nearly fits.
 
+use std::collections::VecDeque;
+
 use super::Rng;
-use crate::independent::tree::{Alternation, Kind, Part, Rule};
+use crate::independent::tree::{Alternation, Form, Inner, Kind, Part, Rule};
+use crate::independent::ByteSet;
 
 /// Lines that grow from a rule are cut here.
 const LONGEST: usize = 40;
@@ -56,14 +59,20 @@ fn any(rng: &mut Rng, alphabet: &[u8]) -> Vec<u8> {
 
 /// A line grown along the rule: the bytes of some branches and rounds. Places are not looked at, so it need not fit.
 pub fn fitting(rng: &mut Rng, rule: &Rule) -> Vec<u8> {
-    let mut line = Line { text: Vec::new(), groups: vec![Vec::new(); rule.groups + 1], folds: rule.folds };
+    let mut line = Line { text: Vec::new(), ahead: VecDeque::new(), groups: vec![Vec::new(); rule.groups + 1], folds: rule.folds };
     line.alternation(rng, &rule.whole);
+    // What was looked at and not taken: a capture may lie there.
+    if rng.percent(70) {
+        line.text.extend(line.ahead);
+    }
     line.text.truncate(LONGEST);
     line.text
 }
 
 struct Line {
     text: Vec<u8>,
+    /// What a part that looks ahead wants to see behind the text.
+    ahead: VecDeque<u8>,
     groups: Vec<Vec<u8>>,
     /// What a reference takes may have letters of the other case.
     folds: bool,
@@ -94,16 +103,35 @@ impl Line {
                     self.part(rng, &repeat.body);
                 }
             }
+            Part::Inner(inner) => self.inner(rng, inner),
         }
+    }
+
+    /// What a held part takes is as that of a group. What a `(?=` takes is wanted of the bytes that follow; that of a `(?!` seldom.
+    fn inner(&mut self, rng: &mut Rng, inner: &Inner) {
+        if inner.form == Form::Held {
+            return self.alternation(rng, &inner.inside);
+        }
+        if inner.form == Form::NotAhead && rng.percent(75) {
+            return;
+        }
+        let text = std::mem::take(&mut self.text);
+        self.alternation(rng, &inner.inside);
+        self.ahead = std::mem::replace(&mut self.text, text).into();
+    }
+
+    /// The byte that is wanted here, if the set has it, or any other.
+    fn byte(&mut self, rng: &mut Rng, set: &ByteSet) -> Option<u8> {
+        let wanted = self.ahead.pop_front().filter(|&byte| set.has(byte));
+        let bytes = set.bytes();
+        wanted.or_else(|| (!bytes.is_empty()).then(|| *rng.pick(&bytes)))
     }
 
     fn item(&mut self, rng: &mut Rng, item: &Kind) {
         match item {
             Kind::Byte(set) => {
-                let bytes = set.bytes();
-                if !bytes.is_empty() {
-                    self.text.push(*rng.pick(&bytes));
-                }
+                let byte = self.byte(rng, set);
+                self.text.extend(byte);
             }
             Kind::Place(_) => {}
             Kind::Reference(group) => {
@@ -111,6 +139,7 @@ impl Line {
                 if self.folds {
                     mix_case(rng, &mut same);
                 }
+                self.ahead.drain(..same.len().min(self.ahead.len()));
                 self.text.extend(same);
             }
         }

@@ -1,5 +1,5 @@
 //! Rules by how they begin: with sets, groups, branches, repeats of every kind and places, alone and within each other. Under `x` blanks and
-//! comments stand before what begins and before its repeat.
+//! comments stand before what begins and before its repeat. Nearly half of the rules look ahead or hold on.
 
 use crate::independent::FLAG_X;
 use crate::random::Rng;
@@ -43,7 +43,7 @@ const ITEMS: [&str; 34] = [
 ];
 
 /// Rules of many readings, many of them met more than once, and others of one span that differ in a group.
-const MANY_READINGS: [&str; 20] = [
+const MANY_READINGS: [&str; 28] = [
     "(.*)",
     "^(.*)",
     "(?:.*|.*)",
@@ -64,10 +64,18 @@ const MANY_READINGS: [&str; 20] = [
     "(?:|a)(?:a|)",
     "(a|ab)(b|)",
     "(\\d*),?(\\d*)",
+    "(?>(a*))(a*)",
+    "(a*)(a*+)",
+    "(?=(a*))(a*)",
+    "(?=(a*?))*(a*)",
+    "(a*)(?=(a*))(a*)",
+    "(?>a|aa)*(a*)",
+    "(?:a(?!b))*(a?)",
+    "(?:(?=(a))|(a))*",
 ];
 
 /// Rules with references: to long spans and short, empty and unset ones, to a group that is set anew, alone, repeated and in branches.
-const REFERENCES: [&str; 32] = [
+const REFERENCES: [&str; 42] = [
     "(a+)\\1",
     "(a*)\\1",
     "^(a+)\\1$",
@@ -100,6 +108,16 @@ const REFERENCES: [&str; 32] = [
     "^(?<n>.*),\\g{n}$",
     "\\k'n'*(?<n>a+)",
     "(?<n>a|b\\k{n})+",
+    "(?=(a+))\\1",
+    "(?=(.*),)\\1,\\1",
+    "(?>(a+))\\1",
+    "(a++)b?\\1",
+    "(a+)(?=\\1)a*",
+    "(a+)(?!\\1)",
+    "^(?>(.*?),)\\1$",
+    "(?:(?=(a+))a)+\\1",
+    "(?!(a+)\\1)(.*)\\2",
+    "(.+?)(?>\\1)++,",
 ];
 
 /// Places that say something of the byte before or behind, so that a start's own byte does not settle whether it can begin.
@@ -144,6 +162,8 @@ struct Maker<'r> {
     favoured: [&'static str; 2],
     /// The rule is for `x`.
     blanks: bool,
+    /// There are parts in it that look ahead or hold on.
+    holds: bool,
     /// Groups opened so far.
     groups: usize,
     rule: String,
@@ -152,7 +172,8 @@ struct Maker<'r> {
 impl<'r> Maker<'r> {
     fn new(rng: &'r mut Rng, flags: u32) -> Maker<'r> {
         let favoured = [(); 2].map(|()| *rng.pick(&ITEMS));
-        Maker { rng, favoured, blanks: flags & FLAG_X != 0, groups: 0, rule: String::new() }
+        let holds = rng.percent(45);
+        Maker { rng, favoured, blanks: flags & FLAG_X != 0, holds, groups: 0, rule: String::new() }
     }
 
     fn write(&mut self, text: &str) {
@@ -183,16 +204,23 @@ impl<'r> Maker<'r> {
             let place = *self.rng.pick(&["^", "^", "\\A", "\\A", "^^", "\\A^"]);
             self.write(place);
         }
+        if self.holds && self.rng.percent(if begins { 15 } else { 5 }) {
+            self.look();
+        }
         let items = self.rng.weighted(&[6, 42, 30, 15, 7]);
         for index in 0..items {
             self.item(depth, begins && index == 0);
+        }
+        if self.holds && self.rng.percent(10) {
+            self.look();
         }
     }
 
     fn item(&mut self, depth: usize, begins: bool) {
         let group = if depth > 0 { 15 } else { 0 };
         self.blank();
-        match self.rng.weighted(&[36, 32, group, group, 3, 8]) {
+        let line_break = if self.holds { 4 } else { 0 };
+        match self.rng.weighted(&[36, 32, group, group, 3, 8, line_break]) {
             0 => self.byte(),
             1 => self.run(),
             2 => self.group(depth, begins),
@@ -204,8 +232,31 @@ impl<'r> Maker<'r> {
                 let place = *self.rng.pick(&PLACES);
                 self.write(place);
             }
-            _ => self.reference(),
+            5 => self.reference(),
+            _ => {
+                self.write("\\R");
+                if self.rng.percent(50) {
+                    self.repeat();
+                }
+            }
         }
+    }
+
+    /// What looks at the bytes that come next: one item, a run, or either with a place behind it; at times a group.
+    fn look(&mut self) {
+        let (opening, closing) = *self.rng.pick(&[("(?=", ")"), ("(?=(", "))"), ("(?!", ")")]);
+        self.groups += usize::from(opening == "(?=(");
+        self.write(opening);
+        if self.rng.percent(60) {
+            self.byte();
+        } else {
+            self.run();
+        }
+        if self.rng.percent(15) {
+            let place = *self.rng.pick(&PLACES);
+            self.write(place);
+        }
+        self.write(closing);
     }
 
     fn byte(&mut self) {
@@ -219,6 +270,7 @@ impl<'r> Maker<'r> {
     /// A repeat over one byte item, which may stand in brackets.
     fn run(&mut self) {
         let (opening, closing) = *self.rng.pick(&[("", ""), ("", ""), ("", ""), ("", ""), ("", ""), ("(?:", ")"), ("(", ")"), ("(?:(?:", "))")]);
+        let (opening, closing) = if self.holds && self.rng.percent(10) { ("(?>", ")") } else { (opening, closing) };
         self.groups += usize::from(opening == "(");
         self.write(opening);
         self.byte();
@@ -227,9 +279,14 @@ impl<'r> Maker<'r> {
     }
 
     fn group(&mut self, depth: usize, begins: bool) {
-        let captures = self.rng.percent(50);
-        self.groups += usize::from(captures);
-        self.write(if captures { "(" } else { "(?:" });
+        let holds = if self.holds { 50 } else { 0 };
+        let opening = match self.rng.weighted(&[50, 50, holds]) {
+            0 => "(",
+            1 => "(?:",
+            _ => *self.rng.pick(&["(?>", "(?>", "(?=", "(?!"]),
+        };
+        self.groups += usize::from(opening == "(");
+        self.write(opening);
         self.alternation(depth - 1, begins);
         self.write(")");
     }
@@ -259,8 +316,8 @@ impl<'r> Maker<'r> {
             _ => format!("{{{},}}", low + self.rng.between(5, 30)),
         };
         self.write(&text);
-        if self.rng.percent(20) {
-            self.write("?");
-        }
+        let possessive = if self.holds { 25 } else { 0 };
+        let mark = ["", "?", "+"][self.rng.weighted(&[80, 20, possessive])];
+        self.write(mark);
     }
 }

@@ -1,6 +1,6 @@
 //! Subjects of stretches: the same byte over and over, bytes that the rule cannot begin with, and pieces grown along the rule.
 
-use crate::independent::tree::{Alternation, Item, Kind, Part, Rule};
+use crate::independent::tree::{Alternation, Form, Inner, Item, Kind, Part, Rule};
 use crate::independent::ByteSet;
 use crate::random::subjects::fitting;
 use crate::random::Rng;
@@ -8,7 +8,7 @@ use crate::random::Rng;
 /// Bytes of the rules' items.
 const OWN: &[u8] = b"aaab1,";
 /// Bytes that few of the items take.
-const OTHER: &[u8] = b"x- \nz#\x00\xFF";
+const OTHER: &[u8] = b"x- \r\nz#\x00\xFF";
 
 pub fn subject(rng: &mut Rng, rule: &Rule) -> Vec<u8> {
     let length = match rng.weighted(&[50, 42, 7, 1]) {
@@ -105,7 +105,7 @@ fn add_first_of_branches(alternation: &Alternation, first: &mut ByteSet) -> bool
     alternation.branches.iter().fold(false, |empty, branch| add_first(branch, first) || empty)
 }
 
-/// The same for parts that follow one another; a place or a reference takes no byte here.
+/// The same for parts that follow one another; a place, a reference or what looks ahead takes no byte here.
 fn add_first(parts: &[Part], first: &mut ByteSet) -> bool {
     parts.iter().all(|part| match part {
         Part::Item(Item { kind: Kind::Byte(set), .. }) => {
@@ -114,6 +114,8 @@ fn add_first(parts: &[Part], first: &mut ByteSet) -> bool {
         }
         Part::Item(_) => true,
         Part::Group(group) => add_first_of_branches(&group.inside, first),
+        Part::Inner(Inner { form: Form::Ahead | Form::NotAhead, .. }) => true,
+        Part::Inner(held) => add_first_of_branches(&held.inside, first),
         Part::Repeat(repeat) => repeat.most == Some(0) || add_first(std::slice::from_ref(&repeat.body), first) || repeat.least == 0,
     })
 }
