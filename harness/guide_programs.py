@@ -3,9 +3,11 @@
 
 Usage: harness/guide_programs.py (after `rt staticlib terravisco`). The last line is 'N passed, M failed'.
 """
+import os
 import re
 import shutil
 import subprocess
+import sys
 from pathlib import Path
 
 from cases import Cases
@@ -13,11 +15,13 @@ from cases import Cases
 ROOT = Path(__file__).resolve().parent.parent
 LIBRARY = ROOT / "target" / "staticlib"
 WRAPPER = ("terravisco.rs", "raw.rs", "refusal.rs")
-SUFFIXES = {"c": "c", "rust": "rs"}
+SUFFIXES = {"c": "c", "rust": "rs", "python": "py"}
 BUILDS = {
     "c": ["gcc", "-std=c99", "-pedantic", "-Wall", "-Wextra", "-Werror", "-I", ROOT / "include", "program.c", LIBRARY / "libterravisco.a", "-o", "program"],
     "rust": ["rustc", "--edition", "2021", "-D", "warnings", "-L", LIBRARY, "-l", "static=terravisco", "program.rs", "-o", "program"],
+    "python": [ROOT / "bindings" / "link-shared", "libterravisco.so"],
 }
+RUNS = {"c": ("./program", []), "rust": ("./program", []), "python": (sys.executable, ["-W", "error", "program.py"])}
 
 
 def programs(guide):
@@ -33,6 +37,7 @@ def programs(guide):
 
 def main():
     t = Cases("./program")
+    os.environ.update(TERRAVISCO_LIBRARY="./libterravisco.so", PYTHONPATH=str(ROOT / "bindings" / "python"))
     for file in WRAPPER:
         shutil.copy(ROOT / "harness" / "src" / file, file)
     for number, (language, text, out) in enumerate(programs((ROOT / "docs" / "GUIDE.md").read_text()), 1):
@@ -41,7 +46,8 @@ def main():
         name = "program %d, %s" % (number, language)
         t.same(name + ", build", built.stderr if built.returncode else "", "")
         if built.returncode == 0:
-            t.run(name, [], out)
+            t.program, arguments = RUNS[language]
+            t.run(name, arguments, out)
     t.end()
 
 
