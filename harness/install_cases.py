@@ -75,10 +75,12 @@ def environment(prefix):
 def put_and_taken(t):
     """All that is put there, and nothing that is left; of a new prefix not even its folders."""
     prefix = Path("new/one").resolve()
-    said = t.install(prefix)
+    # what is installed can be read by all, whoever installs it
+    said = t.install(prefix, umask=0o077)
     t.same("what is said", said.split("\n")[0], "Installed below %s. Where this prefix is not searched already:" % prefix)
     found = tree(prefix)
     t.same("files", {name: mode for name, mode in found.items() if mode != "folder"}, dict(sorted(PLACES.items())))
+    t.same("folders", sorted({stat.S_IMODE(path.stat().st_mode) for path in prefix.rglob("*") if path.is_dir()}), [0o755])
     for program in PROGRAMS:
         t.same("bytes of " + program, (prefix / "bin" / program).read_bytes(), (ROOT / "target" / "bin" / program).read_bytes())
     t.same("nothing is said when it is taken away", t.install("--uninstall", prefix), "")

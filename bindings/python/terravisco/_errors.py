@@ -61,6 +61,7 @@ class Refused(ValueError):
 
     @property
     def sentence(self) -> str:
+        """What the number means."""
         return SENTENCES.get(self.number, "a refusal that this module has no sentence for")
 
     def __str__(self) -> str:

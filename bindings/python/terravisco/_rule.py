@@ -92,12 +92,15 @@ class Match(Generic[AnyStr]):
         return (-1, -1) if start == _limits.UNSET else (start, end)
 
     def start(self, group: Group = 0) -> int:
+        """Where a group begins in the line; -1 if it is not set."""
         return self.span(group)[0]
 
     def end(self, group: Group = 0) -> int:
+        """Where a group ends in the line; -1 if it is not set."""
         return self.span(group)[1]
 
     def __getitem__(self, group: Group) -> Optional[AnyStr]:
+        """What one group took; `None` if it is not set."""
         return self._part(group, None)
 
     def group(self, *groups: Group) -> Any:
@@ -194,6 +197,10 @@ class LineAnswer(Generic[AnyStr]):
 
 class Rule(Generic[AnyStr]):
     """A rule with its flags and its budget of steps for each start in a line. Made by `compile`.
+
+    pattern, flags, budget  what it was made of
+    groups                  how many groups it has
+    groupindex              the number of each group that has a name
 
     It owns the areas that the library works in: 64 KiB, and 64 bytes for each step of the budget. Several threads may use one rule, and a lock lets
     one call in at a time; for calls side by side give each thread a rule of its own (`copy.copy` makes one).

@@ -27,19 +27,19 @@ class Docs(unittest.TestCase):
             with self.subTest(name):
                 self.assertRegex(text, rf"`(?:terravisco\.)?{re.escape(name)}\b")
 
-    def test_every_call_has_a_text(self):
-        for kind in (terravisco.Rule, terravisco.Match, terravisco.LineAnswer, terravisco.Explanation):
-            self.assertTrue(kind.__doc__)
-        for name in ("search", "finditer", "readings", "explain", "fields", "match_lines"):
-            with self.subTest(name):
-                self.assertTrue(getattr(terravisco.Rule, name).__doc__)
-
-    def test_every_call_has_hints(self):
-        calls = [terravisco.compile, terravisco.card_write, terravisco.card_read]
-        for kind in (terravisco.Rule, terravisco.Match, terravisco.LineAnswer, terravisco.Explanation, terravisco.RuleError, terravisco.Exhausted):
-            calls += [call for name, call in inspect.getmembers(kind, inspect.isfunction) if not name.startswith("_") or name == "__init__"]
+    def test_every_call_has_a_text_and_hints(self):
+        public = [getattr(terravisco, name) for name in terravisco.__all__]
+        classes = [kind for kind in public if isinstance(kind, type)]
+        calls = [call for call in public if inspect.isfunction(call)]
+        for kind in classes:
+            with self.subTest(kind.__name__):
+                self.assertTrue(kind.__doc__)
+            # those that a class has by itself
+            calls += [call for name, call in vars(kind).items() if inspect.isfunction(call) and not name.startswith("_") and kind is not terravisco.Flag]
+        self.assertGreater(len(calls), 15)
         for call in calls:
             with self.subTest(call.__qualname__):
                 signature = inspect.signature(call)
                 kinds = [parameter.annotation for name, parameter in signature.parameters.items() if name != "self"] + [signature.return_annotation]
                 self.assertNotIn(inspect.Signature.empty, kinds)
+                self.assertTrue(call.__doc__)
