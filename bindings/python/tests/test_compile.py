@@ -183,6 +183,10 @@ class Kinds(unittest.TestCase):
         with self.assertRaises(UnicodeEncodeError):
             terravisco.compile("a").search("5 €")
 
+    def test_no_sign_is_halved(self):
+        """In UTF-8 both signs would begin with the same byte."""
+        self.assertIsNone(terravisco.compile("[é]").search("ü"))
+
     def test_letters_are_the_ascii_ones(self):
         self.assertIsNone(terravisco.compile(r"\w").search("é"))
 

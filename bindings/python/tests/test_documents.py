@@ -1,6 +1,7 @@
 """The examples of the documents and the guide that are written down in harness/data, each as `bytes` and as `str`.
 
-Examples that lend areas of other lengths ask for what a rule, which owns its areas, does not do: they are for the interface in C.
+Examples that lend areas of other lengths ask for what a rule, which owns its areas, does not do: they are for the interface in C, and are counted. So are the
+files of lookups and cards, which hand in indices, rows and areas by themselves; test_match.py and test_cards.py have such cases.
 """
 import re
 import unittest
@@ -74,10 +75,13 @@ def rows_and_ending(found, ask):
 
 class Documents(unittest.TestCase):
     def test_each_file(self):
+        every = left_out = 0
         for file in FILES:
             tried = 0
             for example in examples(file):
+                every += 1
                 if example.lends_other_areas():
+                    left_out += 1
                     continue
                 tried += 1
                 for kind in (bytes, str):
@@ -85,6 +89,7 @@ class Documents(unittest.TestCase):
                         self.hold(example, (lambda text: text) if kind is bytes else (lambda text: text.decode("latin-1")))
             with self.subTest(file):
                 self.assertGreater(tried, 0)
+        print(f"  {every} examples, of which {left_out} lend areas of other lengths and are left out")
 
     def hold(self, example, text):
         if example.expected and example.expected[-1].startswith("refused"):
