@@ -1,4 +1,5 @@
 -- What a day's lines tell.
+-- docs/REFERENCE.md, 16.6, 18.3
 use Rattle.semantics.specs.Batches.{BatchOutcome, Done, BatchRefused}
 use Rattle.batching.specs.declared.Batch.{Batch}
 use Rattle.batching.specs.declared.Batch.the-variants.{Done as All, Refused as Denied}

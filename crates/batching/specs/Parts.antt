@@ -1,4 +1,5 @@
 -- What stands for the lines of a rule that stands compiled: each line's part, made from what a match of that line alone returns.
+-- docs/REFERENCE.md, 16.6, 18.4
 use mathlib.Core.Path.{_≡_}
 use mathlib.Core.List.{List, [], _∷_, _++_}
 use Prim.Native.Nat.{ℕ}

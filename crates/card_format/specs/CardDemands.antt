@@ -1,4 +1,5 @@
 -- The demands on the calls, sentence by sentence of 02's request i), as statements over the bytes of a card; CardDemandsHold proves them for all inputs.
+-- docs/REFERENCE.md, 17.2, 17.3
 use mathlib.Core.Path.{_≡_}
 use mathlib.Core.List.{List, [], _∷_, _++_}
 use mathlib.Core.Logic.{_⊎_, _↔_}

@@ -1,4 +1,5 @@
 -- The demands hold of both calls, for all inputs. Each call ends in one of a few ways, and each way is told by what is handed in.
+-- docs/REFERENCE.md, 17.2, 17.3
 use mathlib.Core.Path.{_≡_, refl, sym, ap, subst, _∙_}
 use mathlib.Core.List.{List, []}
 use mathlib.Core.Logic.{_⊎_, inl, inr}

@@ -1,4 +1,5 @@
 -- What 02's request i) says of both calls together, for all inputs; and that the demands leave no freedom.
+-- docs/REFERENCE.md, 17.3
 use mathlib.Core.Path.{_≡_, sym, ap, subst, _∙_}
 use mathlib.Core.List.{List}
 use mathlib.Core.Logic.{inl, inr, _↔_}

@@ -1,5 +1,6 @@
 -- Rule cards, 02's request i): "A second crate above the matcher reads and writes a rule card: records of one byte of kind and a body whose length the
 -- kind fixes." What a card is made of, how bytes are read as one, and the two calls.
+-- docs/REFERENCE.md, 17
 use mathlib.Core.List.{List, [], _∷_, _++_, map}
 use mathlib.Core.Bool.{Bool, true, not, _&&_}
 use mathlib.Core.Option.{Option, none, some}

@@ -1,4 +1,5 @@
 -- Where the bytes of a card stand, and what stands at a position.
+-- docs/REFERENCE.md, 17.1
 use mathlib.Core.List.{List}
 use Prim.Native.Nat.{ℕ, suc, _+_, _-_, _*_, _/_, _%_}
 use lib.Dec.{eqb}

@@ -1,4 +1,5 @@
 -- The room that the words of a card take at most.
+-- docs/REFERENCE.md, 19.4
 use Prim.Native.Nat.{ℕ, _+_, _*_}
 
 -- two lines of at most four bytes for each of the rule's

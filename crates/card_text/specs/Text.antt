@@ -1,4 +1,5 @@
 -- A rule card in words: its rule, what its flags do, its budget and the number of its groups.
+-- docs/REFERENCE.md, 19.4
 use mathlib.Core.List.{List, [], _∷_, _++_}
 use mathlib.Core.Bool.{Bool, true, false}
 use Prim.Native.Nat.{ℕ}

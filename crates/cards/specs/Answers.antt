@@ -1,4 +1,5 @@
 -- What the code answers, and what its parts are lent.
+-- docs/REFERENCE.md, 17.2, 17.3, 18.3
 use mathlib.Core.Path.{_≡_}
 use mathlib.Core.List.{List}
 use Prim.Native.Nat.{ℕ, _≤_, _<_}

@@ -1,4 +1,5 @@
 -- What the code finds out about the bytes of a card, step by step.
+-- docs/REFERENCE.md, 17.3
 use mathlib.Core.Path.{_≡_}
 use mathlib.Core.Bool.{Bool, true, false, _&&_}
 use mathlib.Core.List.{List, [], _∷_}

@@ -1,4 +1,5 @@
 -- 02, request c), the flag `i`: "A to Z and a to z match each other".
+-- docs/REFERENCE.md, 5.3
 use mathlib.Core.Bool.{Bool, cond, _&&_, _||_}
 use Prim.Native.Nat.{ℕ, _+_, _-_}
 use Rattle.charset.specs.declared.Named.the-variants.{Upper, Lower}

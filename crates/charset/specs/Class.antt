@@ -1,4 +1,5 @@
 -- 01: "A class is a set of 256 marks, one for each byte." It is held in eight words of 32 bits.
+-- docs/REFERENCE.md, 5.4
 use mathlib.Core.List.{List}
 use mathlib.Core.Bool.{Bool}
 use Prim.Native.Nat.{ℕ, _/_, _%_, _^_}

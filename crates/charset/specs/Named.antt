@@ -1,6 +1,7 @@
 -- 01, "Named sets": which bytes each set has, "with bytes 80 to FF in no named set". 02, request a), takes two of them out of that: "in
 -- perlrecharclass `\h` and `\v` don't change with `/a`. So `\h` also has A0 and `\v` also has 85; `\H` and `\V` lose them. `\s`, blank, space
 -- and `\w` stay." `\H` and `\V` are complements of these sets, so that they have no lines of their own.
+-- docs/REFERENCE.md, 5.1, 5.4
 use mathlib.Core.List.{List, [], _∷_}
 use mathlib.Core.Bool.{Bool, true, false, _&&_, _||_}
 use Prim.Native.Nat.{ℕ}

@@ -1,4 +1,5 @@
 -- What the readers of escapes and named sets promise: their answers are those of the definitions in `syntax`.
+-- docs/REFERENCE.md, 7
 use mathlib.Core.Option.{Option, none, some}
 use Rattle.charset.specs.declared.Named.{Named}
 use Rattle.syntax.specs.Read.{Read, sound, refused}

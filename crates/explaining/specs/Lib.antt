@@ -1,3 +1,4 @@
 -- What an explanation tells.
+-- docs/REFERENCE.md, 16.5
 pub mod Explanations
 pub mod Laws

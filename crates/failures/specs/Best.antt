@@ -1,4 +1,5 @@
 -- What the code keeps of the failures so far.
+-- docs/REFERENCE.md, 16.5
 use mathlib.Core.Path.{_≡_}
 use mathlib.Core.List.{List}
 use mathlib.Core.Bool.{Bool, true, false}

@@ -1,4 +1,5 @@
 -- Walks that reach no end and stay within the budget, as those of a line that isn't matched do: they can be walked plainly to where nothing is left.
+-- docs/REFERENCE.md, 16.5
 use mathlib.Core.Path.{_≡_}
 use mathlib.Core.List.{List, []}
 use mathlib.Core.Bool.{Bool, true, false}

@@ -1,2 +1,3 @@
 -- What the contracts speak of: the rule that is held.
+-- docs/REFERENCE.md, 19.3
 pub mod Rules

@@ -1,4 +1,5 @@
 -- The rule of a table, which is held over all lines.
+-- docs/REFERENCE.md, 18.4, 19.3
 use mathlib.Core.List.{List}
 use Prim.Native.Nat.{ℕ, _≤_}
 use Rattle.syntax.specs.Limits.{budgetLimit}

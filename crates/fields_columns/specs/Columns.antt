@@ -1,4 +1,5 @@
 -- The columns of the table: their names, which stand in the layout of a name index, one entry for each column.
+-- docs/REFERENCE.md, 19.3
 use mathlib.Core.List.{List, [], _∷_}
 use Prim.Native.Nat.{ℕ, zero, suc}
 use Rattle.lookup.specs.Names.{entryOf, nameIn}

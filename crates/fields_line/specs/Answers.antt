@@ -1,4 +1,5 @@
 -- The line of the table for a line: "its number, one word and each named field by the lookup".
+-- docs/REFERENCE.md, 19.3
 use mathlib.Core.List.{List, [], _∷_}
 use mathlib.Core.Bool.{Bool, true, false, not, _&&_, _||_}
 use Prim.Native.Nat.{ℕ}

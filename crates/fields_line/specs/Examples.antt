@@ -1,4 +1,5 @@
 -- Rows of the table on small lines, computed from the rule's bytes: each word, and what makes no line ambiguous. One statement over one list.
+-- docs/REFERENCE.md, 19.3
 use mathlib.Core.Path.{_≡_, refl}
 use mathlib.Core.List.{List, [], _∷_, map}
 use Prim.Native.Nat.{ℕ}

@@ -1,4 +1,5 @@
 -- What the table of fields has for a line: the word and the fields (Answers).
+-- docs/REFERENCE.md, 19.3
 pub mod Answers
 pub mod Promises
 pub mod Settled

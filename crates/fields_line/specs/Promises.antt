@@ -1,4 +1,5 @@
 -- What the functions promise.
+-- docs/REFERENCE.md, 19.3
 use mathlib.Core.Path.{_≡_}
 use mathlib.Core.Bool.{Bool, false}
 use mathlib.Core.List.{List}

@@ -1,6 +1,7 @@
 -- "No ambiguous quantity reaches a forecast unmarked": where the word is matched, every reading from the match's start to its end gives each named field
 -- the same bytes, and where it is ambiguous, one of them does not. The readings are all that have a derivation, listed or not. And no line forges a
 -- column.
+-- docs/REFERENCE.md, 19.3
 use mathlib.Core.Path.{_≡_, refl, sym, ap, _∙_}
 use mathlib.Core.Bool.{Bool, true, false, not, _&&_, _||_}
 use mathlib.Core.List.{List, [], _∷_}

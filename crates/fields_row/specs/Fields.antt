@@ -1,4 +1,5 @@
 -- The fields of a row, looked up in a line, and the word before them.
+-- docs/REFERENCE.md, 19.3
 use mathlib.Core.List.{List, map}
 use Prim.Native.Nat.{ℕ}
 use Rattle.syntax.specs.Read.{bytes}

@@ -1,4 +1,5 @@
 -- A row of the table in parts: a field may be longer than the buffer.
+-- docs/REFERENCE.md, 19.3
 use mathlib.Core.List.{List, [], _∷_, _++_}
 use Prim.Native.Nat.{ℕ}
 use lib.Dec.{eqb}

@@ -1,5 +1,6 @@
 -- A field as it stands in the table: "Tabs, backslashes and odd bytes in fields are escaped in the usual way, so that a line can never forge a
 -- column." Odd are the bytes below 20 and above 7E (hex).
+-- docs/REFERENCE.md, 19.3
 use mathlib.Core.List.{List, [], _∷_, _++_}
 use mathlib.Core.Bool.{Bool, _&&_}
 use Prim.Native.Nat.{ℕ, _+_, _/_, _%_}

@@ -1,4 +1,5 @@
 -- The lines of the table: "a head line, then for each line its number, one word and each named field".
+-- docs/REFERENCE.md, 19.3
 use mathlib.Core.List.{List, [], _∷_, _++_}
 use Prim.Native.Nat.{ℕ}
 use Rattle.syntax.specs.Read.{bytes}

@@ -1,4 +1,5 @@
 -- What is answered on whether a call is acceptable.
+-- docs/REFERENCE.md, 10.2
 use mathlib.Core.Path.{_≡_}
 use mathlib.Core.Option.{Option, none, some}
 use mathlib.Core.Bool.{Bool}

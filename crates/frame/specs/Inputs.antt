@@ -1,5 +1,6 @@
 -- What calls share: the inputs as they stand in the code's arguments, that a call's return is the one that is defined, and what an inside is lent, which
 -- may be a part of a text.
+-- docs/REFERENCE.md, 16.1, 18.4
 use mathlib.Core.Path.{_≡_}
 use mathlib.Core.List.{List}
 use Prim.Native.Nat.{ℕ, _-_, _≤_}

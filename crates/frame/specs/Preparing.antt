@@ -1,4 +1,5 @@
 -- Preparing a call: what it tells, and what it leaves in the rule area, the work area and the name index.
+-- docs/REFERENCE.md, 15.3, 18.4
 use mathlib.Core.Path.{_≡_}
 use mathlib.Core.List.{List}
 use mathlib.Core.Option.{none, some}

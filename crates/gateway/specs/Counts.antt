@@ -1,4 +1,5 @@
 -- Counts of bytes stay within the slices that they count in.
+-- docs/REFERENCE.md, 19.1
 use mathlib.Core.Path.{_≡_}
 use Prim.Native.Nat.{ℕ, _≤_}
 use native.Mathlib.Omega.{arith}

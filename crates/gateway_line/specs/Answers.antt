@@ -1,4 +1,5 @@
 -- The rule that the gateway program reads, and its answer to a line: 01, "The gateway program".
+-- docs/REFERENCE.md, 19.1
 use mathlib.Core.List.{List}
 use Prim.Native.Nat.{ℕ}
 use lib.ListN.{length}

@@ -1,5 +1,6 @@
 -- The whole program on small inputs, computed from its definition: 01's own example, and the inputs that tell the readings of its open
 -- points apart (docs/DECISIONS.md, "Gateway"). One statement over one list.
+-- docs/REFERENCE.md, 19.1
 use mathlib.Core.Path.{_≡_, refl}
 use mathlib.Core.List.{List, [], _∷_, _++_, map}
 use mathlib.Core.Option.{Option, none, some}

@@ -1,5 +1,6 @@
 -- The whole gateway program as a function of what it reads. 01: "It reads `rule.txt` up to its first 0A (flags 0), then standard input line
 -- by line, budget 1,000."
+-- docs/REFERENCE.md, 19.1
 use mathlib.Core.List.{List, [], _∷_, _++_}
 use mathlib.Core.Option.{Option, none, some}
 use Prim.Native.Nat.{ℕ}

@@ -1,4 +1,5 @@
 -- The quantities of 01, "The gateway program".
+-- docs/REFERENCE.md, 2, 19.1
 use Prim.Native.Nat.{ℕ, suc}
 
 -- "A line over 256 bytes"

@@ -1,4 +1,5 @@
 -- The room that an answer takes.
+-- docs/REFERENCE.md, 19.1
 use Prim.Native.Nat.{ℕ, _+_, _*_}
 use Rattle.syntax.specs.Limits.{groupLimit}
 

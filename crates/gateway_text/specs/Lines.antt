@@ -1,4 +1,5 @@
 -- The lines that the gateway program writes: 01, "The gateway program".
+-- docs/REFERENCE.md, 19.1
 use mathlib.Core.List.{List, [], _∷_, _++_}
 use Prim.Native.Nat.{ℕ, zero, suc, _+_, _*_}
 use lib.ListN.{getD}

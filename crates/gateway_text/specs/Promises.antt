@@ -1,4 +1,5 @@
 -- What the functions promise.
+-- docs/REFERENCE.md, 19.1
 use mathlib.Core.List.{List}
 use Prim.Native.Nat.{ℕ, _+_, _≤_}
 use Rattle.text.specs.Writing.{Wrote}

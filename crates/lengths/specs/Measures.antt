@@ -1,5 +1,6 @@
 -- What measuring promises: whatever tree stands at a position, the least length that was found is the tree's, and the two places are those of its first
 -- reference and its first idle repeat.
+-- docs/REFERENCE.md, 11.2
 use mathlib.Core.Path.{_≡_}
 use mathlib.Core.Bool.{Bool, _&&_, _||_}
 use mathlib.Core.List.{List}

@@ -1,4 +1,5 @@
 -- What the readers of bytes, numbers and names promise: their answers are those of the definitions in `syntax`.
+-- docs/REFERENCE.md, 4, 7.5, 8.1, 9.3
 use mathlib.Core.Path.{_≡_}
 use mathlib.Core.List.{List}
 use Prim.Native.Nat.{ℕ, _+_, _-_, _*_, _≤_, _<_}

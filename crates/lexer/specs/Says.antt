@@ -1,4 +1,5 @@
 -- What the readers of single items promise: their answers are those of the definitions in `syntax`.
+-- docs/REFERENCE.md, 4.3
 use mathlib.Core.Path.{_≡_}
 use mathlib.Core.List.{List}
 use mathlib.Core.Bool.{Bool}

@@ -1,4 +1,5 @@
 -- What linking promises: whatever stood in the area as parts stands there compiled, and nothing outside changed.
+-- docs/REFERENCE.md, 4.5
 use mathlib.Core.Path.{_≡_}
 use mathlib.Core.List.{List}
 use mathlib.Core.Option.{Option, none, some}

@@ -17,6 +17,7 @@
 --
 -- `inside` is the last part of a sequence, or the last branch of an alternation. 0 is no node's position: it stands for none.
 -- A reference by name may stand before its group: its number is known only when the whole rule is read.
+-- docs/REFERENCE.md, 4.5
 use mathlib.Core.Path.{_≡_}
 use mathlib.Core.Bool.{Bool, true, false}
 use mathlib.Core.List.{List}

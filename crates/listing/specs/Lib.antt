@@ -1,3 +1,4 @@
 -- What a listing tells and holds on its way.
+-- docs/REFERENCE.md, 16.3
 pub mod Listing
 pub mod Laws

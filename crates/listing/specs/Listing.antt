@@ -1,4 +1,5 @@
 -- What a listing tells and holds on its way: over the ends of one start, and over the starts.
+-- docs/REFERENCE.md, 16.3, 18.3
 use mathlib.Core.Path.{_≡_}
 use mathlib.Core.Bool.{true, false}
 use mathlib.Core.List.{List, [], _++_}

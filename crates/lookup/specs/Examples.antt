@@ -1,4 +1,5 @@
 -- The inputs that tell the readings of 02's open points on the lookup apart (docs/DECISIONS.md), computed. One statement over one list.
+-- docs/REFERENCE.md, 16.7
 use mathlib.Core.Path.{_≡_, refl}
 use mathlib.Core.List.{List, [], _∷_, _++_, map}
 use Prim.Native.Nat.{ℕ, suc, _-_, _*_}

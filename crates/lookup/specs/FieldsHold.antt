@@ -1,4 +1,5 @@
 -- What the lookup gives after a match, sentence by sentence, for all inputs.
+-- docs/REFERENCE.md, 16.7
 use mathlib.Core.Path.{_≡_, refl, sym, ap, _∙_}
 use mathlib.Core.List.{List}
 use Prim.Native.Nat.{ℕ, _≤_}

@@ -1,6 +1,7 @@
 -- The field lookup. 02, e): "given a name, an index .., the line, its answer and the farm's standing text, the field is the part of the line
 -- that the group took, or the standing text itself when the group is unset. For an unknown field, or when the line didn't match, it is the
 -- standing text's empty beginning. If the answer row breaks 01's row rules for the line, that counts as not matched."
+-- docs/REFERENCE.md, 16.7
 use mathlib.Core.Path.{_≡_}
 use mathlib.Core.List.{List, []}
 use mathlib.Core.Bool.{_&&_}

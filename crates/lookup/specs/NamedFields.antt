@@ -1,5 +1,6 @@
 -- What ties names, index and lookup: on a match, the lookup by a group's name gives exactly the bytes of its span. It is said of the calls as they are
 -- defined: of the index and the row that `matchCall` leaves, whatever is handed in.
+-- docs/REFERENCE.md, 16.7
 use mathlib.Core.Path.{_≡_, sym, ap, _∙_}
 use mathlib.Core.List.{List}
 use mathlib.Core.Bool.{false}

@@ -1,4 +1,5 @@
 -- How a name is found in a name index, whatever stands there. What a call fills it with is in `semantics`, NameIndex.
+-- docs/REFERENCE.md, 16.7
 use mathlib.Core.List.{List}
 use mathlib.Core.Bool.{Bool, _&&_}
 use Prim.Native.Nat.{ℕ, zero, suc, _-_, _*_}

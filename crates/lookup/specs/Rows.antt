@@ -1,5 +1,6 @@
 -- 01's rules for a row, as 02's request l) changes them, and as a test of any numbers. Laws.Rows proves that the test tells what they say, and that every row
 -- of a match keeps them.
+-- docs/REFERENCE.md, 16.7
 use mathlib.Core.Path.{_≡_}
 use mathlib.Core.Logic.{_⊎_}
 use mathlib.Core.Bool.{Bool, true, _&&_, _||_}

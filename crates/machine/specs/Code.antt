@@ -1,5 +1,6 @@
 -- Nodes as instructions: how the numbers at a position of the compiled rule are read, and what must be in range for that. Which numbers a
 -- node has is listed in the crate `syntax`, `Compiled`.
+-- docs/REFERENCE.md, 4.5
 use mathlib.Core.List.{List}
 use mathlib.Core.Bool.{Bool, true, false}
 use Prim.Native.Nat.{ℕ, zero, suc, _+_, _≤_, _<_}

@@ -1,5 +1,6 @@
 -- The machine. It stands at a node and a position, with registers and a stack of what is left to try; each of its moves carries out one
 -- node, and emits the events of the walk.
+-- docs/REFERENCE.md, 14.2
 use mathlib.Core.Path.{_≡_}
 use mathlib.Core.List.{List, [], _∷_}
 use mathlib.Core.Logic.{_⊎_}

@@ -2,6 +2,7 @@
 -- rule's trace from a start (`begins`). From there on `Ready` is all that a caller's loop needs. What a run tells is an equation about
 -- `until`; Laws.Loop says where in the trace that is (`until-ended` and the like). After an end (`at-end`) falling back makes the machine
 -- ready again (`resumes`). Where nothing is left (`at-nothing`) the registers are as they were, clear for the next start.
+-- docs/REFERENCE.md, 14.2
 use mathlib.Core.Path.{_≡_, refl, sym}
 use mathlib.Core.List.{List, [], _∷_}
 use Prim.Native.Nat.{ℕ, zero, suc, _*_, _-_, _^_, _≤_, _<_}

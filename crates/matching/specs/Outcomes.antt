@@ -1,4 +1,5 @@
 -- What a match tells.
+-- docs/REFERENCE.md, 16.2, 18.3
 use mathlib.Core.Path.{_≡_}
 use mathlib.Core.List.{List}
 use Prim.Native.Nat.{ℕ}

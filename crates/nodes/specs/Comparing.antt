@@ -1,4 +1,5 @@
 -- What comparing the bytes of a span with those at a position tells, within the steps that are left.
+-- docs/REFERENCE.md, 13.5
 use mathlib.Core.Path.{_≡_}
 use mathlib.Core.List.{List}
 use mathlib.Core.Bool.{Bool, true, false, _&&_}

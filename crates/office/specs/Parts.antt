@@ -1,4 +1,5 @@
 -- Parts of what was read.
+-- docs/REFERENCE.md, 19
 use Prim.Native.Nat.{ℕ, _≤_}
 
 -- the bytes from `at` to `end` are bytes of a piece of that size

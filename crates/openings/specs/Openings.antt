@@ -1,5 +1,6 @@
 -- Starts that cannot begin: a set of bytes and a number of steps, such that the walk from a start at 1 or later whose byte is not in the set
 -- makes so many steps and reaches no end.
+-- docs/REFERENCE.md, 14.3
 use mathlib.Core.Path.{_≡_}
 use mathlib.Core.List.{List, []}
 use mathlib.Core.Logic.{_⊎_}

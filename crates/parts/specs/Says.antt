@@ -1,5 +1,6 @@
 -- What the readers of parts of a sequence and of the openings and ends of groups promise: their answers are those of the grammar, and the tree of a
 -- sound one stands in the area.
+-- docs/REFERENCE.md, 4.2, 8.2, 9
 use mathlib.Core.Path.{_≡_}
 use mathlib.Core.Bool.{Bool}
 use mathlib.Core.List.{List, [], _∷_}

@@ -1,5 +1,6 @@
 -- What a move tells an explanation: the items that failed in it. 02, request f): "A failed item is a byte item, a place or a reference"; and l): "a `(?!`
 -- that fails is a failed item too, tried when it is entered".
+-- docs/REFERENCE.md, 14.4
 use mathlib.Core.Path.{_≡_}
 use mathlib.Core.Logic.{_⊎_}
 use mathlib.Core.List.{List, [], _∷_, _++_}

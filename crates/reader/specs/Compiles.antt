@@ -1,4 +1,5 @@
 -- What compiling a rule promises.
+-- docs/REFERENCE.md, 4.1
 use mathlib.Core.Path.{_≡_}
 use mathlib.Core.List.{List}
 use Prim.Native.Nat.{ℕ, _≤_}

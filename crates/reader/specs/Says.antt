@@ -1,5 +1,6 @@
 -- What the readers of sequences, groups and alternations promise: their answers are those of the grammar, and the tree of a sound one
 -- stands in the area.
+-- docs/REFERENCE.md, 4
 use mathlib.Core.Path.{_≡_}
 use mathlib.Core.List.{List}
 use Prim.Native.Nat.{ℕ, _≤_}

@@ -1,4 +1,5 @@
 -- The rule of a report, which is held over all lines.
+-- docs/REFERENCE.md, 18.4, 19.2
 use mathlib.Core.List.{List}
 use Prim.Native.Nat.{ℕ, _≤_}
 use Rattle.syntax.specs.Limits.{budgetLimit}

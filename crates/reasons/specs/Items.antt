@@ -1,4 +1,5 @@
 -- The own text of an item of a rule, repeats and all.
+-- docs/REFERENCE.md, 19.2
 use mathlib.Core.List.{List, []}
 use mathlib.Core.Bool.{Bool, _&&_}
 use Prim.Native.Nat.{ℕ, suc, _+_, _-_}

@@ -1,4 +1,5 @@
 -- Marked items. The marks are those of an explanation (02, request f): for each byte of the rule 1 where an item begins that failed, else 0.
+-- docs/REFERENCE.md, 19.2
 use mathlib.Core.Path.{_≡_}
 use mathlib.Core.List.{List}
 use mathlib.Core.Bool.{Bool, true, false}

@@ -1,4 +1,5 @@
 -- The marks under a window of a line.
+-- docs/REFERENCE.md, 19.2
 use mathlib.Core.List.{List, [], _∷_}
 use mathlib.Core.Bool.{Bool, _&&_}
 use Prim.Native.Nat.{ℕ, zero, suc, _+_}

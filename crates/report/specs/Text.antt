@@ -1,4 +1,5 @@
 -- The text of a line as it is shown: one column for each byte, whatever the byte is.
+-- docs/REFERENCE.md, 19.2
 use mathlib.Core.List.{List, [], _∷_, map}
 use mathlib.Core.Bool.{Bool, true, false, not, _&&_, _||_}
 use Prim.Native.Nat.{ℕ}

@@ -1,4 +1,5 @@
 -- Successive matches: what the code tells, and what it holds between two searches.
+-- docs/REFERENCE.md, 16.4, 18.3
 use mathlib.Core.Path.{_≡_}
 use mathlib.Core.List.{List}
 use mathlib.Core.Bool.{Bool}

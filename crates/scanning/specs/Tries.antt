@@ -1,4 +1,5 @@
 -- The first try of a search: what the code tells of it, and what is left to the starts behind it.
+-- docs/REFERENCE.md, 16.4
 use mathlib.Core.Path.{_≡_}
 use mathlib.Core.List.{List, []}
 use mathlib.Core.Bool.{Bool}

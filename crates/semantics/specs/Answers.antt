@@ -1,4 +1,5 @@
 -- What a match and a listing answer for a rule: functions of what the walks meet.
+-- docs/REFERENCE.md, 16.2, 16.3
 use mathlib.Core.List.{List, [], _∷_}
 use mathlib.Core.Bool.{Bool, true, false, _||_}
 use Prim.Native.Nat.{ℕ, zero, suc}

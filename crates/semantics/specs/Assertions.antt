@@ -1,4 +1,5 @@
 -- 01, "Places": the zero-width assertions, which take no byte and must hold where they stand.
+-- docs/REFERENCE.md, 12
 use mathlib.Core.List.{List}
 use mathlib.Core.Bool.{Bool, true, false, not, _&&_, _||_}
 use Prim.Native.Nat.{ℕ, zero, suc}

@@ -1,5 +1,6 @@
 -- The demands on a day's lines, 02 h), sentence by sentence: of each line they are those of a match, and so statements over derivations.
 -- BatchDemandsHold proves them for all inputs.
+-- docs/REFERENCE.md, 16.6
 use mathlib.Core.Path.{_≡_}
 use mathlib.Core.List.{List, [], _∷_, _++_}
 use mathlib.Core.Logic.{_↔_}

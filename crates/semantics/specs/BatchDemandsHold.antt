@@ -1,5 +1,6 @@
 -- The demands on a day's lines hold for all inputs, and nothing else meets them. The call equals one call after another, and no byte of one line changes
 -- what stands for another.
+-- docs/REFERENCE.md, 16.6
 use mathlib.Core.Path.{_≡_, sym, _∙_}
 use mathlib.Core.List.{List, [], _∷_, _++_}
 use mathlib.Core.Logic.{_↔_}

@@ -1,5 +1,6 @@
 -- A day's lines in one call. 02, request h): "One call takes one rule, a buffer of lines split at 0A and a result area with one row and one outcome a
 -- line." What stands for a line is made from the match of that line: "It equals one call after another."
+-- docs/REFERENCE.md, 16.6
 use mathlib.Core.List.{List, [], _∷_, _++_}
 use mathlib.Core.Bool.{Bool, true, false}
 use Prim.Native.Nat.{ℕ, _*_, _/_, _%_, _^_}

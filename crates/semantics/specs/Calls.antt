@@ -1,4 +1,5 @@
 -- The calls as a caller meets them: what is handed in, what is answered, and what is left behind.
+-- docs/REFERENCE.md, 10.2, 15.2, 15.3, 16.1
 use mathlib.Core.List.{List, [], _∷_, _++_}
 use mathlib.Core.Option.{Option, none, some}
 use Prim.Native.Nat.{ℕ, min, _*_, _/_, _^_}

@@ -1,6 +1,7 @@
 -- The demands on the calls, sentence by sentence, as statements over derivations; DemandsHold proves them for all inputs.
 --
 -- n and m are starts, t and u states in which the rule's end is reached, j and k numbers of steps, x and y readings, as rows, or failures.
+-- docs/REFERENCE.md, 16.1 to 16.3, 16.5, 16.8
 use mathlib.Core.Path.{_≡_}
 use mathlib.Core.List.{List, [], _∷_}
 use mathlib.Core.Logic.{_⊎_, _↔_}

@@ -1,6 +1,7 @@
 -- The demands hold for all inputs, and the calls are the only ones that meet them. Each is the last of a chain in Laws: Runs and Newness,
 -- then Matches (demand 2), Readings and Listings (demand 3), Refusals and Calls (demand 1), Failures, Misses and Explanations (02, request f),
 -- Searches and Scans (02, request g).
+-- docs/REFERENCE.md, 16
 use mathlib.Core.Path.{_≡_}
 use mathlib.Core.List.{List}
 use mathlib.Core.Logic.{inl, inr}

@@ -1,5 +1,6 @@
 -- Derivations. 01: "A derivation from a start is a run of choices that carries the rule to its end", from the rule, the subject, the
 -- start and the choices alone: there is no walk here, no step and no budget.
+-- docs/REFERENCE.md, 13.3, 13.4, 13.6
 use mathlib.Core.Path.{_≡_}
 use mathlib.Core.List.{List}
 use mathlib.Core.Logic.{_⊎_}

@@ -1,5 +1,6 @@
 -- Why a line does not fit. 02, request f): "the greatest place in the line at which the walk tried an item that failed, and the place in the rule
 -- of the first such item tried there, in walk order over all starts"; and the closest attempt, which is our own addition (docs/DECISIONS.md).
+-- docs/REFERENCE.md, 16.5
 use mathlib.Core.List.{List, [], _∷_, _++_}
 use mathlib.Core.Option.{Option, none, some}
 use Prim.Native.Nat.{ℕ, zero, suc, _-_}

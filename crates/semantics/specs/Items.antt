@@ -1,4 +1,5 @@
 -- A single item tried at a state: it fails, or gives the state behind it.
+-- docs/REFERENCE.md, 13.2, 13.5, 14.1
 use mathlib.Core.List.{List}
 use mathlib.Core.Bool.{Bool, true, false, _&&_}
 use Prim.Native.Nat.{ℕ, zero, suc, _+_, _-_}

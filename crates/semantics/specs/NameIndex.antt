@@ -1,5 +1,6 @@
 -- The name index. 02, request e): for each group that a rule can have "17 bytes, the length (0 if none) and the name padded with 00"; j): "The name index
 -- becomes 64 entries".
+-- docs/REFERENCE.md, 15.4
 use mathlib.Core.List.{List, [], _∷_, _++_}
 use Prim.Native.Nat.{ℕ, zero, suc}
 use lib.ListN.{length, take, replicate}

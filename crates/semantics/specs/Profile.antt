@@ -1,5 +1,6 @@
 -- What a depot gains by its profile (02, request k): every round of a repeat without upper bound takes bytes, so that it makes no more rounds than bytes
 -- are left; and what it does not lose: an accepted rule answers every call as it does in the full syntax. Laws/Profiles proves both.
+-- docs/REFERENCE.md, 11.3
 use mathlib.Core.Path.{_≡_}
 use mathlib.Core.List.{List}
 use mathlib.Core.Bool.{Bool, true, false}

@@ -1,4 +1,5 @@
 -- What a repeat may do at its decision.
+-- docs/REFERENCE.md, 13.4
 use mathlib.Core.Bool.{Bool, true, false}
 use Prim.Native.Nat.{ℕ}
 use lib.Dec.{ltb, leb}

@@ -1,4 +1,5 @@
 -- All that the walks meet, one start after another, as far as the budget lets them.
+-- docs/REFERENCE.md, 14.3
 use mathlib.Core.List.{List, [], _∷_}
 use Prim.Native.Nat.{ℕ, zero, suc}
 use lib.ListN.{length}

@@ -3,6 +3,7 @@
 --
 -- A try is a start, and whether the empty end is barred there. As in Demands, n and m are starts, t and u states in which the rule's end is
 -- reached, j a number of steps, x and y readings, as rows. A search begins at `from`; `barred` says that the match before it was empty.
+-- docs/REFERENCE.md, 16.4, 16.8
 use mathlib.Core.Path.{_≡_}
 use mathlib.Core.List.{List, [], _∷_}
 use mathlib.Core.Logic.{_⊎_, _↔_}

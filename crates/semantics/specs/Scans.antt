@@ -1,5 +1,6 @@
 -- Successive matches. 02, request g): "as Perl's `/g` gives them: each search starts where the last match ended, and after an empty match the next
 -- one may not be empty at that same place."
+-- docs/REFERENCE.md, 16.4
 use mathlib.Core.List.{List, [], _∷_}
 use mathlib.Core.Bool.{Bool, false, _&&_}
 use Prim.Native.Nat.{ℕ, zero, suc, _+_, _-_, _*_}

@@ -1,4 +1,5 @@
 -- 01, "Checked readings": those marked *, from the rules' bytes, of the calls themselves. One statement over one list.
+-- docs/REFERENCE.md, 12 to 16
 use mathlib.Core.Path.{_≡_, refl}
 use mathlib.Core.List.{List, [], _∷_, _++_, map}
 use Prim.Native.Nat.{ℕ, _-_, _*_}

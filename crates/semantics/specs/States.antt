@@ -1,4 +1,5 @@
 -- States of a derivation: the position in the subject, the captures, and the choices so far; and the priority of choices.
+-- docs/REFERENCE.md, 13.1, 13.7, 13.8
 use mathlib.Core.List.{List, [], _∷_, _++_}
 use Prim.Native.Nat.{ℕ, _+_, _<_}
 use lib.ListN.{set, replicate}

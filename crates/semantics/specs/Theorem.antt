@@ -1,4 +1,5 @@
 -- The walk from a start lists the derivations from it: every one, nothing else, each once, by priority.
+-- docs/REFERENCE.md, 14.2
 use mathlib.Core.Path.{_≡_, sym}
 use mathlib.Core.List.{List, map}
 use mathlib.Core.Logic.{_⊎_, inl, inr}

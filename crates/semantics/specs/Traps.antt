@@ -1,4 +1,5 @@
 -- 01's traps and the inputs that tell the readings of open points of 01 and 02 apart (docs/DECISIONS.md), of the calls themselves, as in Starred.
+-- docs/REFERENCE.md, 12 to 16
 use mathlib.Core.Path.{_≡_, refl}
 use mathlib.Core.List.{List, [], _∷_, _++_, map}
 use Prim.Native.Nat.{_-_, _*_}

@@ -1,4 +1,5 @@
 -- The walk. 01: it "tries derivations depth first in that order", and each of its steps is one event of a trace.
+-- docs/REFERENCE.md, 14.1, 14.2, 14.4
 use mathlib.Core.Path.{_≡_}
 use mathlib.Core.List.{List, [], _∷_, _++_}
 use mathlib.Core.Bool.{Bool, true, false}

@@ -1,4 +1,5 @@
 -- Bracketed classes. `from` is the position of the class's `[`, the place of "class not closed"; `strict` says whether the depot profile is asked for.
+-- docs/REFERENCE.md, 6
 use mathlib.Core.List.{List, [], _∷_}
 use mathlib.Core.Bool.{Bool, true, false, not, _&&_, _||_}
 use mathlib.Core.Option.{Option, none, some}

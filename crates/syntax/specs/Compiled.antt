@@ -22,6 +22,7 @@
 -- `next` is the position of the node after it, `place` the item's place in the rule. A group keeps where it was opened, and a repeat its
 -- rounds and where the last one began, in two registers from the number given on; nodes inside use those behind. A held part and looking ahead
 -- keep there how many frames the stack had when they were entered, and where in the subject that was.
+-- docs/REFERENCE.md, 4.5
 use mathlib.Core.Path.{_≡_}
 use mathlib.Core.Bool.{Bool, true, false}
 use mathlib.Core.List.{List}

@@ -1,4 +1,5 @@
 -- Escapes. `at` is the backslash's position, and the place of every refusal.
+-- docs/REFERENCE.md, 7
 use mathlib.Core.List.{List, [], _∷_}
 use mathlib.Core.Bool.{Bool, not, _&&_, _||_}
 use Prim.Native.Nat.{ℕ, _+_, _-_, _/_, _%_}

@@ -1,4 +1,5 @@
 -- The flags, and what else is known when a rule is read.
+-- docs/REFERENCE.md, 3
 use mathlib.Core.List.{List}
 use mathlib.Core.Bool.{Bool}
 use Prim.Native.Nat.{ℕ}

@@ -1,4 +1,5 @@
 -- The grammar of rules: items, sequences, alternations and groups, read by recursion on the nesting depth.
+-- docs/REFERENCE.md, 4.2 to 4.4, 8.2, 9
 use mathlib.Core.List.{List, [], _∷_}
 use mathlib.Core.Bool.{Bool, true, false, not, _&&_, _||_}
 use Prim.Native.Nat.{ℕ, zero, suc, _+_, _-_}

@@ -1,5 +1,6 @@
 -- The least length of a rule, by the least lengths of its parts: as few bytes as a derivation could take (02, request k). That none takes fewer is proved
 -- in `semantics`.
+-- docs/REFERENCE.md, 11.2
 use mathlib.Core.Bool.{Bool, true, false}
 use Prim.Native.Nat.{ℕ, min, _+_, _*_}
 use Rattle.syntax.specs.declared.Most.{Most}

@@ -1,5 +1,6 @@
 -- The reading of a rule: from its bytes and the flags to its syntax tree, or to a refusal. In the order in which to read it; Laws has
 -- the facts that are proved of it.
+-- docs/REFERENCE.md, 4
 pub mod Limits
 pub mod Refusals
 pub mod Read

@@ -1,4 +1,5 @@
 -- The quantities of 01, each named once.
+-- docs/REFERENCE.md, 2
 use Prim.Native.Nat.{ℕ, suc, _+_, _-_, _*_}
 
 -- What a call takes ---------------------------------------------------------

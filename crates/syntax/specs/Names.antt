@@ -1,4 +1,5 @@
 -- 02, request e): the names of groups. "A name is 1 to 16 letters, digits or underscores, and begins with no digit."
+-- docs/REFERENCE.md, 9.3, 7.4
 use mathlib.Core.List.{List, [], _∷_}
 use mathlib.Core.Bool.{Bool, true, false, not, _&&_, _||_}
 use Prim.Native.Nat.{ℕ, suc, _+_}

@@ -1,4 +1,5 @@
 -- Quantifiers: `* + ? {n} {n,} {n,m}`, greedy, lazy and possessive.
+-- docs/REFERENCE.md, 8.1
 use mathlib.Core.List.{List}
 use mathlib.Core.Bool.{true, false, _&&_}
 use Prim.Native.Nat.{ℕ, _+_}

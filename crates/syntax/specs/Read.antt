@@ -1,4 +1,5 @@
 -- A rule as a list of bytes, and what reading a part of it gives: a value with the position behind it, or a refusal.
+-- docs/REFERENCE.md, 4.1
 use mathlib.Core.List.{List, [], _∷_}
 use mathlib.Core.Bool.{Bool, true, false, _&&_}
 use Prim.Native.Nat.{ℕ}

@@ -1,4 +1,5 @@
 -- The reading of a rule: its syntax tree and its number of groups, or a refusal with its place.
+-- docs/REFERENCE.md, 4.1, 10.3, 11.1
 use mathlib.Core.List.{List, []}
 use mathlib.Core.Bool.{Bool, true, false, not, _&&_, _||_}
 use mathlib.Core.Option.{Option, none, some}

@@ -1,4 +1,5 @@
 -- 01, "Refusal numbers", and those that 02 adds.
+-- docs/REFERENCE.md, 10.1
 use Prim.Native.Nat.{ℕ}
 use Rattle.syntax.specs.declared.Reason.{Reason}
 use Rattle.syntax.specs.declared.Reason.the-variants.{RuleTooLong, SubjectTooLong, UnknownFlag, BudgetTooLarge, RuleAreaShort, WorkAreaShort, ResultAreaShort, NameIndexShort, WrittenAreaShort, TrailingBackslash, UnknownEscape, MalformedEscape, NoSuchGroup, UnclosedClass, BadRange, UnknownSet, NothingToRepeat, BadBraces, RepeatOnRepeat, UnclosedGroup, UnopenedGroup, UnknownGroup, TooManyGroups, TooDeep, BadName, NameTwice, BarredReference, IdleRepeat, MixedRange, UnknownKind, CardCutShort, WrongRecords, StrayBytes, WrongGroupNumber}

@@ -1,4 +1,5 @@
 -- The byte sets that a rule names: sets by name, and bracketed classes by their members.
+-- docs/REFERENCE.md, 5.2, 5.3, 6.4
 use mathlib.Core.List.{List, [], _∷_}
 use mathlib.Core.Bool.{Bool, true, false, not, _&&_, _||_}
 use mathlib.Core.Option.{Option, none, some}

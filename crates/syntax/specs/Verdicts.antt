@@ -1,4 +1,5 @@
 -- The inputs that tell the readings of 01's and 02's open points apart (docs/DECISIONS.md), with the verdict that the reading of a rule gives.
+-- docs/REFERENCE.md, 10.5
 use mathlib.Core.Path.{_≡_, refl}
 use mathlib.Core.List.{List, [], _∷_, map}
 use Prim.Native.Nat.{ℕ}

@@ -1,4 +1,5 @@
 -- What the semantics needs of a rule's tree, and a sound reading gives.
+-- docs/REFERENCE.md, 4.5
 use Prim.Native.Nat.{ℕ, suc, max, _≤_}
 use Rattle.syntax.specs.declared.Most.{Most}
 use Rattle.syntax.specs.declared.Most.the-variants.{AtMost, Unlimited}

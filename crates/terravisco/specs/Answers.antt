@@ -1,4 +1,5 @@
 -- An outcome as the six numbers that `include/terravisco.h` names, an explanation as eleven, and a field as three.
+-- docs/REFERENCE.md, 18.2
 use mathlib.Core.Path.{_≡_}
 use mathlib.Core.List.{List, [], _∷_, _++_}
 use Prim.Native.Nat.{ℕ}

@@ -1,4 +1,5 @@
 -- What is told of a rule card, in the numbers that `include/terravisco.h` names: six for one that is written, nine for one that is read.
+-- docs/REFERENCE.md, 18.2
 use mathlib.Core.Path.{_≡_}
 use mathlib.Core.List.{List, [], _∷_, _++_}
 use Prim.Native.Nat.{ℕ}

@@ -1,4 +1,5 @@
 -- Text as lists of bytes.
+-- docs/REFERENCE.md, 19.1
 pub mod Lines
 pub mod Numbers
 pub mod Writing

@@ -1,4 +1,5 @@
 -- Lines: each ends before an 0A.
+-- docs/REFERENCE.md, 16.6, 19.1
 use mathlib.Core.List.{List, [], _∷_}
 use mathlib.Core.Bool.{cond}
 use Prim.Native.Nat.{ℕ, suc}

@@ -1,4 +1,5 @@
 -- Numbers as text.
+-- docs/REFERENCE.md, 19.1
 use mathlib.Core.List.{List, [], _∷_, _++_}
 use mathlib.Core.Bool.{cond}
 use Prim.Native.Nat.{ℕ, zero, suc, _+_, _/_, _%_}

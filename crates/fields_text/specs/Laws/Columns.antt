@@ -1,5 +1,6 @@
 -- "A line can never forge a column": what is written for a field has no byte below 20, so that neither a tab nor a line end is among them. So a row has
 -- one tab more than it has fields, and one line end.
+-- docs/REFERENCE.md, 19.3
 use mathlib.Core.Path.{_≡_, refl, ap, _∙_}
 use mathlib.Core.List.{List, [], _∷_, _++_}
 use mathlib.Core.Bool.{Bool, true, false, cond}

@@ -1,4 +1,5 @@
 -- No field is lost: from what is written for it the field can be read back, byte by byte, so that two fields that look the same are the same.
+-- docs/REFERENCE.md, 19.3
 use mathlib.Core.Path.{_≡_, refl, sym, ap, _∙_}
 use mathlib.Core.List.{List, [], _∷_, _++_}
 use mathlib.Core.Bool.{Bool, true, false}

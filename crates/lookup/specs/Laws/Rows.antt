@@ -1,4 +1,5 @@
 -- The test of a row tells exactly what the rules say of one, and the rows of a match keep them.
+-- docs/REFERENCE.md, 16.7
 use mathlib.Core.Path.{_≡_, refl, sym, ap, _∙_}
 use mathlib.Core.Logic.{_⊎_, inl, inr, _↔_}
 use mathlib.Core.Bool.{Bool, true, false, _&&_, _||_}

@@ -1,4 +1,5 @@
 -- No derivation takes fewer bytes than the rule's least length: one induction over the rule, and within a repeat one over its rounds.
+-- docs/REFERENCE.md, 11.2
 use mathlib.Core.Path.{_≡_, refl, ap}
 use mathlib.Core.List.{List}
 use mathlib.Core.Logic.{inl, inr}

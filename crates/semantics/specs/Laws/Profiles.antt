@@ -1,5 +1,6 @@
 -- What Profile says holds of every rule that the profile accepts. Rounds: where no repeat without upper bound has a body of least length 0, each round takes
 -- a byte. Calls: they see the flags in the refusals, in the reading of the rule and in its names, and these three are the same.
+-- docs/REFERENCE.md, 11.3
 use mathlib.Core.Path.{_≡_, refl}
 use mathlib.Core.List.{List, [], _∷_}
 use mathlib.Core.Bool.{Bool, true, _&&_}

@@ -4,6 +4,7 @@
 -- `charset::contains` asks one word and a shift, and promises `has` of the words from a position on. A compiled byte item has its class in the eight
 -- words from its fourth number on, folded and complemented when it was read. So `class-asked` is the promise, for the byte items of every rule; the
 -- two laws behind it say what the flag and the `^` do to a class.
+-- docs/REFERENCE.md, 5.4
 use mathlib.Core.Path.{_≡_, refl, ap}
 use mathlib.Core.Bool.{Bool, true, false, not, or-comm}
 use mathlib.Core.List.{List, [], _∷_}

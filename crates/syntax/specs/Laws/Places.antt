@@ -1,5 +1,6 @@
 -- Every refusal of a rule has its place within the rule. Most parts are refused where they begin; a reference and a repeat also where they
 -- stand in the tree, so that the places in a tree are followed too.
+-- docs/REFERENCE.md, 10.1
 use mathlib.Core.Path.{_≡_, refl}
 use mathlib.Core.List.{List, [], _∷_}
 use mathlib.Core.Bool.{Bool, true, false, not, _&&_, _||_}

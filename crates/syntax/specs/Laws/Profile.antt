@@ -1,5 +1,6 @@
 -- The depot profile only refuses: a rule that is sound under it has the same tree and the same names under the same flags without it. Part by part of
 -- the grammar, whatever the one reading gives soundly the other gives too; beside classes no part looks at the profile.
+-- docs/REFERENCE.md, 11.3
 use mathlib.Core.Path.{_≡_, refl, ap}
 use mathlib.Core.List.{List, [], _∷_}
 use mathlib.Core.Bool.{Bool, true, false, not, _&&_}
