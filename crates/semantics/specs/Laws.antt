@@ -17,7 +17,6 @@ pub mod Listings
 pub mod Agreements
 pub mod Settled
 pub mod Steps
-pub mod Budgets
 -- What loops over the starts keep.
 pub mod Loops
 -- What is proved of explanations: lists of failures, the misses of walks, and that they are what is told.
@@ -52,3 +51,6 @@ pub mod LinesInTurn
 -- What is proved of least lengths and of the depot profile.
 pub mod Lengths
 pub mod Profiles
+-- What is proved of larger budgets: what they lengthen, and the calls.
+pub mod Budgets
+pub mod BudgetsOfCalls

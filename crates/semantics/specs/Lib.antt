@@ -20,6 +20,7 @@ pub mod DemandsHold
 pub mod BatchDemands
 pub mod BatchDemandsHold
 pub mod Profile
+pub mod Budgets
 pub mod Laws
 pub mod Computing
 pub mod Starred

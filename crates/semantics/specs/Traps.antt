@@ -220,6 +220,12 @@ traps =
     ∷ scanning "(?>|a)" 0 "a" 99 9 (Complete 2 16) (rowOf 0 0 [] ∷ rowOf 1 1 [] ∷ [])
     -- 02 L30: the items of `\R` have its place in the rule, and count where they were tried
     ∷ explaining "\\Rb" 0 "\r" 99 (Unfit 13 (missed 0 1 0) (missed 0 1 0)) (1 ∷ 0 ∷ 1 ∷ [])
+    -- 02 n: the rows of an exhausted listing are the first at a larger budget
+    ∷ listing "a?" 0 "a" 4 9 (ListExhausted 0 1 4) (rowOf 0 1 [] ∷ [])
+    ∷ listing "a?" 0 "a" 5 9 (Complete 3 8) (rowOf 0 1 [] ∷ rowOf 0 0 [] ∷ rowOf 1 1 [] ∷ [])
+    -- 02 N1: an explanation tells the same at the least budget that is enough as at 99, and below it nothing but its start
+    ∷ explaining "abc" 0 "abd" 3 (Unfit 6 (missed 3 3 0) (missed 0 2 2)) (0 ∷ 0 ∷ 1 ∷ [])
+    ∷ explaining "abc" 0 "abd" 2 (ExplainExhausted 0 2) (7 ∷ 7 ∷ 7 ∷ [])
     ∷ []
 
 pub traps-avoided : map calls traps ≡ map expected traps

@@ -25,7 +25,7 @@ use Rattle.semantics.specs.Laws.ScanCalls.{scan-returns, scan-rows}
 
 -- What an outcome tells -----------------------------------------------------------
 
-reported : (e : Ending) (rows steps : ℕ) → rowsReported (listOutcome e rows steps) ≡ rows
+pub reported : (e : Ending) (rows steps : ℕ) → rowsReported (listOutcome e rows steps) ≡ rows
 unfolding listOutcome
 reported complete rows steps = refl
 reported full rows steps = refl

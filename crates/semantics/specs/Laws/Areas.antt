@@ -74,6 +74,21 @@ unfolding joined
 joined-length [] f = omega arith
 joined-length (x ∷ rows) f = length-append x (joined rows) ∙ omega (arith, f x (inl refl), joined-length rows (λ y i. f y (inr i)))
 
+pub joined-append : (rows more : List Row) → joined (rows ++ more) ≡ joined rows ++ joined more
+unfolding joined
+joined-append [] more = refl
+joined-append (x ∷ rows) more = rw (joined-append rows more, append-assoc x (joined rows) (joined more))
+
+-- rows that were written, with others behind them or none
+module _ (rows : List Row) (area : List ℕ) (sizes : (x : Row) → In x rows → length x ≡ rowLength) where
+  pub rows-in-front : (more : List Row) → take (length rows * rowLength) (over (joined (rows ++ more)) area) ≡ joined rows
+  unfolding over
+  rows-in-front more = rw (joined-append rows more, append-assoc (joined rows) (joined more) _) (take-at (joined rows) _ (length rows * rowLength) (joined-length rows sizes))
+
+  pub own-rows : take (length rows * rowLength) (over (joined rows) area) ≡ joined rows
+  unfolding over
+  own-rows = take-at (joined rows) _ (length rows * rowLength) (joined-length rows sizes)
+
 -- the first row in an area
 pub first-of-joined : (x : Row) (more : List Row) (area : List ℕ) → length x ≡ rowLength → take rowLength (over (joined (x ∷ more)) area) ≡ x
 unfolding over joined

@@ -171,9 +171,9 @@ module _ (c : Call) (lines : List (List ℕ)) (r : Rule) (groups : ℕ) (a : Acc
   fits = result-area-enough (partsNeed lines) (lineless c) (a .faultless)
 
   -- every part is whole
-  whole : (i : ℕ) → i < length lines → rowLength ≤ length (part i area)
+  pub part-whole : (i : ℕ) → i < length lines → rowLength ≤ length (part i area)
   unfolding partsNeed partLength
-  whole i h =
+  part-whole i h =
       let more : suc i * partLength ≤ length lines * partLength = mul-le-mul-right partLength h in
       omega (arith, length-take partLength (drop (i * partLength) area), length-drop (i * partLength) area, suc-mul i partLength, fits)
 
@@ -186,7 +186,7 @@ module _ (c : Call) (lines : List (List ℕ)) (r : Rule) (groups : ℕ) (a : Acc
   unfolding batchRule leaving
   parts-answer = record {
     done = refl;
-    each-line = λ i h. rw (part-of-line (lineless c) lines area fits i h, part-lineless c (getD lines i []) (part i area)) (line-demands (getD lines i []) (part i area) (whole i h));
+    each-line = λ i h. rw (part-of-line (lineless c) lines area fits i h, part-lineless c (getD lines i []) (part i area)) (line-demands (getD lines i []) (part i area) (part-whole i h));
     others = rest-stays;
   }
 
