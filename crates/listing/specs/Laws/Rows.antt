@@ -10,12 +10,7 @@ use Rattle.syntax.specs.Limits.{rowLength}
 use Rattle.semantics.specs.States.{Row}
 use Rattle.semantics.specs.Calls.{over, joined}
 use Rattle.index.specs.Rows.{rowsAt, Whole}
-use Rattle.semantics.specs.Laws.Areas.{over-more}
-
-pub joined-append : (rows more : List Row) → joined (rows ++ more) ≡ joined rows ++ joined more
-unfolding joined
-joined-append [] more = refl
-joined-append (x ∷ rows) more = rw (joined-append rows more, append-assoc x (joined rows) (joined more))
+use Rattle.semantics.specs.Laws.Areas.{over-more, joined-append}
 
 pub joined-last : (rows : List Row) (x : Row) → joined (rows ++ (x ∷ [])) ≡ joined rows ++ x
 unfolding joined
