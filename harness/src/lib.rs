@@ -16,11 +16,11 @@ pub mod lookup_examples;
 pub mod pcre2;
 pub mod perl;
 pub mod random;
-pub mod raw;
-pub mod refusal;
 pub mod report;
 pub mod shapes;
 pub mod shrink;
-pub mod terravisco;
 pub mod text;
 pub mod trial;
+
+// The library's own calls, on areas that the tests lend.
+pub use terravisco::raw;

@@ -1,17 +1,23 @@
-//! The library's C interface as it stands, and one call of it on lent areas. Tests use this; a program uses `terravisco::Matcher`.
+//! The library's C interface as it stands: calls on areas that are lent, of any length. A program that has no heap, or measures the calls, uses this; all
+//! others have [`Rule`](crate::Rule). The header, `include/terravisco.h`, says what each number means.
 //!
-//! A library from before names, which `bench --before` may be given, takes no name index and has no lookup: `build.rs` sets `before_names` for it, and
-//! `before_explanations`, `before_scans`, `before_batches` or `before_cards` for one that has none of these.
+//! An archive from before names takes no name index and has no lookup, and an older one still has none of the other calls. It can be linked, for times
+//! to compare: `build.rs` sets `before_names` and the like for it, and what it has not panics.
+//!
+//! What the library is owed is what slices are: a pointer that is never null and leads to as many elements as the length beside it says, and areas that
+//! overlap nothing. It keeps no pointer, and nothing else is required of what is handed in.
 
-#![allow(unexpected_cfgs)]
-// A program that this is copied into need not use all of it.
-#![allow(dead_code)]
+pub use crate::limits::GROUPS;
+use crate::limits::{ANSWER, CARD_ANSWER, EXPLAIN_ANSWER};
 
 /// Which of the calls.
 #[derive(Clone, Copy, PartialEq, Eq, Debug)]
 pub enum Call {
+    /// The first reading by priority from the leftmost start that has one.
     Match,
+    /// Every reading.
     List,
+    /// Why the subject does not match.
     Explain,
     /// Successive matches.
     Scan,
@@ -19,11 +25,12 @@ pub enum Call {
     Batch,
 }
 
-/// The most capturing groups that a rule can have. The lengths of rows, parts and name indices follow from it.
-pub const GROUPS: usize = 64;
-
 /// The most numbers that an answer has: those of an explanation. The other calls have the first six.
-pub const ANSWER_LENGTH: usize = 11;
+pub const ANSWER_LENGTH: usize = EXPLAIN_ANSWER;
+/// The numbers of the answer when a card is written.
+pub const WRITE_ANSWER_LENGTH: usize = ANSWER;
+/// The numbers of the answer when a card is read.
+pub const READ_ANSWER_LENGTH: usize = CARD_ANSWER;
 
 /// Declares calls: all are given a question and two areas, and have an answer; what else they are lent stands in brackets.
 macro_rules! calls {
@@ -101,15 +108,21 @@ extern "C" {
 /// What a call is asked: the rule, its flags, the line and the budget of steps for each start.
 #[derive(Clone, Copy)]
 pub struct Question<'a> {
+    /// A Perl regular expression, in bytes.
     pub rule: &'a [u8],
+    /// A sum of flags.
     pub flags: u32,
+    /// The line, or a buffer of lines.
     pub subject: &'a [u8],
+    /// The steps for each start.
     pub budget: u32,
 }
 
 /// The areas that a call works in, and those that it writes rows, names and marks to.
 pub struct Areas<'a> {
+    /// For the compiled rule.
     pub rule: &'a mut [u32],
+    /// For the walk.
     pub work: &'a mut [u32],
     /// For rows. It is not lent to an explanation.
     pub result: &'a mut [u32],
@@ -168,11 +181,17 @@ pub fn call(call: Call, question: Question, areas: Areas, answer: &mut [u32; ANS
 /// text that stands where the line has no such field.
 #[derive(Clone, Copy)]
 pub struct Lookup<'a> {
+    /// The field's name.
     pub name: &'a [u8],
+    /// The name index.
     pub names: &'a [u8],
+    /// The line that the answer is of.
     pub line: &'a [u8],
+    /// 0 where the line matched.
     pub kind: u32,
+    /// The row of the match.
     pub row: &'a [u32],
+    /// What stands for a group that is not set.
     pub standing: &'a [u8],
 }
 
@@ -198,6 +217,7 @@ pub fn field(lookup: Lookup, field: &mut [u64; 3]) {
     }
 }
 
+/// Panics: this library is from before the lookup.
 #[cfg(before_names)]
 pub fn field(_: Lookup, _: &mut [u64; 3]) {
     panic!("this library is from before the lookup");
@@ -206,14 +226,13 @@ pub fn field(_: Lookup, _: &mut [u64; 3]) {
 /// What is to be written on a card.
 #[derive(Clone, Copy)]
 pub struct CardText<'a> {
+    /// The rule's bytes.
     pub rule: &'a [u8],
+    /// A sum of flags.
     pub flags: u32,
+    /// The steps for each start.
     pub budget: u32,
 }
-
-/// The numbers of the answers when a card is written and when one is read.
-pub const WRITE_ANSWER_LENGTH: usize = 6;
-pub const READ_ANSWER_LENGTH: usize = 9;
 
 /// Writes a card to the front of the area for it. The answer's numbers are written over those handed in.
 #[cfg(not(before_cards))]
@@ -251,11 +270,13 @@ pub fn read_card(card: &[u8], rule_area: &mut [u32], rule_bytes: &mut [u8], answ
     }
 }
 
+/// Panics: this library is from before rule cards.
 #[cfg(before_cards)]
 pub fn write_card(_: CardText, _: &mut [u32], _: &mut [u8], _: &mut [u32; WRITE_ANSWER_LENGTH]) {
     panic!("this library is from before rule cards");
 }
 
+/// Panics: this library is from before rule cards.
 #[cfg(before_cards)]
 pub fn read_card(_: &[u8], _: &mut [u32], _: &mut [u8], _: &mut [u32; READ_ANSWER_LENGTH]) {
     panic!("this library is from before rule cards");
