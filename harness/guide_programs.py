@@ -5,7 +5,6 @@ Usage: harness/guide_programs.py (after `rt staticlib terravisco`). The last lin
 """
 import os
 import re
-import shutil
 import subprocess
 import sys
 from pathlib import Path
@@ -14,14 +13,24 @@ from cases import Cases
 
 ROOT = Path(__file__).resolve().parent.parent
 LIBRARY = ROOT / "target" / "staticlib"
-WRAPPER = ("terravisco.rs", "raw.rs", "refusal.rs")
 SUFFIXES = {"c": "c", "rust": "rs", "python": "py"}
 BUILDS = {
     "c": ["gcc", "-std=c99", "-pedantic", "-Wall", "-Wextra", "-Werror", "-I", ROOT / "include", "program.c", LIBRARY / "libterravisco.a", "-o", "program"],
-    "rust": ["rustc", "--edition", "2021", "-D", "warnings", "-L", LIBRARY, "-l", "static=terravisco", "program.rs", "-o", "program"],
+    "rust": ["cargo", "build", "--offline", "--quiet", "--target-dir", "target"],
     "python": [ROOT / "bindings" / "link-shared", "libterravisco.so"],
 }
-RUNS = {"c": ("./program", []), "rust": ("./program", []), "python": (sys.executable, ["-W", "error", "program.py"])}
+RUNS = {"c": ("./program", []), "rust": ("target/debug/program", []), "python": (sys.executable, ["-W", "error", "program.py"])}
+CARGO = """[package]
+name = "program"
+edition = "2021"
+
+[[bin]]
+name = "program"
+path = "program.rs"
+
+[dependencies]
+terravisco = { path = "%s" }
+"""
 
 
 def programs(guide):
@@ -37,9 +46,8 @@ def programs(guide):
 
 def main():
     t = Cases("./program")
-    os.environ.update(TERRAVISCO_LIBRARY="./libterravisco.so", PYTHONPATH=str(ROOT / "bindings" / "python"))
-    for file in WRAPPER:
-        shutil.copy(ROOT / "harness" / "src" / file, file)
+    os.environ.update(TERRAVISCO_LIBRARY="./libterravisco.so", PYTHONPATH=str(ROOT / "bindings" / "python"), RUSTFLAGS="-D warnings")
+    Path("Cargo.toml").write_text(CARGO % (ROOT / "bindings" / "rust"))
     for number, (language, text, out) in enumerate(programs((ROOT / "docs" / "GUIDE.md").read_text()), 1):
         Path("program." + SUFFIXES[language]).write_text(text)
         built = subprocess.run(BUILDS[language], capture_output=True, text=True)
