@@ -275,6 +275,14 @@ fn captures_outlive_their_rule() {
     assert_eq!(&captures["litres"], b"820");
 }
 
+/// A `str` is its bytes in UTF-8: a sign beyond ASCII is two of them or more, and in a class each is for itself.
+#[test]
+fn signs_beyond_ascii() {
+    assert_eq!(rule("é").captures("é").unwrap().unwrap().range(), 0..2);
+    let half = rule("[é]").captures("é").unwrap().unwrap().whole();
+    assert_eq!((half.range(), half.as_str().is_err()), (0..1, true));
+}
+
 #[test]
 fn a_card_written_and_read() {
     let rule = br"^tank (?<tank>\w+): (\d+) L$";
