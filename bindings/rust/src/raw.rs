@@ -1,8 +1,22 @@
-//! The library's C interface as it stands: calls on areas that are lent, of any length. A program that has no heap, or measures the calls, uses this; all
-//! others have [`Rule`](crate::Rule). The header, `include/terravisco.h`, says what each number means.
+//! The library's C interface as it stands: calls on areas that are lent, of any length. It is for a program that keeps areas of its own; all others have
+//! [`Rule`](crate::Rule). The header, `include/terravisco.h`, says what each number means.
 //!
-//! An archive from before names takes no name index and has no lookup, and an older one still has none of the other calls. It can be linked, for times
-//! to compare: `build.rs` sets `before_names` and the like for it, and what it has not panics.
+//! ```
+//! use terravisco::limits::{NAME_INDEX, ROW, RULE_AREA, WORK_PER_STEP};
+//! use terravisco::raw::{call, Areas, Call, Question, ANSWER_LENGTH};
+//!
+//! const BUDGET: usize = 100;
+//! let (mut rule, mut work, mut row, mut names) = ([0; RULE_AREA], [0; WORK_PER_STEP * BUDGET], [0; ROW], [0; NAME_INDEX]);
+//! let mut answer = [0; ANSWER_LENGTH];
+//! let question = Question { rule: br"\d+", flags: 0, subject: b"tank 7", budget: BUDGET as u32 };
+//! let areas = Areas { rule: &mut rule, work: &mut work, result: &mut row, names: &mut names, marks: &mut [] };
+//! call(Call::Match, question, areas, &mut answer);
+//! // Matched, from 5 to 6.
+//! assert_eq!((answer[0], row[0], row[1]), (0, 5, 6));
+//! ```
+//!
+//! An archive from before one of the calls can be linked too, so that times can be compared: `build.rs` sets `before_cards` and the like for it, and the
+//! call panics. From before names it takes no name index either.
 //!
 //! What the library is owed is what slices are: a pointer that is never null and leads to as many elements as the length beside it says, and areas that
 //! overlap nothing. It keeps no pointer, and nothing else is required of what is handed in.
