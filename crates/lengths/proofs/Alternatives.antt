@@ -19,9 +19,9 @@ use Rattle.lengths.proofs.Numbers.{sooner-both, marked-first}
 -- Branches that are left, or none ----------------------------------------------------------
 
 -- one branch behind those
-abbrev with : Option Branches → Rule → Branches
-with none t = one t
-with (some bs) t = also bs t
+abbrev with : Option Branches → ℕ → Rule → Branches
+with none bar t = one t
+with (some bs) bar t = also bs bar t
 
 abbrev LeftStand : List ℕ → Names → List ℕ → Option Branches → Region
 LeftStand rule known a none lo top p = Nothing lo top p
@@ -37,18 +37,18 @@ LeftDeep depth (some bs) = levelsIn bs ≤ depth
 
 -- every branch with what stands before it
 for-branch : (rule : List ℕ) (known : Names) (a : List ℕ) (lo top p : ℕ) (Q : Branches → Type 0)
-    → ((left : Option Branches) (t : Rule) → Branch a 5 (LeftStand rule known a left) (Chain rule known a t) lo top p → Q (with left t)) → (bs : Branches) → Several rule known a bs lo top p → Q bs
+    → ((left : Option Branches) (bar : ℕ) (t : Rule) → Branch a 5 (LeftStand rule known a left) (Chain rule known a t) lo top p → Q (with left bar t)) → (bs : Branches) → Several rule known a bs lo top p → Q bs
 unfolding Several
-for-branch rule known a lo top p Q f (one t) h = f none t h
-for-branch rule known a lo top p Q f (also bs t) h = f (some bs) t h
+for-branch rule known a lo top p Q f (one t) h = f none 0 t h
+for-branch rule known a lo top p Q f (also bs bar t) h = f (some bs) bar t h
 
-proper-with : (groups : ℕ) (left : Option Branches) (t : Rule) → Propers groups (with left t) → LeftProper groups left × Proper groups t
-proper-with groups none t h = (tt, h)
-proper-with groups (some bs) t h = (h .0, h .1)
+proper-with : (groups : ℕ) (left : Option Branches) (bar : ℕ) (t : Rule) → Propers groups (with left bar t) → LeftProper groups left × Proper groups t
+proper-with groups none bar t h = (tt, h)
+proper-with groups (some bs) bar t h = (h .0, h .1)
 
-deep-with : (depth : ℕ) (left : Option Branches) (t : Rule) → levelsIn (with left t) ≤ depth → LeftDeep depth left × (levels t ≤ depth)
-deep-with depth none t h = (tt, h)
-deep-with depth (some bs) t h = (omega arith, omega arith)
+deep-with : (depth : ℕ) (left : Option Branches) (bar : ℕ) (t : Rule) → levelsIn (with left bar t) ≤ depth → LeftDeep depth left × (levels t ≤ depth)
+deep-with depth none bar t h = (tt, h)
+deep-with depth (some bs) bar t h = (omega arith, omega arith)
 
 -- What is found of branches, behind which something was found -------------------------------
 
@@ -64,20 +64,20 @@ abbrev idleFrom : Option Branches → ℕ → ℕ
 idleFrom none n = n
 idleFrom (some bs) n = sooner (marked (idleIn bs)) n
 
-least-with : (left : Option Branches) (t : Rule) (n : ℕ) → leastIn (some (with left t)) n ≡ leastIn left (min (leastLength t) n)
+least-with : (left : Option Branches) (bar : ℕ) (t : Rule) (n : ℕ) → leastIn (some (with left bar t)) n ≡ leastIn left (min (leastLength t) n)
 unfolding shortest
-least-with none t n = refl
-least-with (some bs) t n = omega arith
+least-with none bar t n = refl
+least-with (some bs) bar t n = omega arith
 
-reference-with : (left : Option Branches) (t : Rule) (n : ℕ) → referenceIn (some (with left t)) n ≡ referenceIn left (sooner (marked (unresolved 0 t)) n)
+reference-with : (left : Option Branches) (bar : ℕ) (t : Rule) (n : ℕ) → referenceIn (some (with left bar t)) n ≡ referenceIn left (sooner (marked (unresolved 0 t)) n)
 unfolding unresolvedIn
-reference-with none t n = refl
-reference-with (some bs) t n = ap (λ (x : ℕ). sooner x n) (marked-first (unresolvedIn 0 bs) (unresolved 0 t)) ∙ sooner-both (marked (unresolvedIn 0 bs)) (marked (unresolved 0 t)) n
+reference-with none bar t n = refl
+reference-with (some bs) bar t n = ap (λ (x : ℕ). sooner x n) (marked-first (unresolvedIn 0 bs) (unresolved 0 t)) ∙ sooner-both (marked (unresolvedIn 0 bs)) (marked (unresolved 0 t)) n
 
-idle-with : (left : Option Branches) (t : Rule) (n : ℕ) → idleFrom (some (with left t)) n ≡ idleFrom left (sooner (marked (idle t)) n)
+idle-with : (left : Option Branches) (bar : ℕ) (t : Rule) (n : ℕ) → idleFrom (some (with left bar t)) n ≡ idleFrom left (sooner (marked (idle t)) n)
 unfolding idleIn
-idle-with none t n = refl
-idle-with (some bs) t n = ap (λ (x : ℕ). sooner x n) (marked-first (idleIn bs) (idle t)) ∙ sooner-both (marked (idleIn bs)) (marked (idle t)) n
+idle-with none bar t n = refl
+idle-with (some bs) bar t n = ap (λ (x : ℕ). sooner x n) (marked-first (idleIn bs) (idle t)) ∙ sooner-both (marked (idleIn bs)) (marked (idle t)) n
 
 module _ (a : List ℕ) where
   -- What stands -----------------------------------------------------------------------------
@@ -103,10 +103,10 @@ module _ (a : List ℕ) where
   pub branch-at : (p depth : ℕ) → DeepBranches a p depth → BranchAt p depth
   branch-at p depth d = for-branch (d .rule) (d .known) a (d .lo) (d .top) p (λ bs. Propers (d .groups) bs → levelsIn bs ≤ depth → BranchAt p depth) go (d .branches) (d .holds) (d .proper) (d .deep)
     where
-      go : (left : Option Branches) (t : Rule) → Branch a 5 (LeftStand (d .rule) (d .known) a left) (Chain (d .rule) (d .known) a t) (d .lo) (d .top) p → Propers (d .groups) (with left t) → levelsIn (with left t) ≤ depth → BranchAt p depth
-      go left t h q u =
-          let x = proper-with (d .groups) left t q in
-          let y = deep-with depth left t u in
+      go : (left : Option Branches) (bar : ℕ) (t : Rule) → Branch a 5 (LeftStand (d .rule) (d .known) a left) (Chain (d .rule) (d .known) a t) (d .lo) (d .top) p → Propers (d .groups) (with left bar t) → levelsIn (with left bar t) ≤ depth → BranchAt p depth
+      go left bar t h q u =
+          let x = proper-with (d .groups) left bar t q in
+          let y = deep-with depth left bar t u in
           let o = chain-order (d .rule) (d .known) a t (h .mid) p (h .inside) (h .right) in
           let w = d .within in
           let n = h .node in
@@ -146,18 +146,18 @@ module _ (a : List ℕ) where
       Claim : Option Branches → Type 0
       Claim left = min (shortest bs) (behind .least) ≡ leastIn left (m .least) → sooner (marked (unresolvedIn 0 bs)) (behind .reference) ≡ referenceIn left (m .reference) → sooner (marked (idleIn bs)) (behind .idle) ≡ idleFrom left (m .idle) → AllLeft rule known groups bs lo before behind more
 
-      step : (left : Option Branches) (t : Rule) → Branch a 5 (LeftStand rule known a left) (Chain rule known a t) lo (k .mid) p → Propers groups (with left t) → Claim (some (with left t))
-      step left t h q c₁ c₂ c₃ =
-          let x = proper-with groups left t q in
+      step : (left : Option Branches) (bar : ℕ) (t : Rule) → Branch a 5 (LeftStand rule known a left) (Chain rule known a t) lo (k .mid) p → Propers groups (with left bar t) → Claim (some (with left bar t))
+      step left bar t h q c₁ c₂ c₃ =
+          let x = proper-with groups left bar t q in
           let o = f rule known groups t (h .mid) p (x .1) (rw (h .of) (h .right)) in
           record {
             left = left;
             mid = h .mid;
             stands = rw (is ∙ h .link) (h .left);
             proper = x .0;
-            least = c₁ ∙ least-with left t (m .least) ∙ rw (w .least, o .least);
-            first = c₂ ∙ reference-with left t (m .reference) ∙ rw (w .reference, o .reference);
-            second = c₃ ∙ idle-with left t (m .idle) ∙ rw (w .idle, o .idle);
+            least = c₁ ∙ least-with left bar t (m .least) ∙ rw (w .least, o .least);
+            first = c₂ ∙ reference-with left bar t (m .reference) ∙ rw (w .reference, o .reference);
+            second = c₃ ∙ idle-with left bar t (m .idle) ∙ rw (w .idle, o .idle);
           }
 
       go : (left : Option Branches) → LeftStand rule known a left lo (k .mid) p → LeftProper groups left → Claim left

@@ -27,7 +27,7 @@ module _ (a : List ℕ) (p : ℕ) where
   unfolding Finds Inside leastLength unresolved idle marked
   none-found m e n rule known groups empty lo top q h = record { least = n .least; reference = n .reference; idle = n .idle }
   none-found m e n rule known groups (seq x y) lo top q h = absurd (omega (arith, part-here rule known a y (h .mid) top p (h .right) .some))
-  none-found m e n rule known groups (alt bs t) lo top q h = absurd (omega (arith, h .node .some))
+  none-found m e n rule known groups (alt bs bar t) lo top q h = absurd (omega (arith, h .node .some))
   none-found m e n rule known groups (item place i) lo top q h = absurd h
   none-found m e n rule known groups (group k t) lo top q h = absurd h
   none-found m e n rule known groups (repeat place least most g t) lo top q h = absurd h
@@ -42,7 +42,7 @@ module _ (a : List ℕ) (p : ℕ) where
       go : (t : Rule) → Inside (d .rule) (d .known) a t (d .lo) (d .top) p → p < length a
       go empty h = absurd (l (h .0))
       go (seq x y) h = omega (arith, part-here (d .rule) (d .known) a y (h .mid) (d .top) p (h .right) .high, d .within)
-      go (alt bs t) h = omega (arith, h .node .high, d .within)
+      go (alt bs bar t) h = omega (arith, h .node .high, d .within)
       go (item place i) h = absurd h
       go (group n t) h = absurd h
       go (repeat place least most g t) h = absurd h
@@ -71,8 +71,8 @@ module _ (a : List ℕ) (p : ℕ) where
       positive : (n : ℕ) → (n ≡ 0 → ⊥) → 1 ≤ n
       positive n h = omega arith
 
-      go : (bs : Branches) (t : Rule) → Branch a 6 (Several (d .rule) (d .known) a bs) (Chain (d .rule) (d .known) a t) (d .lo) (d .top) p → Proper (d .groups) (alt bs t) → levels (alt bs t) ≤ depth → AltAt depth
-      go bs t h q u =
+      go : (bs : Branches) (bar : ℕ) (t : Rule) → Branch a 6 (Several (d .rule) (d .known) a bs) (Chain (d .rule) (d .known) a t) (d .lo) (d .top) p → Proper (d .groups) (alt bs bar t) → levels (alt bs bar t) ≤ depth → AltAt depth
+      go bs bar t h q u =
           let o = chain-order (d .rule) (d .known) a t (h .mid) p (h .inside) (h .right) in
           let w = d .within in
           let n = h .node in
@@ -90,8 +90,8 @@ module _ (a : List ℕ) (p : ℕ) where
       positive : (n : ℕ) → (n ≡ 0 → ⊥) → 1 ≤ n
       positive n h = omega arith
 
-      go : (bs : Branches) (t : Rule) → Branch a 6 (Several rule known a bs) (Chain rule known a t) lo top p → Proper groups (alt bs t) → Of (alt bs t) m
-      go bs t h q =
+      go : (bs : Branches) (bar : ℕ) (t : Rule) → Branch a 6 (Several rule known a bs) (Chain rule known a t) lo top p → Proper groups (alt bs bar t) → Of (alt bs bar t) m
+      go bs bar t h q =
           let o = f rule known groups t (h .mid) p (q .1) (rw (h .of) (h .right)) in
           let b = g rule known groups bs lo (h .mid) (q .0) (rw (h .link) (h .left)) in
           record {

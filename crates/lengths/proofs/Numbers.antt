@@ -40,7 +40,7 @@ mutual
   least-bounded empty = omega arith
   least-bounded (item place i) = item-bounded i
   least-bounded (seq a b) = capped-bounded (leastLength a + leastLength b)
-  least-bounded (alt bs b) = let x = least-bounded b in omega arith
+  least-bounded (alt bs bar b) = let x = least-bounded b in omega arith
   least-bounded (group n a) = least-bounded a
   least-bounded (repeat place n m g a) = capped-bounded (n * leastLength a)
   least-bounded (held place a) = least-bounded a

@@ -32,11 +32,11 @@ pub record Branched (groups r : ℕ) (a c : List ℕ) (t : Rule) (mid p kind oth
 fits-one : (groups r : ℕ) (t : Rule) → FitAll groups r (one t) → Fits groups r t
 fits-one groups r t f = record { few = f .few; proper = f .proper; room = f .room }
 
-pub fits-last : (groups r : ℕ) (bs : Branches) (t : Rule) → FitAll groups r (also bs t) → Fits groups r t
-fits-last groups r bs t f = record { few = f .few; proper = f .proper .1; room = omega (arith, f .room) }
+pub fits-last : (groups r bar : ℕ) (bs : Branches) (t : Rule) → FitAll groups r (also bs bar t) → Fits groups r t
+fits-last groups r bar bs t f = record { few = f .few; proper = f .proper .1; room = omega (arith, f .room) }
 
-pub fits-others : (groups r : ℕ) (bs : Branches) (t : Rule) → FitAll groups r (also bs t) → FitAll groups r bs
-fits-others groups r bs t f = record { few = f .few; proper = f .proper .0; room = omega (arith, f .room) }
+pub fits-others : (groups r bar : ℕ) (bs : Branches) (t : Rule) → FitAll groups r (also bs bar t) → FitAll groups r bs
+fits-others groups r bar bs t f = record { few = f .few; proper = f .proper .0; room = omega (arith, f .room) }
 
 module _ (rule : List ℕ) (known : Names) where
   pub branched : (groups r : ℕ) (a b c : List ℕ) (X : Region) (t : Rule) (lo top p kind other next sofar entry found : ℕ) → (h : Branch a kind X (Chain rule known a t) lo top p)
@@ -123,10 +123,10 @@ module _ (rule : List ℕ) (known : Names) where
           first = m .first ∙ ap (noted us) (w .first) ∙ noted-first us ut sofar;
         }
 
-    made-also : (d : List ℕ) (bs : Branches) (pc last : ℕ) → (h : Branch a 5 (Several rule known a bs) (Chain rule known a t) lo top p) → Branched groups r a c t (h .mid) p 5 other next sofar entry found
-        → MadeAll groups r bs lo (h .mid) c d p next found pc last → MadeAll groups r (also bs t) lo top a d other next sofar pc last
+    made-also : (d : List ℕ) (bs : Branches) (bar pc last : ℕ) → (h : Branch a 5 (Several rule known a bs) (Chain rule known a t) lo top p) → Branched groups r a c t (h .mid) p 5 other next sofar entry found
+        → MadeAll groups r bs lo (h .mid) c d p next found pc last → MadeAll groups r (also bs bar t) lo top a d other next sofar pc last
     unfolding unresolved Compiled
-    made-also d bs pc last h w m =
+    made-also d bs bar pc last h w m =
         let j = joined d bs 5 pc last h w m in
         record {
           outside = j .outside;
@@ -135,10 +135,10 @@ module _ (rule : List ℕ) (known : Names) where
           first = j .first;
         }
 
-    pub made-alt : (d : List ℕ) (bs : Branches) (pc last : ℕ) → (h : Branch a 6 (Several rule known a bs) (Chain rule known a t) lo top p) → Branched groups r a c t (h .mid) p 6 other next sofar entry found
-        → MadeAll groups r bs lo (h .mid) c d p next found pc last → Made groups r (alt bs t) lo top a d next sofar pc last
+    pub made-alt : (d : List ℕ) (bs : Branches) (bar pc last : ℕ) → (h : Branch a 6 (Several rule known a bs) (Chain rule known a t) lo top p) → Branched groups r a c t (h .mid) p 6 other next sofar entry found
+        → MadeAll groups r bs lo (h .mid) c d p next found pc last → Made groups r (alt bs bar t) lo top a d next sofar pc last
     unfolding unresolved Compiled
-    made-alt d bs pc last h w m =
+    made-alt d bs bar pc last h w m =
         let j = joined d bs 6 pc last h w m in
         record {
           outside = j .outside;
@@ -211,10 +211,10 @@ module _ (rule : List ℕ) (known : Names) where
 
         go : (rest : Branches) → Several rule known a rest (s .lo) (k .mid) p → FitAll groups r rest → AllTurn
         go (one t) h f = record { branch = branch-at groups r a Nothing t (s .lo) (k .mid) p 5 short small (fits-one groups r t f) h; near = near; lower = rw (h .link) (omega (arith, h .left .0)) }
-        go (also bs t) h f =
+        go (also bs bar t) h f =
             let q = several-node rule known a bs (s .lo) (h .mid) (h .before) (h .left) in
             let o = chain-order rule known a t (h .mid) p (h .inside) (h .right) in
-            record { branch = branch-at groups r a (Several rule known a bs) t (s .lo) (k .mid) p 5 short small (fits-last groups r bs t f) h; near = near; lower = rw (h .link) (omega (arith, q .high)) }
+            record { branch = branch-at groups r a (Several rule known a bs) t (s .lo) (k .mid) p 5 short small (fits-last groups r bar bs t f) h; near = near; lower = rw (h .link) (omega (arith, q .high)) }
 
     -- the branch at p is linked, and its node written
     module _ (b c : List ℕ) (before entry last : ℕ) (some : 1 ≤ p) (is : before ≡ getD a (p + 2) 0) (m : Links (Chain rule known a) groups r a b (getD a (p + 1) 0) next found entry last) (w : PutTwo b c (p + 1) entry after) where
@@ -238,11 +238,11 @@ module _ (rule : List ℕ) (known : Names) where
                 done = λ _. whole c p last (made-one groups r a c t lo (k .mid) p after next found entry last h bt);
                 more = λ e. absurd (omega arith);
               }
-          go (also bs′ t) h f whole =
+          go (also bs′ bar t) h f whole =
               let q = several-node rule known a bs′ lo (h .mid) (h .before) (h .left) in
               let o = chain-order rule known a t (h .mid) p (h .inside) (h .right) in
               let u = h .node .high in
-              let mt = m t (h .mid) p (rw (h .of) (h .right)) (fits-last groups r bs′ t f) in
+              let mt = m t (h .mid) p (rw (h .of) (h .right)) (fits-last groups r bar bs′ t f) in
               let bt = branched groups r a b c (Several rule known a bs′) t lo (k .mid) p 5 after next found entry last h mt w in
               record {
                 near = omega (arith, k .ends);
@@ -253,8 +253,8 @@ module _ (rule : List ℕ) (known : Names) where
                   mid = h .mid;
                   ends = omega (arith, k .ends);
                   stands = rw (is ∙ h .link) (several-same rule known a c bs′ lo (h .mid) (h .before) (λ i _ y. bt .outside .below i y) (h .left));
-                  fits = fits-others groups r bs′ t f;
-                  whole = λ new at z mb. whole new at z (made-also groups r a c t lo (k .mid) p after next found entry last new bs′ at z h bt mb);
+                  fits = fits-others groups r bar bs′ t f;
+                  whole = λ new at z mb. whole new at z (made-also groups r a c t lo (k .mid) p after next found entry last new bs′ bar at z h bt mb);
                 };
               }
 

@@ -40,7 +40,7 @@ module _ (rule : List ℕ) (known : Names) where
   for-some a lo top p Q f l empty h = absurd (omega (arith, h .0))
   for-some a lo top p Q f l (seq x y) h = f x y h
   for-some a lo top p Q f l (item place i) h = absurd h
-  for-some a lo top p Q f l (alt bs t) h = absurd h
+  for-some a lo top p Q f l (alt bs bar t) h = absurd h
   for-some a lo top p Q f l (group n t) h = absurd h
   for-some a lo top p Q f l (repeat place least most g t) h = absurd h
   for-some a lo top p Q f l (held place t) h = absurd h
@@ -51,7 +51,7 @@ module _ (rule : List ℕ) (known : Names) where
   for-none a lo top p Q q e empty h = q
   for-none a lo top p Q q e (seq x y) h = absurd (omega (arith, part-here rule known a y (h .mid) top p (h .right) .some))
   for-none a lo top p Q q e (item place i) h = absurd h
-  for-none a lo top p Q q e (alt bs t) h = absurd h
+  for-none a lo top p Q q e (alt bs bar t) h = absurd h
   for-none a lo top p Q q e (group n t) h = absurd h
   for-none a lo top p Q q e (repeat place least most g t) h = absurd h
   for-none a lo top p Q q e (held place t) h = absurd h

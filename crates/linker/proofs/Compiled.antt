@@ -85,7 +85,7 @@ module _ (a b : List ℕ) (lo top lo′ top′ : ℕ) (l : lo′ ≤ lo) (h : to
     keep empty pc next r c = c
     keep (item place i) pc next r c = item-keep i place pc next c
     keep (seq x y) pc next r c = record { mid = c .mid; left = keep x pc (c .mid) r (c .left); right = keep y (c .mid) next r (c .right) }
-    keep (alt bs t) pc next r c =
+    keep (alt bs bar t) pc next r c =
         record {
           last = c .last;
           others = keep-all bs pc (c .last) next r (c .others);
@@ -140,7 +140,7 @@ module _ (a b : List ℕ) (lo top lo′ top′ : ℕ) (l : lo′ ≤ lo) (h : to
           fails = word 2 (omega arith) (c .node) (c .fails);
           inner = keep t (c .body) next r (c .inner);
         }
-    keep-all (also bs t) pc other next r c =
+    keep-all (also bs bar t) pc other next r c =
         record {
           last = c .last;
           others = keep-all bs pc (c .last) next r (c .others);

@@ -25,7 +25,7 @@ module _ (rule : List ℕ) (known : Names) where
   unfolding Links Inside
   none-links groups r a p next sofar e empty lo top h f = made-empty groups r lo top a next sofar
   none-links groups r a p next sofar e (seq x y) lo top h f = absurd (omega (arith, part-here rule known a y (h .mid) top p (h .right) .some))
-  none-links groups r a p next sofar e (alt bs t) lo top h f = absurd (omega (arith, h .node .some))
+  none-links groups r a p next sofar e (alt bs bar t) lo top h f = absurd (omega (arith, h .node .some))
   none-links groups r a p next sofar e (item place i) lo top h f = absurd h
   none-links groups r a p next sofar e (group n t) lo top h f = absurd h
   none-links groups r a p next sofar e (repeat place least most g t) lo top h f = absurd h
@@ -37,7 +37,7 @@ module _ (rule : List ℕ) (known : Names) where
   unfolding Inside
   is-chain a p e empty lo top h = h
   is-chain a p e (seq x y) lo top h = h
-  is-chain a p e (alt bs t) lo top h = absurd (e (h .node .is))
+  is-chain a p e (alt bs bar t) lo top h = absurd (e (h .node .is))
   is-chain a p e (item place i) lo top h = absurd h
   is-chain a p e (group n t) lo top h = absurd h
   is-chain a p e (repeat place least most g t) lo top h = absurd h
@@ -59,7 +59,7 @@ module _ (rule : List ℕ) (known : Names) where
       go : (t : Rule) → Inside rule known a t (s .lo) (s .top) p → p < length a
       go empty h = absurd (omega (arith, h .0))
       go (seq x y) h = omega (arith, part-here rule known a y (h .mid) (s .top) p (h .right) .high, s .within)
-      go (alt bs t) h = omega (arith, h .node .high, s .within)
+      go (alt bs bar t) h = omega (arith, h .node .high, s .within)
       go (item place i) h = absurd h
       go (group n t) h = absurd h
       go (repeat place least most g t) h = absurd h
@@ -68,55 +68,55 @@ module _ (rule : List ℕ) (known : Names) where
 
   -- An alternation ----------------------------------------------------------------------
 
-  pub for-alt : (a : List ℕ) (lo top p : ℕ) (Q : Rule → Type 0) → ((bs : Branches) (t : Rule) → Branch a 6 (Several rule known a bs) (Chain rule known a t) lo top p → Q (alt bs t)) → 1 ≤ p → getD a p 0 ≡ 6 → (t : Rule) → Inside rule known a t lo top p → Q t
+  pub for-alt : (a : List ℕ) (lo top p : ℕ) (Q : Rule → Type 0) → ((bs : Branches) (bar : ℕ) (t : Rule) → Branch a 6 (Several rule known a bs) (Chain rule known a t) lo top p → Q (alt bs bar t)) → 1 ≤ p → getD a p 0 ≡ 6 → (t : Rule) → Inside rule known a t lo top p → Q t
   unfolding Inside
   for-alt a lo top p Q f l e empty h = absurd (omega (arith, h .0))
   for-alt a lo top p Q f l e (seq x y) h = absurd (never-last rule known a y (h .mid) top p (h .right) e)
-  for-alt a lo top p Q f l e (alt bs t) h = f bs t h
+  for-alt a lo top p Q f l e (alt bs bar t) h = f bs bar t h
   for-alt a lo top p Q f l e (item place i) h = absurd h
   for-alt a lo top p Q f l e (group n t) h = absurd h
   for-alt a lo top p Q f l e (repeat place least most g t) h = absurd h
   for-alt a lo top p Q f l e (held place t) h = absurd h
   for-alt a lo top p Q f l e (look place negative t) h = absurd h
 
-  fits-branches : (groups r : ℕ) (bs : Branches) (t : Rule) → Fits groups r (alt bs t) → FitAll groups r (also bs t)
-  fits-branches groups r bs t f = record { few = f .few; proper = f .proper; room = f .room }
+  fits-branches : (groups r bar : ℕ) (bs : Branches) (t : Rule) → Fits groups r (alt bs bar t) → FitAll groups r (also bs bar t)
+  fits-branches groups r bar bs t f = record { few = f .few; proper = f .proper; room = f .room }
 
   module _ (groups r : ℕ) (a : List ℕ) (p : ℕ) (l : 1 ≤ p) (e : getD a p 0 ≡ 6) where
     -- what is asked of the last branch
     pub alt-at : Stands (Inside rule known a) groups r a p → BranchAt rule known groups r a p × (getD a (p + 2) 0 < p)
     alt-at s = for-alt a (s .lo) (s .top) p (λ t. Fits groups r t → BranchAt rule known groups r a p × (getD a (p + 2) 0 < p)) go l e (s .tree) (s .holds) (s .fits)
       where
-        go : (bs : Branches) (t : Rule) → Branch a 6 (Several rule known a bs) (Chain rule known a t) (s .lo) (s .top) p → Fits groups r (alt bs t) → BranchAt rule known groups r a p × (getD a (p + 2) 0 < p)
-        go bs t h f =
+        go : (bs : Branches) (bar : ℕ) (t : Rule) → Branch a 6 (Several rule known a bs) (Chain rule known a t) (s .lo) (s .top) p → Fits groups r (alt bs bar t) → BranchAt rule known groups r a p × (getD a (p + 2) 0 < p)
+        go bs bar t h f =
             let q = several-node rule known a bs (s .lo) (h .mid) (h .before) (h .left) in
             let o = chain-order rule known a t (h .mid) p (h .inside) (h .right) in
-            (branch-at rule known groups r a (Several rule known a bs) t (s .lo) (s .top) p 6 (s .within) (s .small) (fits-last groups r bs t (fits-branches groups r bs t f)) h, rw (h .link) (omega (arith, q .high)))
+            (branch-at rule known groups r a (Several rule known a bs) t (s .lo) (s .top) p 6 (s .within) (s .small) (fits-last groups r bar bs t (fits-branches groups r bar bs t f)) h, rw (h .link) (omega (arith, q .high)))
 
     -- the last branch is linked, and its node written
     module _ (b c : List ℕ) (other next sofar entry found : ℕ) (m : Links (Chain rule known a) groups r a b (getD a (p + 1) 0) next sofar entry found) (w : PutTwo b c (p + 1) entry other) where
-      last-branched : (bs : Branches) (t : Rule) (lo top : ℕ) → (h : Branch a 6 (Several rule known a bs) (Chain rule known a t) lo top p) → Fits groups r (alt bs t) → Branched groups r a c t (h .mid) p 6 other next sofar entry found
+      last-branched : (bs : Branches) (bar : ℕ) (t : Rule) (lo top : ℕ) → (h : Branch a 6 (Several rule known a bs) (Chain rule known a t) lo top p) → Fits groups r (alt bs bar t) → Branched groups r a c t (h .mid) p 6 other next sofar entry found
       unfolding Links
-      last-branched bs t lo top h f = branched rule known groups r a b c (Several rule known a bs) t lo top p 6 other next sofar entry found h (m t (h .mid) p (rw (h .of) (h .right)) (fits-last groups r bs t (fits-branches groups r bs t f))) w
+      last-branched bs bar t lo top h f = branched rule known groups r a b c (Several rule known a bs) t lo top p 6 other next sofar entry found h (m t (h .mid) p (rw (h .of) (h .right)) (fits-last groups r bar bs t (fits-branches groups r bar bs t f))) w
 
       -- the branches before it stand as they stood
-      others-stand : (bs : Branches) (t : Rule) (lo top : ℕ) → (h : Branch a 6 (Several rule known a bs) (Chain rule known a t) lo top p) → Fits groups r (alt bs t) → Several rule known c bs lo (h .mid) (getD a (p + 2) 0)
-      others-stand bs t lo top h f = rw (h .link) (several-same rule known a c bs lo (h .mid) (h .before) (λ i _ y. last-branched bs t lo top h f .outside .below i y) (h .left))
+      others-stand : (bs : Branches) (bar : ℕ) (t : Rule) (lo top : ℕ) → (h : Branch a 6 (Several rule known a bs) (Chain rule known a t) lo top p) → Fits groups r (alt bs bar t) → Several rule known c bs lo (h .mid) (getD a (p + 2) 0)
+      others-stand bs bar t lo top h f = rw (h .link) (several-same rule known a c bs lo (h .mid) (h .before) (λ i _ y. last-branched bs bar t lo top h f .outside .below i y) (h .left))
 
       pub alt-others : Stands (Inside rule known a) groups r a p → StandAll rule known groups r c (getD a (p + 2) 0)
       alt-others s = for-alt a (s .lo) (s .top) p (λ t. Fits groups r t → StandAll rule known groups r c (getD a (p + 2) 0)) go l e (s .tree) (s .holds) (s .fits)
         where
-          go : (bs : Branches) (t : Rule) → Branch a 6 (Several rule known a bs) (Chain rule known a t) (s .lo) (s .top) p → Fits groups r (alt bs t) → StandAll rule known groups r c (getD a (p + 2) 0)
-          go bs t h f =
+          go : (bs : Branches) (bar : ℕ) (t : Rule) → Branch a 6 (Several rule known a bs) (Chain rule known a t) (s .lo) (s .top) p → Fits groups r (alt bs bar t) → StandAll rule known groups r c (getD a (p + 2) 0)
+          go bs bar t h f =
               let o = chain-order rule known a t (h .mid) p (h .inside) (h .right) in
               let u = h .node .high in
-              let long = last-branched bs t (s .lo) (s .top) h f .outside .long in
+              let long = last-branched bs bar t (s .lo) (s .top) h f .outside .long in
               record {
                 branches = bs;
                 lo = s .lo;
                 top = h .mid;
-                holds = others-stand bs t (s .lo) (s .top) h f;
-                fits = fits-others groups r bs t (fits-branches groups r bs t f);
+                holds = others-stand bs bar t (s .lo) (s .top) h f;
+                fits = fits-others groups r bar bs t (fits-branches groups r bar bs t f);
                 within = omega (arith, s .within);
                 small = omega (arith, s .small);
               }
@@ -125,10 +125,10 @@ module _ (rule : List ℕ) (known : Names) where
       unfolding Links LinksAll
       alt-links d pc last n t lo top h f = for-alt a lo top p (λ t. Fits groups r t → Made groups r t lo top a d next sofar pc last) go l e t h f
         where
-          go : (bs : Branches) (t : Rule) → Branch a 6 (Several rule known a bs) (Chain rule known a t) lo top p → Fits groups r (alt bs t) → Made groups r (alt bs t) lo top a d next sofar pc last
-          go bs t h f =
-              made-alt rule known groups r a c t lo top p other next sofar entry found d bs pc last h (last-branched bs t lo top h f)
-              (n bs lo (h .mid) (others-stand bs t lo top h f) (fits-others groups r bs t (fits-branches groups r bs t f)))
+          go : (bs : Branches) (bar : ℕ) (t : Rule) → Branch a 6 (Several rule known a bs) (Chain rule known a t) lo top p → Fits groups r (alt bs bar t) → Made groups r (alt bs bar t) lo top a d next sofar pc last
+          go bs bar t h f =
+              made-alt rule known groups r a c t lo top p other next sofar entry found d bs bar pc last h (last-branched bs bar t lo top h f)
+              (n bs lo (h .mid) (others-stand bs bar t lo top h f) (fits-others groups r bar bs t (fits-branches groups r bar bs t f)))
 
 -- The whole rule --------------------------------------------------------------------------
 

@@ -55,7 +55,7 @@ module _ (rule : List ℕ) (known : Names) where
   part-here a (look place true t) lo top p h = here a lo top p 8 17 (omega arith) (λ e. omega arith) (h .node)
   part-here a empty lo top p h = here a lo top p 3 10 (omega arith) (λ e. omega arith) (h .node)
   part-here a (seq x y) lo top p h = here a lo top p 3 10 (omega arith) (λ e. omega arith) (h .node)
-  part-here a (alt bs t) lo top p h = here a lo top p 3 10 (omega arith) (λ e. omega arith) (h .node)
+  part-here a (alt bs bar t) lo top p h = here a lo top p 3 10 (omega arith) (λ e. omega arith) (h .node)
 
   pub chain-order : (a : List ℕ) (t : Rule) (lo top p : ℕ) → Chain rule known a t lo top p → lo ≤ top
   unfolding Part
@@ -65,7 +65,7 @@ module _ (rule : List ℕ) (known : Names) where
       let n = part-here a y (h .mid) top p (h .right) in
       omega (arith, n .low, n .high)
   chain-order a (item place i) lo top p h = absurd h
-  chain-order a (alt bs t) lo top p h = absurd h
+  chain-order a (alt bs bar t) lo top p h = absurd h
   chain-order a (group n t) lo top p h = absurd h
   chain-order a (repeat place least most g t) lo top p h = absurd h
   chain-order a (held place t) lo top p h = absurd h
@@ -77,7 +77,7 @@ module _ (rule : List ℕ) (known : Names) where
   chain-below a empty lo top p n l u h = omega (arith, h .0)
   chain-below a (seq x y) lo top p n l u h = omega (arith, part-here a y (h .mid) top p (h .right) .high)
   chain-below a (item place i) lo top p n l u h = absurd h
-  chain-below a (alt bs t) lo top p n l u h = absurd h
+  chain-below a (alt bs bar t) lo top p n l u h = absurd h
   chain-below a (group k t) lo top p n l u h = absurd h
   chain-below a (repeat place least most g t) lo top p n l u h = absurd h
   chain-below a (held place t) lo top p n l u h = absurd h
@@ -87,7 +87,7 @@ module _ (rule : List ℕ) (known : Names) where
   unfolding Part
   inside-below a empty lo top p n l u h = omega (arith, h .0)
   inside-below a (seq x y) lo top p n l u h = omega (arith, part-here a y (h .mid) top p (h .right) .high)
-  inside-below a (alt bs t) lo top p n l u h = omega (arith, h .node .high)
+  inside-below a (alt bs bar t) lo top p n l u h = omega (arith, h .node .high)
   inside-below a (item place i) lo top p n l u h = absurd h
   inside-below a (group k t) lo top p n l u h = absurd h
   inside-below a (repeat place least most g t) lo top p n l u h = absurd h
@@ -97,7 +97,7 @@ module _ (rule : List ℕ) (known : Names) where
   pub several-node : (a : List ℕ) (bs : Branches) (lo top p : ℕ) → Several rule known a bs lo top p → Last a lo top p 3 5
   unfolding Part
   several-node a (one t) lo top p h = h .node
-  several-node a (also bs t) lo top p h = h .node
+  several-node a (also bs bar t) lo top p h = h .node
 
 -- The same numbers, the same nodes ------------------------------------------------
 
@@ -251,13 +251,13 @@ module _ (rule : List ℕ) (known : Names) (a b : List ℕ) where
         }
     part-same empty lo top p s h = plain-same Nothing Nothing nothing-same lo top p s h
     part-same (seq x y) lo top p s h = plain-same (Sequence a (Chain rule known a x) (Part rule known a y)) (Sequence b (Chain rule known b x) (Part rule known b y)) (sequence-same x y (λ l u q v w. chain-same x l u q v w) (λ l u q v w. part-same y l u q v w)) lo top p s h
-    part-same (alt bs t) lo top p s h = plain-same (Branch a 6 (Several rule known a bs) (Chain rule known a t)) (Branch b 6 (Several rule known b bs) (Chain rule known b t)) (branch-same 6 (Several rule known a bs) (Several rule known b bs) t (several-order bs) (λ l u q v w. several-same bs l u q v w) (λ l u q v w. chain-same t l u q v w)) lo top p s h
+    part-same (alt bs bar t) lo top p s h = plain-same (Branch a 6 (Several rule known a bs) (Chain rule known a t)) (Branch b 6 (Several rule known b bs) (Chain rule known b t)) (branch-same 6 (Several rule known a bs) (Several rule known b bs) t (several-order bs) (λ l u q v w. several-same bs l u q v w) (λ l u q v w. chain-same t l u q v w)) lo top p s h
 
     pub chain-same : (t : Rule) (lo top p : ℕ) → Same lo top a b → Chain rule known a t lo top p → Chain rule known b t lo top p
     chain-same empty lo top p s h = h
     chain-same (seq x y) lo top p s h = sequence-same x y (λ l u q v w. chain-same x l u q v w) (λ l u q v w. part-same y l u q v w) lo top p s h
     chain-same (item place i) lo top p s h = absurd h
-    chain-same (alt bs t) lo top p s h = absurd h
+    chain-same (alt bs bar t) lo top p s h = absurd h
     chain-same (group n t) lo top p s h = absurd h
     chain-same (repeat place least most g t) lo top p s h = absurd h
     chain-same (held place t) lo top p s h = absurd h
@@ -266,7 +266,7 @@ module _ (rule : List ℕ) (known : Names) (a b : List ℕ) where
     pub inside-same : (t : Rule) (lo top p : ℕ) → Same lo top a b → Inside rule known a t lo top p → Inside rule known b t lo top p
     inside-same empty lo top p s h = h
     inside-same (seq x y) lo top p s h = sequence-same x y (λ l u q v w. chain-same x l u q v w) (λ l u q v w. part-same y l u q v w) lo top p s h
-    inside-same (alt bs t) lo top p s h = branch-same 6 (Several rule known a bs) (Several rule known b bs) t (several-order bs) (λ l u q v w. several-same bs l u q v w) (λ l u q v w. chain-same t l u q v w) lo top p s h
+    inside-same (alt bs bar t) lo top p s h = branch-same 6 (Several rule known a bs) (Several rule known b bs) t (several-order bs) (λ l u q v w. several-same bs l u q v w) (λ l u q v w. chain-same t l u q v w) lo top p s h
     inside-same (item place i) lo top p s h = absurd h
     inside-same (group n t) lo top p s h = absurd h
     inside-same (repeat place least most g t) lo top p s h = absurd h
@@ -275,4 +275,4 @@ module _ (rule : List ℕ) (known : Names) (a b : List ℕ) where
 
     pub several-same : (bs : Branches) (lo top p : ℕ) → Same lo top a b → Several rule known a bs lo top p → Several rule known b bs lo top p
     several-same (one t) lo top p s h = branch-same 5 Nothing Nothing t (λ l u q w. w .1) nothing-same (λ l u q v w. chain-same t l u q v w) lo top p s h
-    several-same (also bs t) lo top p s h = branch-same 5 (Several rule known a bs) (Several rule known b bs) t (several-order bs) (λ l u q v w. several-same bs l u q v w) (λ l u q v w. chain-same t l u q v w) lo top p s h
+    several-same (also bs bar t) lo top p s h = branch-same 5 (Several rule known a bs) (Several rule known b bs) t (several-order bs) (λ l u q v w. several-same bs l u q v w) (λ l u q v w. chain-same t l u q v w) lo top p s h

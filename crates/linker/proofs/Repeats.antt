@@ -74,7 +74,7 @@ module _ (rule : List ℕ) (known : Names) where
       go (look place true s) k = absurd (omega (arith, z))
       go empty k = absurd (omega (arith, z))
       go (seq x y) k = absurd (omega (arith, z))
-      go (alt bs t) k = absurd (omega (arith, z))
+      go (alt bs bar t) k = absurd (omega (arith, z))
 
   -- a chain of no parts is empty
   none-before : (a : List ℕ) (x y : Rule) (lo top p : ℕ) → p ≡ 0 → Chain rule known a x lo top p → OneByte y → OneByte (seq x y)
@@ -82,7 +82,7 @@ module _ (rule : List ℕ) (known : Names) where
   none-before a empty y lo top p e h o = o
   none-before a (seq x z) y lo top p e h o = absurd (omega (arith, part-here rule known a z (h .mid) top p (h .right) .some))
   none-before a (item place i) y lo top p e h o = absurd h
-  none-before a (alt bs t) y lo top p e h o = absurd h
+  none-before a (alt bs bar t) y lo top p e h o = absurd h
   none-before a (group n t) y lo top p e h o = absurd h
   none-before a (repeat place least most g t) y lo top p e h o = absurd h
   none-before a (held place t) y lo top p e h o = absurd h
@@ -101,7 +101,7 @@ module _ (rule : List ℕ) (known : Names) where
           let b : getD a (h .inside) 0 ≡ 0 = byte-is (h .inside) (h .is) in
           let z : h .holds .before ≡ 0 = sym (h .holds .link) ∙ rw b (rw (h .is) at (w .alone)) in
           none-before a x y lo (h .holds .mid) (h .holds .before) z (h .holds .left) (byte-item a y (h .holds .mid) p (h .inside) (h .holds .right) b)
-      go (alt bs t) h = absurd (omega (arith, byte-is (h .inside) (h .is), h .holds .node .is))
+      go (alt bs bar t) h = absurd (omega (arith, byte-is (h .inside) (h .is), h .holds .node .is))
       go (item place i) h = absurd (h .holds)
       go (group n t) h = absurd (h .holds)
       go (repeat place least most g t) h = absurd (h .holds)

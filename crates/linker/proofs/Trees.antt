@@ -28,7 +28,7 @@ KindOf (look place false t) k = k ≡ 15
 KindOf (look place true t) k = k ≡ 17
 KindOf empty k = k ≡ 10
 KindOf (seq x y) k = k ≡ 10
-KindOf (alt bs t) k = k ≡ 10
+KindOf (alt bs bar t) k = k ≡ 10
 
 -- no item has a number between
 item-other : (i : Item) (k n : ℕ) → ItemKind i k → k ≡ n → 3 ≤ n → n ≤ 10 → ⊥
@@ -52,7 +52,7 @@ module _ (rule : List ℕ) (known : Names) where
   part-kind a (look place true t) lo top p h = h .node .is
   part-kind a empty lo top p h = h .node .is
   part-kind a (seq x y) lo top p h = h .node .is
-  part-kind a (alt bs t) lo top p h = h .node .is
+  part-kind a (alt bs bar t) lo top p h = h .node .is
 
   -- what holds of every tree of a kind holds of the tree that stands there
   module _ (a : List ℕ) (lo top p : ℕ) (Q : Rule → Type 0) where
@@ -81,7 +81,7 @@ module _ (rule : List ℕ) (known : Names) where
         go (repeat place least most g s) h k = absurd (no k (λ u. omega arith) (λ u. omega arith) (λ u. omega arith) (λ u. omega arith))
         go empty h k = absurd (no k (λ u. omega arith) (λ u. omega arith) (λ u. omega arith) (λ u. omega arith))
         go (seq x y) h k = absurd (no k (λ u. omega arith) (λ u. omega arith) (λ u. omega arith) (λ u. omega arith))
-        go (alt bs s) h k = absurd (no k (λ u. omega arith) (λ u. omega arith) (λ u. omega arith) (λ u. omega arith))
+        go (alt bs bar s) h k = absurd (no k (λ u. omega arith) (λ u. omega arith) (λ u. omega arith) (λ u. omega arith))
 
     pub for-repeat : ((place least : ℕ) (most : Most) (g : Greed) (s : Rule) → Part rule known a (repeat place least most g s) lo top p → Q (repeat place least most g s)) → getD a p 0 ≡ 7 → (t : Rule) → Part rule known a t lo top p → Q t
     for-repeat f e t h = go t h (part-kind a t lo top p h)
@@ -96,7 +96,7 @@ module _ (rule : List ℕ) (known : Names) where
         go (look place true s) h k = absurd (omega (arith, e))
         go empty h k = absurd (omega (arith, e))
         go (seq x y) h k = absurd (omega (arith, e))
-        go (alt bs t) h k = absurd (omega (arith, e))
+        go (alt bs bar t) h k = absurd (omega (arith, e))
 
     pub for-plain : ((s : Rule) → Plain a (Inside rule known a s) lo top p → Q s) → getD a p 0 ≡ 10 → (t : Rule) → Part rule known a t lo top p → Q t
     unfolding Part
@@ -105,7 +105,7 @@ module _ (rule : List ℕ) (known : Names) where
         go : (t : Rule) → Part rule known a t lo top p → KindOf t (getD a p 0) → Q t
         go empty h k = f empty h
         go (seq x y) h k = f (seq x y) h
-        go (alt bs t) h k = f (alt bs t) h
+        go (alt bs bar t) h k = f (alt bs bar t) h
         go (item place i) h k = absurd (item-other i _ _ k e (omega arith) (omega arith))
         go (group n s) h k = absurd (omega (arith, e))
         go (repeat place least most g s) h k = absurd (omega (arith, e))
@@ -133,7 +133,7 @@ module _ (rule : List ℕ) (known : Names) where
         go (look place true s) h k = absurd (no k (λ u. omega arith) (λ u. omega arith))
         go empty h k = absurd (no k (λ u. omega arith) (λ u. omega arith))
         go (seq x y) h k = absurd (no k (λ u. omega arith) (λ u. omega arith))
-        go (alt bs t) h k = absurd (no k (λ u. omega arith) (λ u. omega arith))
+        go (alt bs bar t) h k = absurd (no k (λ u. omega arith) (λ u. omega arith))
 
     pub for-reference : ((place : ℕ) (folded : Bool) (n : ℕ) → ByNumber a folded n lo top p place → Q (item place (reference folded n))) → getD a p 0 ≡ 11 → (t : Rule) → Part rule known a t lo top p → Q t
     unfolding Part
@@ -159,7 +159,7 @@ module _ (rule : List ℕ) (known : Names) where
         go (look place true s) h k = absurd (b (inr (inr (inr k))))
         go empty h k = absurd (e₁₀ k)
         go (seq x y) h k = absurd (e₁₀ k)
-        go (alt bs t) h k = absurd (e₁₀ k)
+        go (alt bs bar t) h k = absurd (e₁₀ k)
 
   -- no part is a last branch
   pub never-last : (a : List ℕ) (t : Rule) (lo top p : ℕ) → Part rule known a t lo top p → getD a p 0 ≡ 6 → ⊥
@@ -175,4 +175,4 @@ module _ (rule : List ℕ) (known : Names) where
       go (look place true s) k = omega (arith, e)
       go empty k = omega (arith, e)
       go (seq x y) k = omega (arith, e)
-      go (alt bs t) k = omega (arith, e)
+      go (alt bs bar t) k = omega (arith, e)

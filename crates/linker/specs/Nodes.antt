@@ -162,14 +162,14 @@ module _ (s : List ℕ) (known : Names) (a : List ℕ) where
     Part (look place true t) lo top p = Forbidden a place (λ l h q. Inside t l h q) lo top p
     Part empty lo top p = Plain a Nothing lo top p
     Part (seq x y) lo top p = Plain a (Sequence a (λ l h q. Chain x l h q) (λ l h q. Part y l h q)) lo top p
-    Part (alt bs t) lo top p = Plain a (Branch a 6 (λ l h q. Several bs l h q) (λ l h q. Chain t l h q)) lo top p
+    Part (alt bs bar t) lo top p = Plain a (Branch a 6 (λ l h q. Several bs l h q) (λ l h q. Chain t l h q)) lo top p
 
     -- the parts of a sequence, the last of them at p, or 0 for none
     pub Chain : Rule → Region
     Chain empty lo top p = Nothing lo top p
     Chain (seq x y) lo top p = Sequence a (λ l h q. Chain x l h q) (λ l h q. Part y l h q) lo top p
     Chain (item place i) lo top p = ⊥
-    Chain (alt bs t) lo top p = ⊥
+    Chain (alt bs bar t) lo top p = ⊥
     Chain (group n t) lo top p = ⊥
     Chain (repeat place least most g t) lo top p = ⊥
     Chain (held place t) lo top p = ⊥
@@ -179,7 +179,7 @@ module _ (s : List ℕ) (known : Names) (a : List ℕ) where
     pub Inside : Rule → Region
     Inside empty lo top p = Nothing lo top p
     Inside (seq x y) lo top p = Sequence a (λ l h q. Chain x l h q) (λ l h q. Part y l h q) lo top p
-    Inside (alt bs t) lo top p = Branch a 6 (λ l h q. Several bs l h q) (λ l h q. Chain t l h q) lo top p
+    Inside (alt bs bar t) lo top p = Branch a 6 (λ l h q. Several bs l h q) (λ l h q. Chain t l h q) lo top p
     Inside (item place i) lo top p = ⊥
     Inside (group n t) lo top p = ⊥
     Inside (repeat place least most g t) lo top p = ⊥
@@ -189,4 +189,4 @@ module _ (s : List ℕ) (known : Names) (a : List ℕ) where
     -- branches but the last, the latest of them at p
     pub Several : Branches → Region
     Several (one t) lo top p = Branch a 5 Nothing (λ l h q. Chain t l h q) lo top p
-    Several (also bs t) lo top p = Branch a 5 (λ l h q. Several bs l h q) (λ l h q. Chain t l h q) lo top p
+    Several (also bs bar t) lo top p = Branch a 5 (λ l h q. Several bs l h q) (λ l h q. Chain t l h q) lo top p

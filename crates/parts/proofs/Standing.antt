@@ -113,7 +113,7 @@ module _ (s : List ℕ) (known : Names) where
       let l = chain-order s known a x lo (h .mid) (h .before) (h .left) in
       let n = part-here s known a y (h .mid) top p (h .right) in
       omega (arith, n .low, n .high)
-  inside-order a (alt bs t) lo top p h = omega (arith, h .node .low, h .node .high)
+  inside-order a (alt bs bar t) lo top p h = omega (arith, h .node .low, h .node .high)
   inside-order a (group n t) lo top p h = absurd h
   inside-order a (repeat place n m g t) lo top p h = absurd h
   inside-order a (held place t) lo top p h = absurd h
@@ -178,7 +178,7 @@ module _ (s : List ℕ) (known : Names) where
       part empty k = record { node = last; inside = inside; is = w .at 2 (omega arith); holds = k }
       part (item place i) k = absurd k
       part (seq x y) k = record { node = last; inside = inside; is = w .at 2 (omega arith); holds = k }
-      part (alt bs u) k = record { node = last; inside = inside; is = w .at 2 (omega arith); holds = k }
+      part (alt bs bar u) k = record { node = last; inside = inside; is = w .at 2 (omega arith); holds = k }
       part (group n u) k = absurd k
       part (repeat place n m g u) k = absurd k
       part (held place u) k = absurd k
@@ -268,7 +268,7 @@ module _ (s : List ℕ) (known : Names) where
   chain-inside empty a lo top p h = h
   chain-inside (item place i) a lo top p h = h
   chain-inside (seq x y) a lo top p h = h
-  chain-inside (alt bs t) a lo top p h = absurd h
+  chain-inside (alt bs bar t) a lo top p h = absurd h
   chain-inside (group n t) a lo top p h = h
   chain-inside (repeat place n m g t) a lo top p h = h
   chain-inside (held place t) a lo top p h = h
@@ -277,7 +277,7 @@ module _ (s : List ℕ) (known : Names) where
   -- branches of which the last has no node yet: its last part is at `last`, and the branch before it at `before`
   abbrev pub Pending : List ℕ → Branches → (lo top before last : ℕ) → Type 0
   Pending a (one t) lo top before last = (before ≡ 0) × Chain s known a t lo top last
-  Pending a (also bs t) lo top before last = (mid : ℕ) × Several s known a bs lo mid before × Chain s known a t mid top last
+  Pending a (also bs bar t) lo top before last = (mid : ℕ) × Several s known a bs lo mid before × Chain s known a t mid top last
 
   -- its node is written behind it
   put : {old new : List ℕ} {p before last kind : ℕ} (lo mid : ℕ) (X : Region) (t : Rule) → Wrote old new p 3 (kind ∷ last ∷ before ∷ []) → 1 ≤ p → lo ≤ mid → X lo mid before → Chain s known old t mid p last → Branch new kind X (Chain s known new t) lo (p + 3) p
@@ -294,8 +294,8 @@ module _ (s : List ℕ) (known : Names) where
         right = chain-same s known old new t mid p last (below-same new old p mid p (omega arith) (w .below)) h;
       }
 
-  put-behind : {old new : List ℕ} {p before last kind : ℕ} (lo : ℕ) (bs : Branches) (t : Rule) → Wrote old new p 3 (kind ∷ last ∷ before ∷ []) → 1 ≤ p → Pending old (also bs t) lo p before last → Branch new kind (Several s known new bs) (Chain s known new t) lo (p + 3) p
-  put-behind {old} {new} {p} {before} {last} lo bs t w b h =
+  put-behind : {old new : List ℕ} {p before last kind : ℕ} (lo bar : ℕ) (bs : Branches) (t : Rule) → Wrote old new p 3 (kind ∷ last ∷ before ∷ []) → 1 ≤ p → Pending old (also bs bar t) lo p before last → Branch new kind (Several s known new bs) (Chain s known new t) lo (p + 3) p
+  put-behind {old} {new} {p} {before} {last} lo bar bs t w b h =
       let mid = h .0 in
       let n = several-node s known old bs lo mid before (h .1) in
       let o = chain-order s known old t mid p last (h .2) in
@@ -305,16 +305,16 @@ module _ (s : List ℕ) (known : Names) where
   pub branch-put : {old new : List ℕ} {p before last : ℕ} (lo : ℕ) (bs : Branches) → Wrote old new p 3 (5 ∷ last ∷ before ∷ []) → 1 ≤ p → Pending old bs lo p before last → Several s known new bs lo (p + 3) p
   unfolding Part
   branch-put lo (one t) w b h = put lo lo Nothing t w b (omega arith) (h .0, omega arith) (h .1)
-  branch-put lo (also bs t) w b h = put-behind lo bs t w b h
+  branch-put lo (also bs bar t) w b h = put-behind lo bar bs t w b h
 
   -- the node of the last branch, where there are others
   pub last-put : {old new : List ℕ} {p before last : ℕ} (lo : ℕ) (bs : Branches) → Wrote old new p 3 (6 ∷ last ∷ before ∷ []) → 1 ≤ p → (before ≡ 0 → ⊥) → Pending old bs lo p before last → Inside s known new (alternatives bs) lo (p + 3) p
   unfolding Part alternatives
   last-put lo (one t) w b ne h = absurd (ne (h .0))
-  last-put lo (also bs t) w b ne h = put-behind lo bs t w b h
+  last-put lo (also bs bar t) w b ne h = put-behind lo bar bs t w b h
 
   -- a single branch is no alternation
   pub single-branch : (a : List ℕ) (lo top before last : ℕ) (bs : Branches) → before ≡ 0 → Pending a bs lo top before last → Inside s known a (alternatives bs) lo top last
   unfolding alternatives
   single-branch a lo top before last (one t) e h = chain-inside t a lo top last (h .1)
-  single-branch a lo top before last (also bs t) e h = let n = several-node s known a bs lo (h .0) before (h .1) in absurd (omega (arith, n .some))
+  single-branch a lo top before last (also bs bar t) e h = let n = several-node s known a bs lo (h .0) before (h .1) in absurd (omega (arith, n .some))

@@ -111,7 +111,7 @@ module _ {s old area names table : List ℕ} {c d : Cursor} {first before last b
     module _ {new : List ℕ} (after : List ℕ) (q : Answer) (x : Branch s flags depth wrote new table after (behindNode d (d .at + 1) 3) q) where
       goes : (known : Names) (bs : Branches) (a : Read (Rule × Names)) → branch s flags known (inside depth s flags known) (namesIn s table (d .opened)) (d .at + 1) ≡ a
           → further (length s) s flags known (inside depth s flags known) bs (namesIn s table (d .opened)) (d .at)
-          ≡ andThen a (λ y end. further (length s) s flags known (inside depth s flags known) (also bs (y .0)) (y .1) end)
+          ≡ andThen a (λ y end. further (length s) s flags known (inside depth s flags known) (also bs (d .at) (y .0)) (y .1) end)
       goes known bs a e = further-turn s flags known (inside depth s flags known) bs (namesIn s table (d .opened)) (d .at) (inside-on depth s flags known) ∙ rw (← p .is, bar) (rw e)
 
       frame : Below (c .used) new old
@@ -144,7 +144,7 @@ module _ {s old area names table : List ℕ} {c d : Cursor} {first before last b
                 let y = h .claim known lo t k in
                 let z = said (Chain s known) (namesIn s after) (branch s flags known (inside depth s flags known) (namesIn s table (d .opened)) (d .at + 1)) new (d .used + 3) q (Sound e n) eq (x .claim known) in
                 record {
-                  branches = also (y .branches) (z .0);
+                  branches = also (y .branches) (d .at) (z .0);
                   stand = (
                     d .used + 3,
                     several-same s known wrote new (y .branches) lo (d .used + 3) (d .used) (below-same new wrote (d .used + 3) lo (d .used + 3) (omega arith) (x .frame)) (branch-put s known lo (y .branches) w one (y .stand)),

@@ -94,23 +94,27 @@ pub record Written (numbers before after : List ℕ) : Type 0 where
   pub first : take (length numbers) after ≡ numbers
   pub rest : drop (length numbers) after ≡ drop (length numbers) before
 
--- x is what a call of c returns
-pub record Demand1 {A : Type 0} (refusal : ℕ → Reason → A) (need : ℕ) (c : Call) (x : Return A) : Type 0 where
+-- x is what a call of c returns. Some inputs have faults of their own, before the rule is read; some have a refusal named for them, of which these are the
+-- first; and the others pass.
+pub record Regular {A : Type 0} (refusal : ℕ → Reason → A) (Faults : Reason → Type 0) (Named : ℕ → Reason → Type 0) (Passes : Rule → ℕ → Type 0) (c : Call) (x : Return A) : Type 0 where
   -- "any rule, line, flags, budget and lent areas may be handed in, and each call answers or gives exactly the refusal that 01 names for
   -- that input, and none otherwise;
-  pub answers-or-refuses : ((r : Rule) × (groups : ℕ) × Accepted need c r groups) ⊎ ((place : ℕ) × (why : Reason) × Refuses need c place why)
-  pub refused-exactly : (place : ℕ) (why : Reason) → (x .outcome ≡ refusal place why) ↔ Refuses need c place why
+  pub answers-or-refuses : ((r : Rule) × (groups : ℕ) × Passes r groups) ⊎ ((place : ℕ) × (why : Reason) × Named place why)
+  pub refused-exactly : (place : ℕ) (why : Reason) → (x .outcome ≡ refusal place why) ↔ Named place why
   -- a refused call changes no row,
   pub no-row-changed : (place : ℕ) (why : Reason) → x .outcome ≡ refusal place why → x .resultArea ≡ c .resultArea
   -- and the areas are left as 01 says": "After refusals 1 to 7 both areas are unchanged;
-  pub areas-unchanged : (why : Reason) → Fault need c why → (x .ruleArea ≡ c .ruleArea) × (x .workArea ≡ c .workArea)
+  pub areas-unchanged : (why : Reason) → Faults why → (x .ruleArea ≡ c .ruleArea) × (x .workArea ≡ c .workArea)
   -- 02: "a refused call leaves the index unchanged";
   pub index-unchanged : (place : ℕ) (why : Reason) → x .outcome ≡ refusal place why → x .names ≡ c .names
   -- "Each call fills a lent name index, bytes after it unchanged."
-  pub index-filled : (r : Rule) (groups : ℕ) → Accepted need c r groups → Written (nameIndex (namesOf (c .rule) (c .flags))) (c .names) (x .names)
+  pub index-filled : (r : Rule) (groups : ℕ) → Passes r groups → Written (nameIndex (namesOf (c .rule) (c .flags))) (c .names) (x .names)
   -- after any other return their needed first part is zero and the rest unchanged."
-  pub rule-area-zeroed : Faultless need c → Written (replicate ruleAreaNeed 0) (c .ruleArea) (x .ruleArea)
-  pub work-area-zeroed : Faultless need c → Written (replicate (workAreaNeed (c .budget)) 0) (c .workArea) (x .workArea)
+  pub rule-area-zeroed : ((why : Reason) → ¬ Faults why) → Written (replicate ruleAreaNeed 0) (c .ruleArea) (x .ruleArea)
+  pub work-area-zeroed : ((why : Reason) → ¬ Faults why) → Written (replicate (workAreaNeed (c .budget)) 0) (c .workArea) (x .workArea)
+
+abbrev pub Demand1 : {A : Type 0} → (ℕ → Reason → A) → ℕ → Call → Return A → Type 0
+Demand1 refusal need c x = Regular refusal (Fault need c) (Refuses need c) (Accepted need c) c x
 
 -- Demand 2, of an answer -------------------------------------------------------------------
 

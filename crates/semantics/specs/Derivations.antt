@@ -17,7 +17,7 @@ use Rattle.semantics.specs.Repeats.{Next, round, leave, either, decision
 -- how many branches there are: the number of the next one
 unfoldable pub branchCount : Branches → ℕ
 branchCount (one a) = 1
-branchCount (also bs b) = suc (branchCount bs)
+branchCount (also bs bar b) = suc (branchCount bs)
 
 -- a decision at s begins a round at t
 abbrev pub Again : Next → State → State → Type 0
@@ -49,7 +49,7 @@ module _ (sub : List ℕ) where
     -- "Parts follow one another in the rule's order"
     Derives (seq a b) s t = (m : State) × Derives a s m × Derives b m t
     -- "Alternation: a branch, which may be empty"
-    Derives (alt bs b) s t = Picks bs s t ⊎ Derives b (chose (branch (branchCount bs)) s) t
+    Derives (alt bs bar b) s t = Picks bs s t ⊎ Derives b (chose (branch (branchCount bs)) s) t
     Derives (group n a) s t = (m : State) × Derives a s m × (t ≡ closed n (s .at) m)
     -- "Each entry begins at n = 0."
     Derives (repeat place least most g a) s t = Rounds (Derives a) least most g 0 false s t
@@ -61,7 +61,7 @@ module _ (sub : List ℕ) where
 
     pub Picks : Branches → State → State → Type 0
     Picks (one a) s t = Derives a (chose (branch 0) s) t
-    Picks (also bs b) s t = Picks bs s t ⊎ Derives b (chose (branch (branchCount bs)) s) t
+    Picks (also bs bar b) s t = Picks bs s t ⊎ Derives b (chose (branch (branchCount bs)) s) t
 
 -- the derivations of a rule from a start
 abbrev pub Derivation : List ℕ → Rule → ℕ → State → Type 0

@@ -40,6 +40,12 @@ pub mod ScanCalls
 pub mod AgreeingCalls
 pub mod ExplainCalls
 pub mod SettledCalls
+-- What is proved of proposed readings: following a path, the check, the call, and the way back.
+pub mod Following
+pub mod Laps
+pub mod Checks
+pub mod CheckCalls
+pub mod Proposing
 -- What is proved of a day's lines: the split, and the calls.
 pub mod Lines
 pub mod LentAreas

@@ -13,10 +13,14 @@ pub mod NameIndex
 pub mod Explanations
 pub mod Scans
 pub mod Calls
+pub mod Proposals
+pub mod Checks
 pub mod Batches
 pub mod Demands
 pub mod ScanDemands
 pub mod DemandsHold
+pub mod CheckDemands
+pub mod CheckDemandsHold
 pub mod BatchDemands
 pub mod BatchDemandsHold
 pub mod Profile

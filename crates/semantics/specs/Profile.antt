@@ -14,6 +14,7 @@ use Rattle.syntax.specs.Laws.Profile.{unprofiled}
 use Rattle.semantics.specs.States.{State}
 use Rattle.semantics.specs.Derivations.{Rounds, stop, turn, Derives}
 use Rattle.semantics.specs.Calls.{Call, matchCall, listCall, scanCall, explainCall}
+use Rattle.semantics.specs.Checks.{checkCall}
 use Rattle.semantics.specs.Batches.{batchCall}
 
 -- Rounds ------------------------------------------------------------------------
@@ -34,7 +35,7 @@ abbrev mutual
   AllAdvance sub empty = Unit
   AllAdvance sub (item place i) = Unit
   AllAdvance sub (seq a b) = AllAdvance sub a × AllAdvance sub b
-  AllAdvance sub (alt bs b) = EachAdvances sub bs × AllAdvance sub b
+  AllAdvance sub (alt bs bar b) = EachAdvances sub bs × AllAdvance sub b
   AllAdvance sub (group n a) = AllAdvance sub a
   AllAdvance sub (repeat place least most g a) = (unbounded most ≡ true → Advances sub least most g a) × AllAdvance sub a
   AllAdvance sub (held place a) = AllAdvance sub a
@@ -42,7 +43,7 @@ abbrev mutual
 
   pub EachAdvances : List ℕ → Branches → Type 0
   EachAdvances sub (one a) = AllAdvance sub a
-  EachAdvances sub (also bs b) = EachAdvances sub bs × AllAdvance sub b
+  EachAdvances sub (also bs bar b) = EachAdvances sub bs × AllAdvance sub b
 
 -- Calls -------------------------------------------------------------------------
 
@@ -65,4 +66,5 @@ pub record AnswersInFull (c : Call) : Type 0 where
   pub a-listing : listCall c ≡ listCall (inFull c)
   pub successive-matches : scanCall c ≡ scanCall (inFull c)
   pub an-explanation : explainCall c ≡ explainCall (inFull c)
+  pub a-check : (proposal : List ℕ) → checkCall proposal c ≡ checkCall proposal (inFull c)
   pub a-days-lines : batchCall c ≡ batchCall (inFull c)

@@ -11,6 +11,7 @@ use Rattle.syntax.specs.Read.{bytes}
 use Rattle.semantics.specs.States.{Row}
 use Rattle.semantics.specs.Explanations.{Failure}
 use Rattle.semantics.specs.Calls.{Call, workAreaNeed, MatchOutcome, Matched, NotMatched, Exhausted, Refused, matchCall, ListOutcome, Complete, listCall, scanCall, joined, ExplainOutcome, explainCall}
+use Rattle.semantics.specs.Checks.{CheckOutcome, checkCall}
 use Rattle.semantics.specs.Batches.{BatchOutcome, batchCall}
 use Rattle.semantics.specs.Computing.{computing-calls}
 
@@ -41,6 +42,8 @@ pub data Checked : Type 0 where
   scanning : String → ℕ → String → ℕ → ℕ → ListOutcome → List Row → Checked
   -- the same; the outcome, and all the bytes that are lent for marks, which held 7 before
   explaining : String → ℕ → String → ℕ → ExplainOutcome → List ℕ → Checked
+  -- rule, flags, subject, budget and the bytes that are proposed; the outcome and the rows written
+  checking : String → ℕ → String → ℕ → List ℕ → CheckOutcome → List Row → Checked
   -- the same, with a buffer; the outcome, and all the numbers of the result area, which held 7 before
   batching : String → ℕ → String → ℕ → BatchOutcome → List ℕ → Checked
 
@@ -57,6 +60,7 @@ pub data Gives : Type 0 where
   matches : MatchOutcome → List ℕ → Gives
   lists : ListOutcome → List ℕ → Gives
   explains : ExplainOutcome → List ℕ → Gives
+  checks : CheckOutcome → List ℕ → Gives
   batches : BatchOutcome → List ℕ → Gives
 
 unfoldable pub calls : Checked → Gives
@@ -72,6 +76,9 @@ calls (scanning rule flags subject budget limit outcome rows) =
 calls (explaining rule flags subject budget outcome marks) =
     let after = explainCall (lending rule flags subject budget (length marks)) in
     explains (after .outcome) (after .resultArea)
+calls (checking rule flags subject budget proposal outcome rows) =
+    let after = checkCall proposal (lending rule flags subject budget rowLength) in
+    checks (after .outcome) (take (length (joined rows)) (after .resultArea))
 calls (batching rule flags buffer budget outcome numbers) =
     let after = batchCall (lending rule flags buffer budget (length numbers)) in
     batches (after .outcome) (after .resultArea)
@@ -81,6 +88,7 @@ expected (matching rule flags subject budget outcome rows) = matches outcome (jo
 expected (listing rule flags subject budget limit outcome rows) = lists outcome (joined rows)
 expected (scanning rule flags subject budget limit outcome rows) = lists outcome (joined rows)
 expected (explaining rule flags subject budget outcome marks) = explains outcome marks
+expected (checking rule flags subject budget proposal outcome rows) = checks outcome (joined rows)
 expected (batching rule flags buffer budget outcome numbers) = batches outcome numbers
 
 unfoldable pub computing-checks : Unit {0}

@@ -4,11 +4,12 @@ use mathlib.Core.Path.{_≡_, refl}
 use mathlib.Core.List.{List, [], _∷_, _++_, map}
 use Prim.Native.Nat.{_-_, _*_}
 use lib.ListN.{replicate}
-use Rattle.syntax.specs.declared.Reason.the-variants.{UnknownFlag, BudgetTooLarge, ResultAreaShort, UnclosedGroup}
+use Rattle.syntax.specs.declared.Reason.the-variants.{UnknownFlag, BudgetTooLarge, ResultAreaShort, UnclosedGroup, HeldOrLook, TooManyBranches}
 use Rattle.syntax.specs.Limits.{unset, spansLength, partLength}
 use Rattle.semantics.specs.Calls.{Matched, NotMatched, Exhausted, Refused, Complete, Full, ListExhausted, Fits, Unfit, ExplainExhausted, ExplainRefused}
+use Rattle.semantics.specs.Checks.{AReading, NoReading, CheckExhausted, CheckRefused}
 use Rattle.semantics.specs.Batches.{Done, BatchRefused}
-use Rattle.semantics.specs.Starred.{rowOf, Checked, matching, listing, scanning, explaining, batching, missed, noRow, calls, expected, computing-checks}
+use Rattle.semantics.specs.Starred.{rowOf, Checked, matching, listing, scanning, explaining, checking, batching, missed, noRow, calls, expected, computing-checks}
 
 unfoldable pub traps : List Checked
 traps =
@@ -220,6 +221,53 @@ traps =
     ∷ scanning "(?>|a)" 0 "a" 99 9 (Complete 2 16) (rowOf 0 0 [] ∷ rowOf 1 1 [] ∷ [])
     -- 02 L30: the items of `\R` have its place in the rule, and count where they were tried
     ∷ explaining "\\Rb" 0 "\r" 99 (Unfit 13 (missed 0 1 0) (missed 0 1 0)) (1 ∷ 0 ∷ 1 ∷ [])
+    -- 02 m: a proposed reading, here the second of the README's line
+    ∷ checking "^(?:(\\d{1,3},\\d{3})|(\\d+,\\d+)) L$" 0 "1,500 L" 99 (0 ∷ 0 ∷ 1 ∷ 0 ∷ 1 ∷ 1 ∷ 0 ∷ []) (AReading 19) (rowOf 0 7 (unset ∷ unset ∷ 0 ∷ 5 ∷ []) ∷ [])
+    ∷ checking "(a)\\1" 0 "aa" 6 (0 ∷ 0 ∷ []) (AReading 6) (rowOf 0 2 (0 ∷ 1 ∷ []) ∷ [])
+    ∷ checking "a*" 0 "aa" 99 (0 ∷ 0 ∷ 0 ∷ []) (AReading 2) (rowOf 0 0 [] ∷ [])
+    -- 02 M1: a choice is written only where two are allowed, greedy or lazy alike: none below the minimum, at the maximum or after an empty round
+    ∷ checking "a{2}" 0 "aa" 99 (0 ∷ 0 ∷ []) (AReading 6) (rowOf 0 2 [] ∷ [])
+    ∷ checking "a{2}" 0 "aa" 99 (0 ∷ 0 ∷ 1 ∷ 1 ∷ []) (NoReading 6) []
+    ∷ checking "a?" 0 "a" 99 (0 ∷ 0 ∷ 1 ∷ []) (AReading 4) (rowOf 0 1 [] ∷ [])
+    ∷ checking "a??" 0 "a" 99 (0 ∷ 0 ∷ 1 ∷ []) (AReading 4) (rowOf 0 1 [] ∷ [])
+    ∷ checking "()*" 0 "" 99 (0 ∷ 0 ∷ 1 ∷ []) (AReading 5) (rowOf 0 0 (0 ∷ 0 ∷ []) ∷ [])
+    ∷ checking "a?" 0 "a" 99 (0 ∷ 0 ∷ 2 ∷ []) (NoReading 1) []
+    -- 02 M2: choices left over are seen after the rule's end, whose step comes first
+    ∷ checking "" 0 "" 0 (0 ∷ 0 ∷ 0 ∷ []) (CheckExhausted 0 0) []
+    ∷ checking "" 0 "" 1 (0 ∷ 0 ∷ 0 ∷ []) (NoReading 1) []
+    -- 02 M3: a choice is read before a branch's step, but after a decision's; an item that fails pays first
+    ∷ checking "|" 0 "" 0 (0 ∷ 0 ∷ 2 ∷ []) (NoReading 0) []
+    ∷ checking "|" 0 "" 0 (0 ∷ 0 ∷ []) (NoReading 0) []
+    ∷ checking "|" 0 "" 0 (0 ∷ 0 ∷ 1 ∷ []) (CheckExhausted 0 0) []
+    ∷ checking "a*" 0 "" 0 (0 ∷ 0 ∷ []) (CheckExhausted 0 0) []
+    ∷ checking "a*" 0 "" 1 (0 ∷ 0 ∷ []) (NoReading 1) []
+    ∷ checking "a" 0 "b" 0 (0 ∷ 0 ∷ []) (CheckExhausted 0 0) []
+    ∷ checking "a" 0 "b" 1 (0 ∷ 0 ∷ []) (NoReading 1) []
+    ∷ checking "(a)\\1" 0 "ab" 4 (0 ∷ 0 ∷ []) (CheckExhausted 0 4) []
+    ∷ checking "(a)\\1" 0 "ab" 5 (0 ∷ 0 ∷ []) (NoReading 5) []
+    -- 02 M4: without a start that the line has there is no step
+    ∷ checking "" 0 "a" 0 [] (NoReading 0) []
+    ∷ checking "" 0 "a" 0 (0 ∷ []) (NoReading 0) []
+    ∷ checking "" 0 "a" 0 (2 ∷ 0 ∷ []) (NoReading 0) []
+    ∷ checking "" 0 "a" 9 (0 ∷ 1 ∷ []) (NoReading 0) []
+    ∷ checking "" 0 "a" 1 (1 ∷ 0 ∷ []) (AReading 1) (rowOf 1 1 [] ∷ [])
+    -- 02 M6: the start is told if exhausted, and the steps always
+    ∷ checking "a*" 0 "ba" 2 (1 ∷ 0 ∷ 1 ∷ 0 ∷ []) (CheckExhausted 1 2) []
+    ∷ checking "a*" 0 "ba" 4 (1 ∷ 0 ∷ 1 ∷ 0 ∷ []) (AReading 4) (rowOf 1 2 [] ∷ [])
+    -- 02 M7: 35 for l)'s forms, at the first, a possessive's place being its `+`; after the rule's own, and before 36 whatever the places
+    ∷ checking "(?=a*+)" 0 "" 99 [] (CheckRefused 0 HeldOrLook) []
+    ∷ checking "a(?!b)" 0 "" 99 [] (CheckRefused 1 HeldOrLook) []
+    ∷ checking "b|(?>a)" 0 "" 99 [] (CheckRefused 2 HeldOrLook) []
+    ∷ checking "a*+" 0 "" 99 [] (CheckRefused 2 HeldOrLook) []
+    ∷ checking "(?:(?=a))*+" 0 "" 99 [] (CheckRefused 3 HeldOrLook) []
+    ∷ checking "a\\R" 0 "" 99 [] (CheckRefused 1 HeldOrLook) []
+    ∷ checking "(?>a)(" 0 "" 99 [] (CheckRefused 5 UnclosedGroup) []
+    ∷ checking "||||||||||||||||||||||||||||||||||||||||||||||||||||||||||||||||||||||||||||||||||||||||||||||||||||||||||||||||||||||||||||||||||||||||||||||||||||||||||||||||||||||||||||||||||||||||||||||||||||||||||||||||||||||||||||||||||||||||||||||||||||||||||||||||a*+" 0 "" 99 [] (CheckRefused 258 HeldOrLook) []
+    -- 02 M7: 36 at the bar before a 257th branch, after the rule's own; 256 branches are sound, and the last of them has the greatest byte
+    ∷ checking "|||||||||||||||||||||||||||||||||||||||||||||||||||||||||||||||||||||||||||||||||||||||||||||||||||||||||||||||||||||||||||||||||||||||||||||||||||||||||||||||||||||||||||||||||||||||||||||||||||||||||||||||||||||||||||||||||||||||||||||||||||||||||||||||" 0 "" 99 (0 ∷ 0 ∷ 255 ∷ []) (AReading 2) (rowOf 0 0 [] ∷ [])
+    ∷ checking "||||||||||||||||||||||||||||||||||||||||||||||||||||||||||||||||||||||||||||||||||||||||||||||||||||||||||||||||||||||||||||||||||||||||||||||||||||||||||||||||||||||||||||||||||||||||||||||||||||||||||||||||||||||||||||||||||||||||||||||||||||||||||||||||" 0 "" 99 (0 ∷ 0 ∷ 255 ∷ []) (CheckRefused 255 TooManyBranches) []
+    ∷ checking "(?:||||||||||||||||||||||||||||||||||||||||||||||||||||||||||||||||||||||||||||||||||||||||||||||||||||||||||||||||||||||||||||||||||||||||||||||||||||||||||||||||||||||||||||||||||||||||||||||||||||||||||||||||||||||||||||||||||||||||||||||||||||||||||||||||)" 0 "" 99 [] (CheckRefused 258 TooManyBranches) []
+    ∷ checking "||||||||||||||||||||||||||||||||||||||||||||||||||||||||||||||||||||||||||||||||||||||||||||||||||||||||||||||||||||||||||||||||||||||||||||||||||||||||||||||||||||||||||||||||||||||||||||||||||||||||||||||||||||||||||||||||||||||||||||||||||||||||||||||||(" 0 "" 99 [] (CheckRefused 256 UnclosedGroup) []
     -- 02 n: the rows of an exhausted listing are the first at a larger budget
     ∷ listing "a?" 0 "a" 4 9 (ListExhausted 0 1 4) (rowOf 0 1 [] ∷ [])
     ∷ listing "a?" 0 "a" 5 9 (Complete 3 8) (rowOf 0 1 [] ∷ rowOf 0 0 [] ∷ rowOf 1 1 [] ∷ [])

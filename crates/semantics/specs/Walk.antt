@@ -93,7 +93,7 @@ module _ (sub : List ℕ) where
     walk empty s = done s
     walk (item place i) s = paying (toll sub i s) (tried place s (try sub i s))
     walk (seq a b) s = walk a s ▹ (λ t. walk b t)
-    walk (alt bs b) s = walks bs s ++ (step ∷ walk b (chose (branch (branchCount bs)) s))
+    walk (alt bs bar b) s = walks bs s ++ (step ∷ walk b (chose (branch (branchCount bs)) s))
     walk (group n a) s = step ∷ (walk a s ▹ (λ t. step ∷ done (closed n (s .at) t)))
     walk (repeat place least most g a) s = rounds (λ t. walk a t) least most g (enough least (s .at)) 0 false s
     walk (held place a) s = step ∷ toFirst (walk a s) done []
@@ -102,7 +102,7 @@ module _ (sub : List ℕ) where
 
     pub walks : Branches → State → Trace
     walks (one a) s = step ∷ walk a (chose (branch 0) s)
-    walks (also bs b) s = walks bs s ++ (step ∷ walk b (chose (branch (branchCount bs)) s))
+    walks (also bs bar b) s = walks bs s ++ (step ∷ walk b (chose (branch (branchCount bs)) s))
 
 -- the whole walk from a start, "until nothing is left to try"
 unfoldable pub trace : List ℕ → Rule → ℕ → Trace

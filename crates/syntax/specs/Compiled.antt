@@ -75,12 +75,12 @@ OneByte (item place (reference folded n)) = ⊥
 OneByte (seq empty b) = OneByte b
 OneByte (seq (item place i) b) = ⊥
 OneByte (seq (seq x y) b) = ⊥
-OneByte (seq (alt bs x) b) = ⊥
+OneByte (seq (alt bs bar x) b) = ⊥
 OneByte (seq (group n x) b) = ⊥
 OneByte (seq (repeat place least most g x) b) = ⊥
 OneByte (seq (held place x) b) = ⊥
 OneByte (seq (look place negative x) b) = ⊥
-OneByte (alt bs b) = ⊥
+OneByte (alt bs bar b) = ⊥
 OneByte (group n a) = ⊥
 OneByte (repeat place least most g a) = ⊥
 OneByte (held place a) = ⊥
@@ -167,7 +167,7 @@ module _ (p : List ℕ) (lo hi : ℕ) where
     Compiled empty pc next r = pc ≡ next
     Compiled (item place i) pc next r = CompiledItem i place pc next
     Compiled (seq a b) pc next r = record { mid : ℕ; left : Compiled a pc mid r; right : Compiled b mid next r }
-    Compiled (alt bs b) pc next r = record {
+    Compiled (alt bs bar b) pc next r = record {
       last : ℕ;
       others : CompiledBranches bs pc last next r;
       node : Node last 2 6;
@@ -218,7 +218,7 @@ module _ (p : List ℕ) (lo hi : ℕ) where
       fails : getD p (pc + 2) 0 ≡ other;
       inner : Compiled a body next r;
     }
-    CompiledBranches (also bs b) pc other next r = record {
+    CompiledBranches (also bs bar b) pc other next r = record {
       last : ℕ;
       others : CompiledBranches bs pc last next r;
       node : Node last 3 5;

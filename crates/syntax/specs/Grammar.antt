@@ -157,7 +157,7 @@ branch s flags known inner names at = sequence (length s) s flags known inner (u
 unfoldable pub further : ℕ → List ℕ → ℕ → Names → Inner → Branches → Names → ℕ → Read (Rule × Names)
 further zero s flags known inner bs names at = sound (alternatives bs, names) at
 further (suc f) s flags known inner bs names at =
-    if is "|" (byte s at) then andThen (branch s flags known inner names (at + 1)) (λ r next. further f s flags known inner (also bs (r .0)) (r .1) next)
+    if is "|" (byte s at) then andThen (branch s flags known inner names (at + 1)) (λ r next. further f s flags known inner (also bs at (r .0)) (r .1) next)
     else sound (alternatives bs, names) at
 
 unfoldable pub alternation : List ℕ → ℕ → Names → Inner → Names → ℕ → Read (Rule × Names)

@@ -25,7 +25,7 @@ unfoldable mutual
   -- "parts that follow one another their sum"
   leastLength (seq a b) = capped (leastLength a + leastLength b)
   -- "an alternation the smallest branch"
-  leastLength (alt bs b) = min (shortest bs) (leastLength b)
+  leastLength (alt bs bar b) = min (shortest bs) (leastLength b)
   leastLength (group n a) = leastLength a
   -- "a repeat its minimum times its body's"
   leastLength (repeat at n m g a) = capped (n * leastLength a)
@@ -35,7 +35,7 @@ unfoldable mutual
 
   pub shortest : Branches → ℕ
   shortest (one a) = leastLength a
-  shortest (also bs b) = min (shortest bs) (leastLength b)
+  shortest (also bs bar b) = min (shortest bs) (leastLength b)
 
 -- "without upper bound"
 unfoldable pub unbounded : Most → Bool

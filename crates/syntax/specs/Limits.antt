@@ -63,6 +63,11 @@ byteLimit = 255
 unfoldable pub lengthLimit : ℕ
 lengthLimit = 65536
 
+-- 02, request m): as many branches as one byte can tell apart: "36 for an alternation of more than 256 branches"
+unfoldable pub branchLimit : ℕ
+unfolding byteLimit
+branchLimit = suc byteLimit
+
 -- Rows --------------------------------------------------------------------------
 
 -- "an unset or missing group is 4294967295 twice"

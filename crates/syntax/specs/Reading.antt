@@ -46,7 +46,7 @@ unfoldable mutual
   unresolved groups empty = none
   unresolved groups (item at i) = dangling groups at i
   unresolved groups (seq a b) = firstOf (unresolved groups a) (unresolved groups b)
-  unresolved groups (alt bs b) = firstOf (unresolvedIn groups bs) (unresolved groups b)
+  unresolved groups (alt bs bar b) = firstOf (unresolvedIn groups bs) (unresolved groups b)
   unresolved groups (group n a) = unresolved groups a
   unresolved groups (repeat at n m g a) = unresolved groups a
   unresolved groups (held at a) = unresolved groups a
@@ -54,7 +54,7 @@ unfoldable mutual
 
   pub unresolvedIn : ℕ → Branches → Option ℕ
   unresolvedIn groups (one a) = unresolved groups a
-  unresolvedIn groups (also bs b) = firstOf (unresolvedIn groups bs) (unresolved groups b)
+  unresolvedIn groups (also bs bar b) = firstOf (unresolvedIn groups bs) (unresolved groups b)
 
 -- The depot profile (02, request k) ---------------------------------------------
 
@@ -64,7 +64,7 @@ unfoldable mutual
   idle empty = none
   idle (item at i) = none
   idle (seq a b) = firstOf (idle a) (idle b)
-  idle (alt bs b) = firstOf (idleIn bs) (idle b)
+  idle (alt bs bar b) = firstOf (idleIn bs) (idle b)
   idle (group n a) = idle a
   idle (repeat at n m g a) = firstOf (idle a) (if unbounded m && eqb (leastLength a) 0 then some at else none)
   idle (held at a) = idle a
@@ -72,7 +72,7 @@ unfoldable mutual
 
   pub idleIn : Branches → Option ℕ
   idleIn (one a) = idle a
-  idleIn (also bs b) = firstOf (idleIn bs) (idle b)
+  idleIn (also bs bar b) = firstOf (idleIn bs) (idle b)
 
 -- a place that was found is refused; where none was, it is read on
 unfoldable pub unless : {A : Type 0} → Option ℕ → Reason → Read A → Read A

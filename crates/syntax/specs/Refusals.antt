@@ -2,7 +2,7 @@
 -- docs/REFERENCE.md, 10.1
 use Prim.Native.Nat.{ℕ}
 use Rattle.syntax.specs.declared.Reason.{Reason}
-use Rattle.syntax.specs.declared.Reason.the-variants.{RuleTooLong, SubjectTooLong, UnknownFlag, BudgetTooLarge, RuleAreaShort, WorkAreaShort, ResultAreaShort, NameIndexShort, WrittenAreaShort, TrailingBackslash, UnknownEscape, MalformedEscape, NoSuchGroup, UnclosedClass, BadRange, UnknownSet, NothingToRepeat, BadBraces, RepeatOnRepeat, UnclosedGroup, UnopenedGroup, UnknownGroup, TooManyGroups, TooDeep, BadName, NameTwice, BarredReference, IdleRepeat, MixedRange, UnknownKind, CardCutShort, WrongRecords, StrayBytes, WrongGroupNumber}
+use Rattle.syntax.specs.declared.Reason.the-variants.{RuleTooLong, SubjectTooLong, UnknownFlag, BudgetTooLarge, RuleAreaShort, WorkAreaShort, ResultAreaShort, NameIndexShort, WrittenAreaShort, TrailingBackslash, UnknownEscape, MalformedEscape, NoSuchGroup, UnclosedClass, BadRange, UnknownSet, NothingToRepeat, BadBraces, RepeatOnRepeat, UnclosedGroup, UnopenedGroup, UnknownGroup, TooManyGroups, TooDeep, BadName, NameTwice, BarredReference, IdleRepeat, MixedRange, UnknownKind, CardCutShort, WrongRecords, StrayBytes, WrongGroupNumber, HeldOrLook, TooManyBranches}
 
 abbrev pub numberOf : Reason → ℕ
 -- of a call, before its rule is read
@@ -43,3 +43,6 @@ numberOf CardCutShort = 31
 numberOf WrongRecords = 32
 numberOf StrayBytes = 33
 numberOf WrongGroupNumber = 34
+-- of a rule that a proposed reading is checked with
+numberOf HeldOrLook = 35
+numberOf TooManyBranches = 36

@@ -17,7 +17,7 @@ abbrev mutual
   Proper groups empty = Unit
   Proper groups (item at i) = Unit
   Proper groups (seq a b) = Proper groups a × Proper groups b
-  Proper groups (alt bs b) = Propers groups bs × Proper groups b
+  Proper groups (alt bs bar b) = Propers groups bs × Proper groups b
   Proper groups (group n a) = (1 ≤ n) × (n ≤ groups) × Proper groups a
   Proper groups (repeat at n m g a) = BoundsFit n m × Proper groups a
   Proper groups (held at a) = Proper groups a
@@ -25,7 +25,7 @@ abbrev mutual
 
   pub Propers : ℕ → Branches → Type 0
   Propers groups (one a) = Proper groups a
-  Propers groups (also bs b) = Propers groups bs × Proper groups b
+  Propers groups (also bs bar b) = Propers groups bs × Proper groups b
 
 abbrev pub Refers : ℕ → Item → Type 0
 Refers groups (byteIn folded c) = Unit
@@ -38,7 +38,7 @@ abbrev mutual
   Resolved groups empty = Unit
   Resolved groups (item at i) = Refers groups i
   Resolved groups (seq a b) = Resolved groups a × Resolved groups b
-  Resolved groups (alt bs b) = ResolvedIn groups bs × Resolved groups b
+  Resolved groups (alt bs bar b) = ResolvedIn groups bs × Resolved groups b
   Resolved groups (group n a) = Resolved groups a
   Resolved groups (repeat at n m g a) = Resolved groups a
   Resolved groups (held at a) = Resolved groups a
@@ -46,7 +46,7 @@ abbrev mutual
 
   pub ResolvedIn : ℕ → Branches → Type 0
   ResolvedIn groups (one a) = Resolved groups a
-  ResolvedIn groups (also bs b) = ResolvedIn groups bs × Resolved groups b
+  ResolvedIn groups (also bs bar b) = ResolvedIn groups bs × Resolved groups b
 
 -- how deep those parts nest that keep something in registers: groups that capture, repeats, held parts and looking ahead
 abbrev mutual
@@ -54,7 +54,7 @@ abbrev mutual
   height empty = 0
   height (item at i) = 0
   height (seq a b) = max (height a) (height b)
-  height (alt bs b) = max (heights bs) (height b)
+  height (alt bs bar b) = max (heights bs) (height b)
   height (group n a) = suc (height a)
   height (repeat at n m g a) = suc (height a)
   height (held at a) = suc (height a)
@@ -62,7 +62,7 @@ abbrev mutual
 
   pub heights : Branches → ℕ
   heights (one a) = height a
-  heights (also bs b) = max (heights bs) (height b)
+  heights (also bs bar b) = max (heights bs) (height b)
 
 -- How many levels of sequences and repeats stand one inside another. Each part of a sequence stands one level deeper, and so does the body of a
 -- repeat. All kinds of groups count: one that does not capture is a sequence or an alternation that is itself a part.
@@ -71,7 +71,7 @@ abbrev mutual
   levels empty = 0
   levels (item at i) = 0
   levels (seq a b) = max (levels a) (suc (levels b))
-  levels (alt bs b) = max (levelsIn bs) (levels b)
+  levels (alt bs bar b) = max (levelsIn bs) (levels b)
   levels (group n a) = levels a
   levels (repeat at n m g a) = suc (levels a)
   levels (held at a) = levels a
@@ -79,7 +79,7 @@ abbrev mutual
 
   pub levelsIn : Branches → ℕ
   levelsIn (one a) = levels a
-  levelsIn (also bs b) = max (levelsIn bs) (levels b)
+  levelsIn (also bs bar b) = max (levelsIn bs) (levels b)
 
 pub record WellFormed (groups : ℕ) (r : Rule) : Type 0 where
   pub few : groups ≤ groupLimit

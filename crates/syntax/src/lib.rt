@@ -52,6 +52,9 @@ pub enum Reason {
     WrongRecords,
     StrayBytes,
     WrongGroupNumber,
+    // of a rule that a proposed reading is checked with
+    HeldOrLook,
+    TooManyBranches,
 }
 
 // The zero-width assertions. The flag `m` is settled when a rule is read.
@@ -153,5 +156,7 @@ pub fn number(reason: Reason) -> u32
         Reason::WrongRecords => 32,
         Reason::StrayBytes => 33,
         Reason::WrongGroupNumber => 34,
+        Reason::HeldOrLook => 35,
+        Reason::TooManyBranches => 36,
     }
 }

@@ -42,7 +42,7 @@ use Rattle.machine.specs.Laws.Rounds.{counted, counted-none, bump-counte
 -- Items: the machine's test and the rule's item -------------------------------
 
 -- an item of the rule and the machine's test go the same way, and leave the captures alone
-abbrev Agree : State → Tried → Tried → Type 0
+abbrev pub Agree : State → Tried → Tried → Type 0
 Agree s fails fails = Unit {0}
 Agree s fails (goes u) = ⊥
 Agree s (goes t) fails = ⊥
@@ -56,15 +56,15 @@ agree-when s false true x y e h = let z : _≡_ {A = ℕ} 0 1 = cc in absurd (om
 agree-when s false false x y e h = tt
 
 module _ (sub : List ℕ) (s : State) (regs : List ℕ) where
-  agree-byte : Bytes sub → (folded : Bool) (c : Class) (f : ℕ → Bool) → ((x : ℕ) → x < 256 → f x ≡ inClass folded c x) → Agree s (try sub (byteIn folded c) s) (tested sub (inSet f) (state (s .at) regs))
+  pub agree-byte : Bytes sub → (folded : Bool) (c : Class) (f : ℕ → Bool) → ((x : ℕ) → x < 256 → f x ≡ inClass folded c x) → Agree s (try sub (byteIn folded c) s) (tested sub (inSet f) (state (s .at) regs))
   unfolding try tested moved
   agree-byte bytes folded c f same = agree-when s _ _ _ _ refl (λ e. agree-when s _ _ _ _ (sym (same (byte sub (s .at)) (byte-small sub bytes (s .at) (ltb-true (s .at) (length sub) e)))) (λ _. (refl, refl)))
 
-  agree-assert : (a : Assertion) → Agree s (try sub (assert a) s) (tested sub (holding a) (state (s .at) regs))
+  pub agree-assert : (a : Assertion) → Agree s (try sub (assert a) s) (tested sub (holding a) (state (s .at) regs))
   unfolding try tested
   agree-assert a = agree-when s _ _ _ _ refl (λ _. (refl, refl))
 
-  agree-reference : (folded : Bool) (n : ℕ) → s .spans ≡ take spansLength regs → Agree s (try sub (reference folded n) s) (tested sub (sameAs folded (slot n)) (state (s .at) regs))
+  pub agree-reference : (folded : Bool) (n : ℕ) → s .spans ≡ take spansLength regs → Agree s (try sub (reference folded n) s) (tested sub (sameAs folded (slot n)) (state (s .at) regs))
   unfolding try tested refer moved
   agree-reference folded n e = rw (← e) (agree-when s _ _ _ _ refl (λ _. agree-when s _ _ _ _ refl (λ _. agree-when s _ _ _ _ refl (λ _. (refl, refl)))))
 
@@ -91,26 +91,26 @@ module _ (p : Program) (sub : List ℕ) {A : Account} (O : Observer p sub A) whe
   abbrev pub Carries : Go → (pc next r : ℕ) → Type 1
   Carries m pc next r = (W : Way A) (s : State) (regs : List ℕ) (k : Go) → Mirrors s regs → GoesOn W next r s regs k → Run p sub O W pc (s .at) regs (m s ▹ k)
 
-  at-once : (r : ℕ) (s : State) (regs : List ℕ) → Mirrors s regs → Later r s regs s regs
+  pub at-once : (r : ℕ) (s : State) (regs : List ℕ) → Mirrors s regs → Later r s regs s regs
   at-once r s regs f = record { on = omega arith; mirrors = f; kept = λ i _ _. refl }
 
-  later-still : {r : ℕ} {s t u : State} {regs regs′ regs″ : List ℕ} → Later r s regs t regs′ → Later r t regs′ u regs″ → Later r s regs u regs″
+  pub later-still : {r : ℕ} {s t u : State} {regs regs′ regs″ : List ℕ} → Later r s regs t regs′ → Later r t regs′ u regs″ → Later r s regs u regs″
   later-still x y = record { on = omega (arith, x .on, y .on); mirrors = y .mirrors; kept = λ i l h. y .kept i l h ∙ x .kept i l h }
 
   -- choices are of no account here
-  mirrors-chose : (c : Choice) {s : State} {regs : List ℕ} → Mirrors s regs → Mirrors (chose c s) regs
+  pub mirrors-chose : (c : Choice) {s : State} {regs : List ℕ} → Mirrors s regs → Mirrors (chose c s) regs
   unfolding chose
   mirrors-chose c f = record { inside = f .inside; size = f .size; spans = f .spans }
 
-  later-chose : (c : Choice) {r : ℕ} {s s′ : State} {regs regs′ : List ℕ} → Later r (chose c s) regs s′ regs′ → Later r s regs s′ regs′
+  pub later-chose : (c : Choice) {r : ℕ} {s s′ : State} {regs regs′ : List ℕ} → Later r (chose c s) regs s′ regs′ → Later r s regs s′ regs′
   unfolding chose
   later-chose c n = record { on = n .on; mirrors = n .mirrors; kept = n .kept }
 
   -- the two registers of a group or a repeat are of no account outside
-  outside : {s s′ : State} {regs′ : List ℕ} (regs : List ℕ) (r x y : ℕ) → Later (r + 2) s (set2 regs r x y) s′ regs′ → Later r s regs s′ regs′
+  pub outside : {s s′ : State} {regs′ : List ℕ} (regs : List ℕ) (r x y : ℕ) → Later (r + 2) s (set2 regs r x y) s′ regs′ → Later r s regs s′ regs′
   outside regs r x y n = record { on = n .on; mirrors = n .mirrors; kept = λ i l h. n .kept i l (omega arith) ∙ getD-set2 regs r x y i (omega arith) (omega arith) }
 
-  mirrors-set2 : {s : State} {regs : List ℕ} (j x y : ℕ) → spansLength ≤ j → Mirrors s regs → Mirrors s (set2 regs j x y)
+  pub mirrors-set2 : {s : State} {regs : List ℕ} (j x y : ℕ) → spansLength ≤ j → Mirrors s regs → Mirrors s (set2 regs j x y)
   mirrors-set2 {regs = regs} j x y l f = record { inside = f .inside; size = length-set2 regs j x y ∙ f .size; spans = f .spans ∙ sym (take-behind spansLength regs j x y l) }
 
   -- a walk begun with a choice
@@ -155,16 +155,16 @@ module _ (p : Program) (sub : List ℕ) {A : Account} (O : Observer p sub A) whe
   unfolding walk _▹_
   carries-one a pc other next r body f d v W s regs k g h rest z = run-branch p sub O W pc (s .at) regs f body other _ _ d (carries-chose (branch 0) (walk sub a) body next r v W s regs k g h) z
 
-  carries-also : (bs : Branches) (b : Rule) (pc last other next r body : ℕ) → Fits p last → decode p last ≡ branches body other → CarriesBranches bs pc last next r → Carries (walk sub b) body next r
-      → CarriesBranches (also bs b) pc other next r
+  carries-also : (bs : Branches) (b : Rule) (bar pc last other next r body : ℕ) → Fits p last → decode p last ≡ branches body other → CarriesBranches bs pc last next r → Carries (walk sub b) body next r
+      → CarriesBranches (also bs bar b) pc other next r
   unfolding walk _▹_
-  carries-also bs b pc last other next r body f d w v W s regs k g h rest z =
+  carries-also bs b bar pc last other next r body f d w v W s regs k g h rest z =
       rw (bind-append, append-assoc) (w W s regs k g h _ (run-branch p sub O W last (s .at) regs f body other _ _ d (carries-chose (branch (branchCount bs)) (walk sub b) body next r v W s regs k g h) z))
 
-  carries-alt : (bs : Branches) (b : Rule) (pc last next r body : ℕ) → Fits p last → decode p last ≡ lastBranch body → CarriesBranches bs pc last next r → Carries (walk sub b) body next r
-      → Carries (walk sub (alt bs b)) pc next r
+  carries-alt : (bs : Branches) (b : Rule) (bar pc last next r body : ℕ) → Fits p last → decode p last ≡ lastBranch body → CarriesBranches bs pc last next r → Carries (walk sub b) body next r
+      → Carries (walk sub (alt bs bar b)) pc next r
   unfolding walk _▹_
-  carries-alt bs b pc last next r body f d w v W s regs k g h =
+  carries-alt bs b bar pc last next r body f d w v W s regs k g h =
       rw bind-append (w W s regs k g h _ (run-last p sub O W last (s .at) regs f body _ d (carries-chose (branch (branchCount bs)) (walk sub b) body next r v W s regs k g h)))
 
   -- Groups ------------------------------------------------------------------------
@@ -174,7 +174,7 @@ module _ (p : Program) (sub : List ℕ) {A : Account} (O : Observer p sub A) whe
   group-bind n a s k = simp (bind-bind, append-nil)
 
   -- where a group closes, its registers have where it was opened
-  closing : (n r : ℕ) (s t : State) (regs regs′ : List ℕ) → slot n + 2 ≤ spansLength → spansLength ≤ r → r + 2 ≤ registers → Mirrors s regs → Later (r + 2) s (set2 regs r (s .at) 0) t regs′
+  pub closing : (n r : ℕ) (s t : State) (regs regs′ : List ℕ) → slot n + 2 ≤ spansLength → spansLength ≤ r → r + 2 ≤ registers → Mirrors s regs → Later (r + 2) s (set2 regs r (s .at) 0) t regs′
       → Later r s regs (closed n (s .at) t) (set2 regs′ (slot n) (getD regs′ r 0) (t .at))
   unfolding closed
   closing n r s t regs regs′ fit l room f w =
@@ -560,9 +560,9 @@ module _ (p : Program) (sub : List ℕ) {A : Account} (O : Observer p sub A) whe
       works empty pc next r c l = λ W s regs k f h. rw (c, bind-done s k) (h s regs (at-once r s regs f))
       works (item place i) pc next r c l = items i place pc next r c
       works (seq a b) pc next r c l = carries-seq a b pc next r (c .mid) (works a pc (c .mid) r (c .left) l) (works b (c .mid) next r (c .right) l)
-      works (alt bs b) pc next r c l =
+      works (alt bs bar b) pc next r c l =
           let o = c .node in
-          carries-alt bs b pc (c .last) next r (c .body) (fits p (c .last) 6 (o .is) (omega (arith, o .high)) (omega (arith, o .high))) (decode-at p (c .last) 6 (o .is) ∙ rw (c .goes)) (works-branches bs pc (c .last) next r (c .others) l) (works b (c .body) next r (c .inner) l)
+          carries-alt bs b bar pc (c .last) next r (c .body) (fits p (c .last) 6 (o .is) (omega (arith, o .high)) (omega (arith, o .high))) (decode-at p (c .last) 6 (o .is) ∙ rw (c .goes)) (works-branches bs pc (c .last) next r (c .others) l) (works b (c .body) next r (c .inner) l)
       works (group n a) pc next r c l =
           let o = c .opening in
           let d = c .node in
@@ -624,9 +624,9 @@ module _ (p : Program) (sub : List ℕ) {A : Account} (O : Observer p sub A) whe
       works-branches (one a) pc other next r c l =
           let o = c .node in
           carries-one a pc other next r (c .body) (fits p pc 5 (o .is) (omega (arith, o .high)) (omega (arith, o .high))) (decode-at p pc 5 (o .is) ∙ rw (c .goes, c .fails)) (works a (c .body) next r (c .inner) l)
-      works-branches (also bs b) pc other next r c l =
+      works-branches (also bs bar b) pc other next r c l =
           let o = c .node in
-          carries-also bs b pc (c .last) other next r (c .body) (fits p (c .last) 5 (o .is) (omega (arith, o .high)) (omega (arith, o .high))) (decode-at p (c .last) 5 (o .is) ∙ rw (c .goes, c .fails)) (works-branches bs pc (c .last) next r (c .others) l) (works b (c .body) next r (c .inner) l)
+          carries-also bs b bar pc (c .last) other next r (c .body) (fits p (c .last) 5 (o .is) (omega (arith, o .high)) (omega (arith, o .high))) (decode-at p (c .last) 5 (o .is) ∙ rw (c .goes, c .fails)) (works-branches bs pc (c .last) next r (c .others) l) (works b (c .body) next r (c .inner) l)
 
     -- A whole rule goes on at an end node. Over an empty stack what is watched is its walk and nothing more, if what holds of what is told goes on to hold, and is
     -- enough in the end.

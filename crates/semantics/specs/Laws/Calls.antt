@@ -31,11 +31,11 @@ refuses-as-tested need c place why = (tested, λ x. elim x [ inl y ↦ rw (y .1)
     tested (itsRule f e) = inr (none-exactly need c .1 f, e)
 
 module _ {A : Type 0} (refusal : ℕ → Reason → A) (need : ℕ) (answered : Call → Rule → Return A) where
-  call-refused : (c : Call) (why : Reason) → unacceptable need c ≡ some why → call refusal need answered c ≡ untouched (refusal 0 why) c
+  pub call-refused : (c : Call) (why : Reason) → unacceptable need c ≡ some why → call refusal need answered c ≡ untouched (refusal 0 why) c
   unfolding call unlessRefused
   call-refused c why e = rw e
 
-  call-rule-refused : (c : Call) (place : ℕ) (why : Reason) → Faultless need c → reading (c .rule) (c .flags) ≡ refused place why → call refusal need answered c ≡ declined (refusal place why) c
+  pub call-rule-refused : (c : Call) (place : ℕ) (why : Reason) → Faultless need c → reading (c .rule) (c .flags) ≡ refused place why → call refusal need answered c ≡ declined (refusal place why) c
   unfolding call unlessRefused withReading
   call-rule-refused c place why f e = let n = none-exactly need c .1 f in rw (n, e)
 

@@ -87,8 +87,8 @@ module _ (sub : List ℕ) where
         let x = takes-least a s (d .0) (d .1) in
         let y = takes-least b (d .0) t (d .2) in
         omega (arith, capped-less (leastLength a + leastLength b))
-    takes-least (alt bs b) s t (inl d) = let x = takes-shortest bs s t d in omega arith
-    takes-least (alt bs b) s t (inr d) = let x = takes-least b _ t d in omega arith
+    takes-least (alt bs bar b) s t (inl d) = let x = takes-shortest bs s t d in omega arith
+    takes-least (alt bs bar b) s t (inr d) = let x = takes-least b _ t d in omega arith
     takes-least (group n a) s t d = let x = takes-least a s (d .0) (d .1) in omega (arith, ap (λ (u : State). u .at) (d .2))
     takes-least (repeat place least most g a) s t d =
         let z : least - 0 ≡ least = omega arith in
@@ -100,5 +100,5 @@ module _ (sub : List ℕ) where
 
     takes-shortest : (bs : Branches) (s t : State) → Picks sub bs s t → s .at + shortest bs ≤ t .at
     takes-shortest (one a) s t d = takes-least a _ t d
-    takes-shortest (also bs b) s t (inl d) = let x = takes-shortest bs s t d in omega arith
-    takes-shortest (also bs b) s t (inr d) = let x = takes-least b _ t d in omega arith
+    takes-shortest (also bs bar b) s t (inl d) = let x = takes-shortest bs s t d in omega arith
+    takes-shortest (also bs bar b) s t (inr d) = let x = takes-least b _ t d in omega arith

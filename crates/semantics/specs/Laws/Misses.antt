@@ -205,7 +205,7 @@ module _ (sub : List ℕ) where
     tells empty s l = tells-done s
     tells (item place i) s l = tells-paying (toll sub i s) (tells-tried place (try sub i s) l)
     tells (seq a b) s l = tells-bind (tells a s l) (λ t e. (let x = right sub a s l in let w = x .reach t (x .sound t e) in (w .up, tells b t (w .inside))))
-    tells (alt bs b) s l = tells-append (tells-branches bs s l) (tells-step (tells-from (omega arith) (tells b (chose (branch (branchCount bs)) s) l)))
+    tells (alt bs bar b) s l = tells-append (tells-branches bs s l) (tells-step (tells-from (omega arith) (tells b (chose (branch (branchCount bs)) s) l)))
     tells (group n a) s l = tells-step (tells-bind (tells a s l) (λ t e. (let x = right sub a s l in (x .reach t (x .sound t e) .up, tells-step (tells-done (closed n (s .at) t))))))
     tells (repeat place least most g a) s l = tells-rounds (walk sub a) (Derives sub a) least most g (right sub a) (tells a) (enough sub least (s .at)) 0 false s l (omega arith)
     tells (held place a) s l = tells-step (tells-first (tells a s l) (λ t e. tells-done t))
@@ -214,7 +214,7 @@ module _ (sub : List ℕ) where
 
     tells-branches : (bs : Branches) (s : State) → s .at ≤ length sub → Tells (length sub) s (walks sub bs s)
     tells-branches (one a) s l = tells-step (tells-from (omega arith) (tells a (chose (branch 0) s) l))
-    tells-branches (also bs b) s l = tells-append (tells-branches bs s l) (tells-step (tells-from (omega arith) (tells b (chose (branch (branchCount bs)) s) l)))
+    tells-branches (also bs bar b) s l = tells-append (tells-branches bs s l) (tells-step (tells-from (omega arith) (tells b (chose (branch (branchCount bs)) s) l)))
 
 -- Of the walk from a start -------------------------------------------------------
 

@@ -81,7 +81,7 @@ reaches-take (suc j) [] k t h = absurd h
 reaches-take (suc j) (e ∷ es) zero t h = (h, omega arith)
 reaches-take (suc j) (e ∷ es) (suc k) t h = let z = reaches-take j es k t h in (z .0, omega (arith, z .1))
 
-map-append : {A B : Type 0} (f : A → B) (a b : List A) → map f (a ++ b) ≡ map f a ++ map f b
+pub map-append : {A B : Type 0} (f : A → B) (a b : List A) → map f (a ++ b) ≡ map f a ++ map f b
 map-append f [] b = refl
 map-append f (x ∷ a) b = rw (map-append f a b)
 

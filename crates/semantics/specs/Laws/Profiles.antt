@@ -28,7 +28,9 @@ use Rattle.semantics.specs.Derivations.{Rounds, stop, turn, Derives}
 use Rattle.semantics.specs.Answers.{Outcome, matched, notMatched, exhausted, answer, Listing, listing}
 use Rattle.semantics.specs.Explanations.{failures, furthest, closest, marks}
 use Rattle.semantics.specs.Scans.{scan}
-use Rattle.semantics.specs.Calls.{Call, unacceptable, Return, untouched, leaving, withReading, unlessRefused, call, Matched, NotMatched, Exhausted, Refused, matchReturns, matchRule, matchCall, ListRefused, listOutcome, joined, room, listReturns, listRule, listCall, scanRule, scanCall, Fits, Unfit, ExplainExhausted, ExplainRefused, markable, explainReturns, explainRule, explainCall}
+use Rattle.semantics.specs.Calls.{Call, unacceptable, Return, untouched, declined, leaving, withReading, unlessRefused, call, Matched, NotMatched, Exhausted, Refused, matchReturns, matchRule, matchCall, ListRefused, listOutcome, joined, room, listReturns, listRule, listCall, scanRule, scanCall, Fits, Unfit, ExplainExhausted, ExplainRefused, markable, explainReturns, explainRule, explainCall}
+use Rattle.semantics.specs.Proposals.{Finding, aReading, noReading, exhausts, check}
+use Rattle.semantics.specs.Checks.{unfollowed, crowded, AReading, NoReading, CheckExhausted, CheckRefused, checkReturns, unlessCrowded, unlessUnfollowed, checkRule, checkCall}
 use Rattle.semantics.specs.Batches.{lineCall, lineless, partOf, parts, linesOf, partsNeed, Done, BatchRefused, batchRule, batchCall}
 use Rattle.semantics.specs.Profile.{roundsOf, Advances, AllAdvance, EachAdvances, inFull, AnswersInFull}
 use Rattle.semantics.specs.Laws.Lengths.{again-still, left-still, takes-least}
@@ -66,7 +68,7 @@ module _ (sub : List ℕ) where
     all-advance empty e = tt
     all-advance (item place i) e = tt
     all-advance (seq a b) e = let n = first-none (idle a) (idle b) e in (all-advance a (n .0), all-advance b (n .1))
-    all-advance (alt bs b) e = let n = first-none (idleIn bs) (idle b) e in (each-advances bs (n .0), all-advance b (n .1))
+    all-advance (alt bs bar b) e = let n = first-none (idleIn bs) (idle b) e in (each-advances bs (n .0), all-advance b (n .1))
     all-advance (group k a) e = all-advance a e
     all-advance (repeat place least most g a) e =
         let n = first-none (idle a) (if unbounded most && eqb (leastLength a) 0 then some place else none) e in
@@ -76,7 +78,7 @@ module _ (sub : List ℕ) where
 
     each-advances : (bs : Branches) → idleIn bs ≡ none → EachAdvances sub bs
     each-advances (one a) e = all-advance a e
-    each-advances (also bs b) e = let n = first-none (idleIn bs) (idle b) e in (each-advances bs (n .0), all-advance b (n .1))
+    each-advances (also bs bar b) e = let n = first-none (idleIn bs) (idle b) e in (each-advances bs (n .0), all-advance b (n .1))
 
 -- under the profile no round of a repeat without upper bound is empty, and its rounds are at most the bytes that are left
 pub rounds-advance : (s : List ℕ) (flags : ℕ) → depot flags ≡ true → Given (reading s flags) (λ r at. (sub : List ℕ) → AllAdvance sub (r .0))
@@ -155,6 +157,26 @@ module _ (c : Call) (h : Passes c) where
   unfolding scanCall scanRule
   scan-in-full = call-in-full ListRefused rowLength scanRule (list-returns (scan (c .subject) (h .tree) (c .budget) (room (c .resultArea))))
 
+  check-returns : (f : Finding) (steps : ℕ) → checkReturns c f steps ≡ checkReturns (inFull c) f steps
+  unfolding checkReturns
+  check-returns (aReading start t) steps = leaving-in-full (AReading steps) (row start t)
+  check-returns noReading steps = leaving-in-full (NoReading steps) []
+  check-returns (exhausts start) steps = leaving-in-full (CheckExhausted start steps) []
+
+  unless-crowded : (proposal : List ℕ) (o : Option ℕ) → unlessCrowded proposal c (h .tree) o ≡ unlessCrowded proposal (inFull c) (h .tree) o
+  unfolding unlessCrowded declined
+  unless-crowded proposal (some bar) = refl
+  unless-crowded proposal none = let a = check (c .subject) (h .tree) (c .budget) proposal in check-returns (a .finding) (a .steps)
+
+  unless-unfollowed : (proposal : List ℕ) (o : Option ℕ) → unlessUnfollowed proposal c (h .tree) o ≡ unlessUnfollowed proposal (inFull c) (h .tree) o
+  unfolding unlessUnfollowed declined
+  unless-unfollowed proposal (some place) = refl
+  unless-unfollowed proposal none = unless-crowded proposal (crowded (h .tree))
+
+  check-in-full : (proposal : List ℕ) → checkCall proposal c ≡ checkCall proposal (inFull c)
+  unfolding checkCall checkRule
+  check-in-full proposal = call-in-full CheckRefused rowLength (checkRule proposal) (unless-unfollowed proposal (unfollowed (h .tree)))
+
   lined : (line results : List ℕ) → Passes (lineCall c line results)
   lined line results = record { known = h .known; tree = h .tree; groups = h .groups; stop = h .stop; reads = h .reads }
 
@@ -173,4 +195,4 @@ batch-in-full c h =
     (rw (parts-in-full (lineless c) k lines (c .resultArea)) (leaving-in-full (lineless c) k (Done (length lines)) (parts (inFull (lineless c)) lines (c .resultArea))))
 
 pub answers-in-full : (c : Call) → Passes c → AnswersInFull c
-answers-in-full c h = record { a-match = match-in-full c h; a-listing = list-in-full c h; successive-matches = scan-in-full c h; an-explanation = explain-in-full c h; a-days-lines = batch-in-full c h }
+answers-in-full c h = record { a-match = match-in-full c h; a-listing = list-in-full c h; successive-matches = scan-in-full c h; an-explanation = explain-in-full c h; a-check = check-in-full c h; a-days-lines = batch-in-full c h }

@@ -135,12 +135,15 @@ module _ (need : ℕ) (c : Call) where
     | inr x ↦ (λ e. (let q : x .0 ≡ why = cc (x .1, e) in rw q at (x .2)), λ f. x .1 ∙ ap some (first-once (x .0) why (x .2) f))
   ]
 
-  -- without a fault the areas are large enough
+  -- without a fault the areas are large enough, and the subject is no longer than it may be
   pub rule-area-enough : Faultless need c → ruleAreaNeed ≤ length (c .ruleArea)
   rule-area-enough f = elim (le-or ruleAreaNeed (length (c .ruleArea))) [ inl h ↦ h | inr h ↦ absurd (f RuleAreaShort (ruleAreaShort h)) ]
 
   pub work-area-enough : Faultless need c → workAreaNeed (c .budget) ≤ length (c .workArea)
   work-area-enough f = elim (le-or (workAreaNeed (c .budget)) (length (c .workArea))) [ inl h ↦ h | inr h ↦ absurd (f WorkAreaShort (workAreaShort h)) ]
+
+  pub subject-enough : Faultless need c → length (c .subject) ≤ subjectLimit
+  subject-enough f = elim (le-or (length (c .subject)) subjectLimit) [ inl h ↦ h | inr h ↦ absurd (f SubjectTooLong (subjectTooLong h)) ]
 
   pub result-area-enough : Faultless need c → need ≤ length (c .resultArea)
   result-area-enough f = elim (le-or need (length (c .resultArea))) [ inl h ↦ h | inr h ↦ absurd (f ResultAreaShort (resultAreaShort h)) ]

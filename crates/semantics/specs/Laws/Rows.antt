@@ -135,8 +135,8 @@ module _ (sub : List ℕ) (start groups : ℕ) (few : groups ≤ groupLimit) whe
     kept empty p s t d h = rw d h
     kept (item place i) p s t d h = kept-tried i s t d h
     kept (seq a b) p s t d h = kept b (p .1) (d .0) t (d .2) (kept a (p .0) s (d .0) (d .1) h)
-    kept (alt bs b) p s t (inl d) h = kept-picked bs (p .0) s t d h
-    kept (alt bs b) p s t (inr d) h = kept b (p .1) _ t d (kept-chose _ s h)
+    kept (alt bs bar b) p s t (inl d) h = kept-picked bs (p .0) s t d h
+    kept (alt bs bar b) p s t (inr d) h = kept b (p .1) _ t d (kept-chose _ s h)
     kept (group n a) p s t d h =
         let m = d .0 in
         let up = right sub a s (h .inside) .reach m (d .1) .up in
@@ -148,8 +148,8 @@ module _ (sub : List ℕ) (start groups : ℕ) (few : groups ≤ groupLimit) whe
 
     kept-picked : (bs : Branches) → Propers groups bs → (s t : State) → Picks sub bs s t → Kept s → Kept t
     kept-picked (one a) p s t d h = kept a p _ t d (kept-chose _ s h)
-    kept-picked (also bs b) p s t (inl d) h = kept-picked bs (p .0) s t d h
-    kept-picked (also bs b) p s t (inr d) h = kept b (p .1) _ t d (kept-chose _ s h)
+    kept-picked (also bs bar b) p s t (inl d) h = kept-picked bs (p .0) s t d h
+    kept-picked (also bs bar b) p s t (inr d) h = kept b (p .1) _ t d (kept-chose _ s h)
 
   -- no span is set at the start
   all-unset : (g : ℕ) → 1 ≤ g → g ≤ groupLimit → IsUnset (opens (replicate spansLength unset) g) (closes (replicate spansLength unset) g)

@@ -13,7 +13,7 @@ use Rattle.semantics.specs.States.{row}
 use Rattle.semantics.specs.Answers.{Outcome, matched, notMatched, exhausted, Answer, Ending, complete, full, exhaustedAt, Listing}
 use Rattle.semantics.specs.Explanations.{position, reach}
 use Rattle.semantics.specs.Calls.{Call, workAreaNeed, Return, MatchOutcome, Refused, ListOutcome, ListRefused, joined, room, ExplainOutcome, ExplainRefused, markable}
-use Rattle.semantics.specs.Demands.{Accepted, Written, Demand1, MatchAnswers, MatchDemands, TellsRows, ListAnswers, ListDemands, TellsWhy, ExplainAnswers, ExplainDemands}
+use Rattle.semantics.specs.Demands.{Fault, Written, Regular, MatchAnswers, MatchDemands, TellsRows, ListAnswers, ListDemands, TellsWhy, ExplainAnswers, ExplainDemands}
 use Rattle.semantics.specs.ScanDemands.{ScanAnswers, ScanDemands}
 use Rattle.semantics.specs.Laws.Refusals.{found}
 use Rattle.semantics.specs.Laws.Areas.{written-over}
@@ -32,7 +32,8 @@ module _ {A : Type 0} where
   all-five : (x y : Return A) → x .ruleArea ≡ y .ruleArea → x .workArea ≡ y .workArea → x .names ≡ y .names → Told x y → x ≡ y
   all-five x y e f g t = rw (e, f, g, t .0, t .1)
 
-  module _ (refusal : ℕ → Reason → A) (need : ℕ) (c : Call) (x y : Return A) (v : Demand1 refusal need c x) (w : Demand1 refusal need c y) where
+  module _ {Named : ℕ → Reason → Type 0} {Passes : Rule → ℕ → Type 0} (refusal : ℕ → Reason → A) (need : ℕ) (c : Call) (x y : Return A)
+      (v : Regular refusal (Fault need c) Named Passes c x) (w : Regular refusal (Fault need c) Named Passes c y) where
     areas-same : (x .ruleArea ≡ y .ruleArea) × (x .workArea ≡ y .workArea)
     areas-same = elim (found need c) [
       | inl z ↦ (written-once (replicate ruleAreaNeed 0) (c .ruleArea) (x .ruleArea) (y .ruleArea) (v .rule-area-zeroed (z .1)) (w .rule-area-zeroed (z .1)), written-once (replicate (workAreaNeed (c .budget)) 0) (c .workArea) (x .workArea) (y .workArea) (v .work-area-zeroed (z .1)) (w .work-area-zeroed (z .1)))
@@ -48,8 +49,8 @@ module _ {A : Type 0} where
       | inr z ↦ v .index-unchanged (z .0) (z .1) (v .refused-exactly (z .0) (z .1) .1 (z .2)) ∙ sym (w .index-unchanged (z .0) (z .1) (w .refused-exactly (z .0) (z .1) .1 (z .2)))
     ]
 
-    -- it is enough that accepted calls are told alike
-    pub returns-same : ((r : Rule) (groups : ℕ) → Accepted need c r groups → Told x y) → x ≡ y
+    -- it is enough that calls that pass are told alike
+    pub returns-same : ((r : Rule) (groups : ℕ) → Passes r groups → Told x y) → x ≡ y
     returns-same f =
         let s = areas-same in
         let t : Told x y = elim (v .answers-or-refuses) [

@@ -44,7 +44,7 @@ module _ (sub : List ℕ) where
     right empty s l = right-done s (reach-self _ s l)
     right (item place i) s l = right-paying (toll sub i s) (right-tried place (try sub i s) (λ t e. try-reach sub i s t l e))
     right (seq a b) s l = let x = right a s l in right-bind x (λ t d. right b t (x .reach t d .inside))
-    right (alt bs b) s l = right-also l (rights bs s l) (right b (chose (branch (branchCount bs)) s) l) .0
+    right (alt bs bar b) s l = right-also l (rights bs s l) (right b (chose (branch (branchCount bs)) s) l) .0
     right (group n a) s l = let x = right a s l in right-step (right-bind x (λ t d. right-step (right-done (closed n (s .at) t) (reach-still (x .reach t d .inside) refl refl))))
     right (repeat place least most g a) s l = right-rounds (walk sub a) (Derives sub a) least most g (right a) (enough sub least (s .at)) 0 false s l (omega arith)
     right (held place a) s l = let x = right a s l in right-as (λ u d. rw (← (d .2)) at (d .1)) (λ u d. (u, d, refl)) (right-first x (λ t d. right-done t (x .reach t d)))
@@ -55,7 +55,7 @@ module _ (sub : List ℕ) where
     rights (one a) s l =
         let x = right a (chose (branch 0) s) l in
         (right-step (right-chose s (branch 0) l x), λ u d. let m = makes-chose s (branch 0) x u d in (m .0, (0, omega arith, m .1), m .2))
-    rights (also bs b) s l = right-also l (rights bs s l) (right b (chose (branch (branchCount bs)) s) l)
+    rights (also bs bar b) s l = right-also l (rights bs s l) (right b (chose (branch (branchCount bs)) s) l)
 
 -- A repeat's walk from a decision -----------------------------------------------
 

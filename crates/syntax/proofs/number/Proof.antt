@@ -105,6 +105,12 @@ enum-told-33 c = search needs
 enum-told-34 : tie.Need-enum-told-34
 enum-told-34 c = search needs
 
+enum-told-35 : tie.Need-enum-told-35
+enum-told-35 c = search needs
+
+enum-told-36 : tie.Need-enum-told-36
+enum-told-36 c = search needs
+
 returns : tie.Need-returns
 returns c = rw (c .enum-told .given .1)
 
@@ -207,6 +213,12 @@ returns-33 c = rw (c .enum-told33 .given .1)
 returns-34 : tie.Need-returns-34
 returns-34 c = rw (c .enum-told34 .given .1)
 
+returns-35 : tie.Need-returns-35
+returns-35 c = rw (c .enum-told35 .given .1)
+
+returns-36 : tie.Need-returns-36
+returns-36 c = rw (c .enum-told36 .given .1)
+
 pub number-spec : {M : Type 1} → statement M
 number-spec =
     tie.close
@@ -245,6 +257,8 @@ number-spec =
     enum-told-32
     enum-told-33
     enum-told-34
+    enum-told-35
+    enum-told-36
     returns
     returns-2
     returns-3
@@ -278,4 +292,6 @@ number-spec =
     returns-31
     returns-32
     returns-33
-    returns-34)
+    returns-34
+    returns-35
+    returns-36)

@@ -34,7 +34,7 @@ mutual
   proper-more empty g h l p = tt
   proper-more (item at i) g h l p = tt
   proper-more (seq a b) g h l p = (proper-more a g h l (p .0), proper-more b g h l (p .1))
-  proper-more (alt bs b) g h l p = (propers-more bs g h l (p .0), proper-more b g h l (p .1))
+  proper-more (alt bs bar b) g h l p = (propers-more bs g h l (p .0), proper-more b g h l (p .1))
   proper-more (group n a) g h l p = (p .0, omega (arith, p .1), proper-more a g h l (p .2))
   proper-more (repeat at n m x a) g h l p = (p .0, proper-more a g h l (p .1))
   proper-more (held at a) g h l p = proper-more a g h l p
@@ -42,7 +42,7 @@ mutual
 
   propers-more : (bs : Branches) (g h : ℕ) → g ≤ h → Propers g bs → Propers h bs
   propers-more (one a) g h l p = proper-more a g h l p
-  propers-more (also bs b) g h l p = (propers-more bs g h l (p .0), proper-more b g h l (p .1))
+  propers-more (also bs bar b) g h l p = (propers-more bs g h l (p .0), proper-more b g h l (p .1))
 
 pub record Fits (g h : ℕ) (t : Rule) : Type 0 where
   pub proper : Proper g t
@@ -105,13 +105,13 @@ all-more bs g g′ h l f = record { proper = propers-more bs g g′ l (f .proper
 all-one : (g h : ℕ) (a : Rule) → Fits g h a → AllFit g h (one a)
 all-one g h a f = record { proper = f .proper; nests = f .nests; nested = f .nested }
 
-all-also : (g h : ℕ) (bs : Branches) (b : Rule) → AllFit g h bs → Fits g h b → AllFit g h (also bs b)
-all-also g h bs b x y = record { proper = (x .proper, y .proper); nests = omega (arith, x .nests, y .nests); nested = omega (arith, x .nested, y .nested) }
+all-also : (g h bar : ℕ) (bs : Branches) (b : Rule) → AllFit g h bs → Fits g h b → AllFit g h (also bs bar b)
+all-also g h bar bs b x y = record { proper = (x .proper, y .proper); nests = omega (arith, x .nests, y .nests); nested = omega (arith, x .nested, y .nested) }
 
 alternatives-fit : (g h : ℕ) (bs : Branches) → AllFit g h bs → Fits g h (alternatives bs)
 unfolding alternatives
 alternatives-fit g h (one a) f = record { proper = f .proper; nests = f .nests; nested = f .nested }
-alternatives-fit g h (also bs b) f = record { proper = f .proper; nests = f .nests; nested = f .nested }
+alternatives-fit g h (also bs bar b) f = record { proper = f .proper; nests = f .nests; nested = f .nested }
 
 -- how high a part and a sequence are, in which brackets nest d deep: a part may still be repeated, and held on to
 abbrev lone : ℕ → ℕ
@@ -244,7 +244,7 @@ unfolding further
 further-fits zero s flags known inner bs old opened at d h l f = (l, alternatives-fit (length opened) (high d) bs f)
 further-fits (suc k) s flags known inner bs old opened at d h l f = if-given _ _ _ (is "|" (byte s at))
     (then-given (Good (length opened) (high d)) (Good old (high d)) (branch s flags known inner opened (at + 1)) _ (branch-fits s flags known inner (length opened) opened (at + 1) d h (omega arith, l .1)) (λ r p g.
-    further-fits k s flags known inner (also bs (r .0)) old (r .1) p d h (omega (arith, l .0, g .0 .0), g .0 .1) (all-also (length (r .1)) (high d) bs (r .0) (all-more bs (length opened) (length (r .1)) (high d) (g .0 .0) f) (g .1))))
+    further-fits k s flags known inner (also bs at (r .0)) old (r .1) p d h (omega (arith, l .0, g .0 .0), g .0 .1) (all-also (length (r .1)) (high d) at bs (r .0) (all-more bs (length opened) (length (r .1)) (high d) (g .0 .0) f) (g .1))))
     (l, alternatives-fit (length opened) (high d) bs f)
 
 alternation-fits : (s : List ℕ) (flags : ℕ) (known : Names) (inner : Inner) (opened : Names) (at d : ℕ) → InnerFits d inner → length opened ≤ groupLimit → Given (alternation s flags known inner opened at) (Good (length opened) (high d))
@@ -301,7 +301,7 @@ mutual
   resolves groups empty e = tt
   resolves groups (item at i) e = refers groups at i e
   resolves groups (seq a b) e = let n = first-none (unresolved groups a) (unresolved groups b) e in (resolves groups a (n .0), resolves groups b (n .1))
-  resolves groups (alt bs b) e = let n = first-none (unresolvedIn groups bs) (unresolved groups b) e in (resolvesIn groups bs (n .0), resolves groups b (n .1))
+  resolves groups (alt bs bar b) e = let n = first-none (unresolvedIn groups bs) (unresolved groups b) e in (resolvesIn groups bs (n .0), resolves groups b (n .1))
   resolves groups (group n a) e = resolves groups a e
   resolves groups (repeat at n m g a) e = resolves groups a e
   resolves groups (held at a) e = resolves groups a e
@@ -309,7 +309,7 @@ mutual
 
   resolvesIn : (groups : ℕ) (bs : Branches) → unresolvedIn groups bs ≡ none → ResolvedIn groups bs
   resolvesIn groups (one a) e = resolves groups a e
-  resolvesIn groups (also bs b) e = let n = first-none (unresolvedIn groups bs) (unresolved groups b) e in (resolvesIn groups bs (n .0), resolves groups b (n .1))
+  resolvesIn groups (also bs bar b) e = let n = first-none (unresolvedIn groups bs) (unresolved groups b) e in (resolvesIn groups bs (n .0), resolves groups b (n .1))
 
 -- The whole rule -------------------------------------------------------------
 

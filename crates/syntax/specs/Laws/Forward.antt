@@ -369,7 +369,7 @@ further-on : (f : ℕ) (s : List ℕ) (flags : ℕ) (known : Names) (inner : Inn
 unfolding further
 further-on zero s flags known inner bs opened at n h l = l
 further-on (suc f) s flags known inner bs opened at n h l = if-given _ _ _ (is "|" (byte s at))
-    (then-given (Past (at + 1)) (Past n) (branch s flags known inner opened (at + 1)) _ (branch-on s flags known inner opened (at + 1) h) (λ r p k. further-on f s flags known inner (also bs (r .0)) (r .1) p n h (omega arith)))
+    (then-given (Past (at + 1)) (Past n) (branch s flags known inner opened (at + 1)) _ (branch-on s flags known inner opened (at + 1) h) (λ r p k. further-on f s flags known inner (also bs at (r .0)) (r .1) p n h (omega arith)))
     l
 
 alternation-on : (s : List ℕ) (flags : ℕ) (known : Names) (inner : Inner) (opened : Names) (at : ℕ) → Forward inner → Given (alternation s flags known inner opened at) (Past at)

@@ -94,7 +94,7 @@ further-fuel zero k s flags known inner bs opened at h l m = sym (further-past k
 further-fuel (suc f) zero s flags known inner bs opened at h l m = further-past (suc f) s flags known inner bs opened at (omega arith)
 further-fuel (suc f) (suc k) s flags known inner bs opened at h l m =
     if-same (is "|" (byte s at)) _ _ _ (λ e. let i = bar-in s at e in
-    then-same (Past (at + 1)) (branch s flags known inner opened (at + 1)) _ _ (branch-on s flags known inner opened (at + 1) h) (λ r p n. further-fuel f k s flags known inner (also bs (r .0)) (r .1) p h (omega arith) (omega arith)))
+    then-same (Past (at + 1)) (branch s flags known inner opened (at + 1)) _ _ (branch-on s flags known inner opened (at + 1) h) (λ r p n. further-fuel f k s flags known inner (also bs at (r .0)) (r .1) p h (omega arith) (omega arith)))
 
 -- The loops' equations, with no number that falls ---------------------------------
 
@@ -111,6 +111,6 @@ unfolding sequence
 sequence-turn s flags known inner q opened start h = sequence-fuel (length s) (suc (length s)) s flags known inner q opened start h (omega arith) (omega arith)
 
 pub further-turn : (s : List ℕ) (flags : ℕ) (known : Names) (inner : Inner) (bs : Branches) (opened : Names) (at : ℕ) → Forward inner → further (length s) s flags known inner bs opened at
-    ≡ (if is "|" (byte s at) then andThen (branch s flags known inner opened (at + 1)) (λ r next. further (length s) s flags known inner (also bs (r .0)) (r .1) next) else sound (alternatives bs, opened) at)
+    ≡ (if is "|" (byte s at) then andThen (branch s flags known inner opened (at + 1)) (λ r next. further (length s) s flags known inner (also bs at (r .0)) (r .1) next) else sound (alternatives bs, opened) at)
 unfolding further
 further-turn s flags known inner bs opened at h = further-fuel (length s) (suc (length s)) s flags known inner bs opened at h (omega arith) (omega arith)

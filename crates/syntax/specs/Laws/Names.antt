@@ -130,7 +130,7 @@ module _ (P : Name → Names → Type 0) (unnamed : (ns : Names) → P [] ns) (n
   further-all zero s flags known inner bs names at h k = k
   further-all (suc f) s flags known inner bs names at h k = if-given _ _ _ (is "|" (byte s at))
       (then-given Kept Kept (branch s flags known inner names (at + 1)) _ (branch-all s flags known inner names (at + 1) h k) (λ r p l.
-      further-all f s flags known inner (also bs (r .0)) (r .1) p h l))
+      further-all f s flags known inner (also bs at (r .0)) (r .1) p h l))
       k
 
   alternation-all : (s : List ℕ) (flags : ℕ) (known : Names) (inner : Inner) (names : Names) (at : ℕ) → InnerAll inner → All P names → Given (alternation s flags known inner names at) Kept

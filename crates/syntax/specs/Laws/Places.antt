@@ -34,8 +34,8 @@ use Rattle.syntax.specs.Quantifiers.{quantifier}
 use Rattle.syntax.specs.Grammar.{behindBlanks, atom, Inner, closing, capturing, uncaptured, grouped, Sequence, unrepeatable, repeatable, repeated, whole, withItem, unfitFor, repeating, breaksLine, nextItem, part, ends, sequence, branch, further, alternation, inside}
 use Rattle.syntax.specs.Lengths.{leastLength, unbounded}
 use Rattle.syntax.specs.Reading.{parsed, namesOf, firstOf, dangling, unresolved, unresolvedIn, idle, idleIn, unless, profiled, settled, reading}
-use Rattle.syntax.specs.Laws.Forward.{Given, test-given}
-use Rattle.syntax.specs.Laws.Within.{nameUpTo-in, Upto, Inward, not-end, is-in, quantifier-in, part-by, ends-false, alternation-in, inside-in}
+use Rattle.syntax.specs.Laws.Forward.{Given, if-given, test-given, then-given, Holding}
+use Rattle.syntax.specs.Laws.Within.{nameUpTo-in, Upto, UptoIn, Inward, not-end, is-in, quantifier-in, part-by, ends-false, branch-in, alternation-in, inside-in}
 
 -- if a reading is refused, its place is n at most
 abbrev pub Placed : {A : Type 0} → ℕ → Read A → Type 0
@@ -217,21 +217,21 @@ module _ (s : List ℕ) (strict : Bool) (from : ℕ) (h : from ≤ length s) whe
 
 -- Places in a tree ---------------------------------------------------------------------
 
--- all items and repeats of a tree stand at n at most
+-- all items, repeats, bars, held parts and lookings ahead of a tree stand at n at most
 abbrev mutual
   pub ItemsIn : ℕ → Rule → Type 0
   ItemsIn n empty = Unit
   ItemsIn n (item at i) = at ≤ n
   ItemsIn n (seq a b) = ItemsIn n a × ItemsIn n b
-  ItemsIn n (alt bs b) = BranchesIn n bs × ItemsIn n b
+  ItemsIn n (alt bs bar b) = BranchesIn n bs × (bar ≤ n) × ItemsIn n b
   ItemsIn n (group k a) = ItemsIn n a
   ItemsIn n (repeat at l m g a) = (at ≤ n) × ItemsIn n a
-  ItemsIn n (held at a) = ItemsIn n a
-  ItemsIn n (look at negative a) = ItemsIn n a
+  ItemsIn n (held at a) = (at ≤ n) × ItemsIn n a
+  ItemsIn n (look at negative a) = (at ≤ n) × ItemsIn n a
 
   pub BranchesIn : ℕ → Branches → Type 0
   BranchesIn n (one a) = ItemsIn n a
-  BranchesIn n (also bs b) = BranchesIn n bs × ItemsIn n b
+  BranchesIn n (also bs bar b) = BranchesIn n bs × (bar ≤ n) × ItemsIn n b
 
 -- what the grammar's parts give: a tree with its items in place, or a sequence of such
 abbrev Treed : ℕ → Rule × Names → ℕ → Type 0
@@ -260,24 +260,24 @@ withItem-in n q at (reference folded k) h l = (whole-in n q h, l)
 alternatives-in : (n : ℕ) (bs : Branches) → BranchesIn n bs → ItemsIn n (alternatives bs)
 unfolding alternatives
 alternatives-in n (one a) h = h
-alternatives-in n (also bs b) h = h
+alternatives-in n (also bs bar b) h = h
 
-enclosed-in : (n : ℕ) (form : Form) (at : ℕ) (t : Rule) → ItemsIn n t → ItemsIn n (enclosed form at t)
+enclosed-in : (n : ℕ) (form : Form) (at : ℕ) (t : Rule) → at ≤ n → ItemsIn n t → ItemsIn n (enclosed form at t)
 unfolding enclosed
-enclosed-in n Grouped at t h = h
-enclosed-in n (Captured k) at t h = h
-enclosed-in n Held at t h = h
-enclosed-in n Ahead at t h = h
-enclosed-in n NotAhead at t h = h
+enclosed-in n Grouped at t l h = h
+enclosed-in n (Captured k) at t l h = h
+enclosed-in n Held at t l h = (l, h)
+enclosed-in n Ahead at t l h = (l, h)
+enclosed-in n NotAhead at t l h = (l, h)
 
-possessive-in : (n : ℕ) (keeps : Bool) (at : ℕ) (t : Rule) → ItemsIn n t → ItemsIn n (possessive keeps at t)
+possessive-in : (n : ℕ) (keeps : Bool) (at : ℕ) (t : Rule) → at ≤ n → ItemsIn n t → ItemsIn n (possessive keeps at t)
 unfolding possessive
-possessive-in n true at t h = (tt, h)
-possessive-in n false at t h = h
+possessive-in n true at t l h = (l, (tt, h))
+possessive-in n false at t l h = h
 
 break-in : (n at : ℕ) → at ≤ n → ItemsIn n (lineBreak at)
 unfolding lineBreak
-break-in n at h = (((tt, h), h), (tt, h))
+break-in n at h = (h, (((tt, h), h), h, (tt, h)))
 
 -- Items, sequences and groups ---------------------------------------------------------
 
@@ -327,7 +327,7 @@ module _ (s : List ℕ) where
   capturing-well inner at opened name h k g =
       let n = length s in
       well-if n _ _ _ (ltb (length opened) groupLimit)
-      (well-on n (Treed n) (Treed n) (inner at (andThen name (λ x p. sound (x ∷ opened) p))) _ (h at _ k (well-on n (Upto s) (Upto s) name _ g (λ x p l. (tt, l)))) (λ r p t. closing-well at (enclosed (Captured (suc (length opened))) at (r .0)) (r .1) p k (enclosed-in n (Captured (suc (length opened))) at (r .0) t)))
+      (well-on n (Treed n) (Treed n) (inner at (andThen name (λ x p. sound (x ∷ opened) p))) _ (h at _ k (well-on n (Upto s) (Upto s) name _ g (λ x p l. (tt, l)))) (λ r p t. closing-well at (enclosed (Captured (suc (length opened))) at (r .0)) (r .1) p k (enclosed-in n (Captured (suc (length opened))) at (r .0) k t)))
       (k, tt)
 
   uncaptured-well : (inner : Inner) (at : ℕ) (opened : Names) (form : Form) → InnerWell inner → at + 3 ≤ length s → Well (length s) (Treed (length s)) (uncaptured s inner at opened form)
@@ -335,7 +335,7 @@ module _ (s : List ℕ) where
   uncaptured-well inner at opened form h l =
       let n = length s in
       let k : at ≤ length s = omega arith in
-      well-on n (Treed n) (Treed n) (inner at (sound opened (at + 3))) _ (h at (sound opened (at + 3)) k (tt, l)) (λ r p t. closing-well at (enclosed form at (r .0)) (r .1) p k (enclosed-in n form at (r .0) t))
+      well-on n (Treed n) (Treed n) (inner at (sound opened (at + 3))) _ (h at (sound opened (at + 3)) k (tt, l)) (λ r p t. closing-well at (enclosed form at (r .0)) (r .1) p k (enclosed-in n form at (r .0) k t))
 
   grouped-well : (inner : Inner) (at : ℕ) (opened : Names) → InnerWell inner → at < length s → Well (length s) (Treed (length s)) (grouped s inner at opened)
   unfolding grouped
@@ -366,18 +366,18 @@ module _ (s : List ℕ) where
   unfitFor-placed (repeatable b l) at h = (h, tt)
   unfitFor-placed (repeated t) at h = (h, tt)
 
-  repeating-well : (q : Sequence) (at n : ℕ) (m : Most) (g : Greed) (keeps : Bool) (opened : Names) (next : ℕ) → at ≤ length s → SequenceIn (length s) q → Well (length s) (Sequenced (length s)) (repeating q at n m g keeps opened next)
+  repeating-well : (q : Sequence) (at n : ℕ) (m : Most) (g : Greed) (keeps : Bool) (opened : Names) (next : ℕ) → at ≤ length s → next ≤ length s → SequenceIn (length s) q → Well (length s) (Sequenced (length s)) (repeating q at n m g keeps opened next)
   unfolding repeating SequenceIn
-  repeating-well (unrepeatable t) at n m g keeps opened next h k = (h, tt)
-  repeating-well (repeatable b l) at n m g keeps opened next h k = (tt, (k .0, possessive-in (length s) keeps (next - 1) (repeat at n m g l) (h, k .1)))
-  repeating-well (repeated t) at n m g keeps opened next h k = (h, tt)
+  repeating-well (unrepeatable t) at n m g keeps opened next h i k = (h, tt)
+  repeating-well (repeatable b l) at n m g keeps opened next h i k = (tt, (k .0, possessive-in (length s) keeps (next - 1) (repeat at n m g l) (omega arith) (h, k .1)))
+  repeating-well (repeated t) at n m g keeps opened next h i k = (h, tt)
 
-  part-well : (flags : ℕ) (known : Names) (inner : Inner) (q : Sequence) (opened : Names) (at : ℕ) (x : Quantifier) → InnerWell inner → at < length s → SequenceIn (length s) q → Well (length s) (Sequenced (length s)) (part s flags known inner q opened at x)
+  part-well : (flags : ℕ) (known : Names) (inner : Inner) (q : Sequence) (opened : Names) (at : ℕ) (x : Quantifier) → InnerWell inner → at < length s → Holding x (UptoIn s) → SequenceIn (length s) q → Well (length s) (Sequenced (length s)) (part s flags known inner q opened at x)
   unfolding part
-  part-well flags known inner q opened at Absent h l g = nextItem-well flags known inner q opened at h l g
-  part-well flags known inner q opened at Stray h l g = (omega arith, tt)
-  part-well flags known inner q opened at Unfit h l g = unfitFor-placed q at (omega arith)
-  part-well flags known inner q opened at (Times n m d keeps next) h l g = repeating-well q at n m d keeps opened next (omega arith) g
+  part-well flags known inner q opened at Absent h l u g = nextItem-well flags known inner q opened at h l g
+  part-well flags known inner q opened at Stray h l u g = (omega arith, tt)
+  part-well flags known inner q opened at Unfit h l u g = unfitFor-placed q at (omega arith)
+  part-well flags known inner q opened at (Times n m d keeps next) h l u g = repeating-well q at n m d keeps opened next (omega arith) (omega (arith, u)) g
 
   sequence-well : (f flags : ℕ) (known : Names) (inner : Inner) (q : Sequence) (opened : Names) (at : ℕ) → InnerWell inner → Inward s inner → at ≤ length s → SequenceIn (length s) q → Well (length s) (Treed (length s)) (sequence f s flags known inner q opened at)
   unfolding sequence
@@ -386,7 +386,7 @@ module _ (s : List ℕ) where
       let at = behindBlanks s flags start in
       well-test (length s) _ _ _ (ends (byte s at)) (λ e. (tt, whole-in (length s) q g)) (λ e.
       let k = ends-false s at e in
-      well-then (length s) (Sequenced (length s)) (Upto s) (Treed (length s)) (part s flags known inner q opened at (quantifier s at)) _ (part-well flags known inner q opened at (quantifier s at) h k g) (part-by s flags known inner q opened at (quantifier s at) i k (quantifier-in s at))
+      well-then (length s) (Sequenced (length s)) (Upto s) (Treed (length s)) (part s flags known inner q opened at (quantifier s at)) _ (part-well flags known inner q opened at (quantifier s at) h k (quantifier-in s at) g) (part-by s flags known inner q opened at (quantifier s at) i k (quantifier-in s at))
       (λ r p t u. sequence-well f flags known inner (r .0) (r .1) p h i u t))
 
   branch-well : (flags : ℕ) (known : Names) (inner : Inner) (opened : Names) (at : ℕ) → InnerWell inner → Inward s inner → at ≤ length s → Well (length s) (Treed (length s)) (branch s flags known inner opened at)
@@ -398,7 +398,7 @@ module _ (s : List ℕ) where
   further-well zero flags known inner bs opened at h i g = (tt, alternatives-in (length s) bs g)
   further-well (suc f) flags known inner bs opened at h i g = well-test (length s) _ _ _ (is "|" (byte s at))
       (λ e. let k = is-in s at 124 (omega arith) e in
-      well-on (length s) (Treed (length s)) (Treed (length s)) (branch s flags known inner opened (at + 1)) _ (branch-well flags known inner opened (at + 1) h i (omega arith)) (λ r p t. further-well f flags known inner (also bs (r .0)) (r .1) p h i (g, t)))
+      well-on (length s) (Treed (length s)) (Treed (length s)) (branch s flags known inner opened (at + 1)) _ (branch-well flags known inner opened (at + 1) h i (omega arith)) (λ r p t. further-well f flags known inner (also bs at (r .0)) (r .1) p h i (g, omega arith, t)))
       (λ e. (tt, alternatives-in (length s) bs g))
 
   alternation-well : (flags : ℕ) (known : Names) (inner : Inner) (opened : Names) (at : ℕ) → InnerWell inner → Inward s inner → at ≤ length s → Well (length s) (Treed (length s)) (alternation s flags known inner opened at)
@@ -419,16 +419,16 @@ module _ (s : List ℕ) where
       well-then (length s) (Treed (length s)) (Upto s) (Treed (length s)) (alternation s flags known inner [] 0) _ (alternation-well flags known inner [] 0 (inside-well nestingLimit flags known) (inside-in nestingLimit s flags known) (omega arith)) (alternation-in s flags known inner [] 0 (inside-in nestingLimit s flags known) (omega arith)) (λ r p t u. well-if (length s) _ _ _ (isEnd (byte s p)) (tt, t) (u, tt))
 
 -- a place that is found is n at most
-abbrev Found : ℕ → Option ℕ → Type 0
+abbrev pub Found : ℕ → Option ℕ → Type 0
 Found n none = Unit
 Found n (some p) = p ≤ n
 
-first-found : (n : ℕ) (x y : Option ℕ) → Found n x → Found n y → Found n (firstOf x y)
+pub first-found : (n : ℕ) (x y : Option ℕ) → Found n x → Found n y → Found n (firstOf x y)
 unfolding firstOf
 first-found n none y g h = h
 first-found n (some p) y g h = g
 
-if-found : (n at : ℕ) (b : Bool) → at ≤ n → Found n (if b then some at else none)
+pub if-found : (n at : ℕ) (b : Bool) → at ≤ n → Found n (if b then some at else none)
 if-found n at true h = h
 if-found n at false h = tt
 
@@ -445,15 +445,15 @@ mutual
   unresolved-found n groups empty h = tt
   unresolved-found n groups (item at i) h = dangling-found n groups at i h
   unresolved-found n groups (seq a b) h = first-found n (unresolved groups a) (unresolved groups b) (unresolved-found n groups a (h .0)) (unresolved-found n groups b (h .1))
-  unresolved-found n groups (alt bs b) h = first-found n (unresolvedIn groups bs) (unresolved groups b) (unresolvedIn-found n groups bs (h .0)) (unresolved-found n groups b (h .1))
+  unresolved-found n groups (alt bs bar b) h = first-found n (unresolvedIn groups bs) (unresolved groups b) (unresolvedIn-found n groups bs (h .0)) (unresolved-found n groups b (h .2))
   unresolved-found n groups (group k a) h = unresolved-found n groups a h
   unresolved-found n groups (repeat at l m g a) h = unresolved-found n groups a (h .1)
-  unresolved-found n groups (held at a) h = unresolved-found n groups a h
-  unresolved-found n groups (look at negative a) h = unresolved-found n groups a h
+  unresolved-found n groups (held at a) h = unresolved-found n groups a (h .1)
+  unresolved-found n groups (look at negative a) h = unresolved-found n groups a (h .1)
 
   unresolvedIn-found : (n groups : ℕ) (bs : Branches) → BranchesIn n bs → Found n (unresolvedIn groups bs)
   unresolvedIn-found n groups (one a) h = unresolved-found n groups a h
-  unresolvedIn-found n groups (also bs b) h = first-found n (unresolvedIn groups bs) (unresolved groups b) (unresolvedIn-found n groups bs (h .0)) (unresolved-found n groups b (h .1))
+  unresolvedIn-found n groups (also bs bar b) h = first-found n (unresolvedIn groups bs) (unresolved groups b) (unresolvedIn-found n groups bs (h .0)) (unresolved-found n groups b (h .2))
 
 mutual
   unfolding idle idleIn
@@ -462,15 +462,15 @@ mutual
   idle-found n empty h = tt
   idle-found n (item at i) h = tt
   idle-found n (seq a b) h = first-found n (idle a) (idle b) (idle-found n a (h .0)) (idle-found n b (h .1))
-  idle-found n (alt bs b) h = first-found n (idleIn bs) (idle b) (idleIn-found n bs (h .0)) (idle-found n b (h .1))
+  idle-found n (alt bs bar b) h = first-found n (idleIn bs) (idle b) (idleIn-found n bs (h .0)) (idle-found n b (h .2))
   idle-found n (group k a) h = idle-found n a h
   idle-found n (repeat at l m g a) h = first-found n (idle a) (if unbounded m && eqb (leastLength a) 0 then some at else none) (idle-found n a (h .1)) (if-found n at (unbounded m && eqb (leastLength a) 0) (h .0))
-  idle-found n (held at a) h = idle-found n a h
-  idle-found n (look at negative a) h = idle-found n a h
+  idle-found n (held at a) h = idle-found n a (h .1)
+  idle-found n (look at negative a) h = idle-found n a (h .1)
 
   idleIn-found : (n : ℕ) (bs : Branches) → BranchesIn n bs → Found n (idleIn bs)
   idleIn-found n (one a) h = idle-found n a h
-  idleIn-found n (also bs b) h = first-found n (idleIn bs) (idle b) (idleIn-found n bs (h .0)) (idle-found n b (h .1))
+  idleIn-found n (also bs bar b) h = first-found n (idleIn bs) (idle b) (idleIn-found n bs (h .0)) (idle-found n b (h .2))
 
 unless-placed : {A : Type 0} (n : ℕ) (o : Option ℕ) (why : Reason) (rest : Read A) → Found n o → Placed n rest → Placed n (unless o why rest)
 unfolding unless
@@ -491,3 +491,19 @@ pub reading-placed : (s : List ℕ) (flags : ℕ) → Placed (length s) (reading
 unfolding reading
 reading-placed s flags = then-placed (length s) (Treed (length s)) (parsed s flags (namesOf s flags)) _ (parsed-well s flags (namesOf s flags) .0) (parsed-well s flags (namesOf s flags) .1)
     (λ r p t. settled-placed (length s) flags (r .0) (length (r .1)) p t)
+
+unless-given : {A : Type 0} (P : A → ℕ → Type 0) (o : Option ℕ) (why : Reason) (rest : Read A) → Given rest P → Given (unless o why rest) P
+unfolding unless
+unless-given P none why rest h = h
+unless-given P (some p) why rest h = tt
+
+profiled-given : {A : Type 0} (P : A → ℕ → Type 0) (strict : Bool) (t : Rule) (rest : Read A) → Given rest P → Given (profiled strict t rest) P
+unfolding profiled
+profiled-given P false t rest h = h
+profiled-given P true t rest h = unless-given P (unresolved 0 t) BarredReference (unless (idle t) IdleRepeat rest) (unless-given P (idle t) IdleRepeat rest h)
+
+-- the items, repeats, bars, held parts and lookings ahead of a sound rule stand within the rule
+pub reading-items : (s : List ℕ) (flags : ℕ) → Given (reading s flags) (λ r p. ItemsIn (length s) (r .0))
+unfolding reading settled
+reading-items s flags = then-given (Treed (length s)) (λ r p. ItemsIn (length s) (r .0)) (parsed s flags (namesOf s flags)) _ (parsed-well s flags (namesOf s flags) .1) (λ r p t.
+    unless-given (λ q n. ItemsIn (length s) (q .0)) (unresolved (length (r .1)) (r .0)) NoSuchGroup (profiled (depot flags) (r .0) (sound (r .0, length (r .1)) p)) (profiled-given (λ q n. ItemsIn (length s) (q .0)) (depot flags) (r .0) (sound (r .0, length (r .1)) p) t))

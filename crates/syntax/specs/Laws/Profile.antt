@@ -165,7 +165,7 @@ module _ (s : List ℕ) (flags others : ℕ) (f : Spared flags others) where
   unfolding further
   further-as zero known x y bs names at h = refl
   further-as (suc k) known x y bs names at h = as-left (is "|" (byte s at)) _ _ _
-      (as-then (branch s flags known x names (at + 1)) (branch s others known y names (at + 1)) _ _ (branch-as known x y names (at + 1) h) (λ r p. further-as k known x y (also bs (r .0)) (r .1) p h))
+      (as-then (branch s flags known x names (at + 1)) (branch s others known y names (at + 1)) _ _ (branch-as known x y names (at + 1) h) (λ r p. further-as k known x y (also bs at (r .0)) (r .1) p h))
 
   alternation-as : (known : Names) (x y : Inner) (names : Names) (at : ℕ) → InnerAs x y → As (alternation s flags known x names at) (alternation s others known y names at)
   unfolding alternation

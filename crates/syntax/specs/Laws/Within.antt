@@ -39,7 +39,7 @@ use Rattle.syntax.specs.Laws.Fuel.{byte-past, byte-in}
 abbrev pub Upto : {A : Type 0} → List ℕ → A → ℕ → Type 0
 Upto s x p = p ≤ length s
 
-abbrev UptoIn : List ℕ → ℕ → Most → Bool → ℕ → Type 0
+abbrev pub UptoIn : List ℕ → ℕ → Most → Bool → ℕ → Type 0
 UptoIn s n m keeps next = next ≤ length s
 
 -- Bytes that are there --------------------------------------------------------
@@ -389,7 +389,7 @@ unfolding further
 further-in zero s flags known inner bs opened at h l = l
 further-in (suc f) s flags known inner bs opened at h l = test-given _ _ _ (is "|" (byte s at))
     (λ e. let i = is-in s at 124 (omega arith) e in
-    then-given (Upto s) (Upto s) (branch s flags known inner opened (at + 1)) _ (branch-in s flags known inner opened (at + 1) h (omega arith)) (λ r p k. further-in f s flags known inner (also bs (r .0)) (r .1) p h k))
+    then-given (Upto s) (Upto s) (branch s flags known inner opened (at + 1)) _ (branch-in s flags known inner opened (at + 1) h (omega arith)) (λ r p k. further-in f s flags known inner (also bs at (r .0)) (r .1) p h k))
     (λ e. l)
 
 pub alternation-in : (s : List ℕ) (flags : ℕ) (known : Names) (inner : Inner) (opened : Names) (at : ℕ) → Inward s inner → at ≤ length s → Given (alternation s flags known inner opened at) (Upto s)
