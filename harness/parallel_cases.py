@@ -13,6 +13,7 @@ import shutil
 import signal
 import subprocess
 import sys
+import time
 from pathlib import Path
 
 from cases import Cases
@@ -24,22 +25,20 @@ LINES = 20000
 # No command of these cases takes nearly so long.
 SECONDS = 40
 
-# What stands in for ssh: as with OpenSSH, the command is a text for the user's shell, and the standard input of what it starts is a socket.
+# What stands in for ssh: the command is a text for the user's shell, started at home with an environment of its own, and what is read goes through a pipe.
 SSH = r'''#!%(python)s
-import os, socket, subprocess, sys
+import os, subprocess, sys
 words = [word for word in sys.argv[1:] if word != "--"]
 home = %(hosts)r + "/" + words[0]
 if os.path.exists(home + "/unreachable"):
     print("ssh: connect to host", words[0], "port 22: No route to host", file=sys.stderr)
     sys.exit(255)
-ours, theirs = socket.socketpair()
 there = {"HOME": home, "PATH": open(home + "/path").read(), "SHELL": "/bin/bash", "LANG": "C"}
-started = subprocess.Popen(["/bin/bash", "-c", " ".join(words[1:])], cwd=home, env=there, stdin=theirs)
-theirs.close()
+started = subprocess.Popen(["/bin/bash", "-c", " ".join(words[1:])], cwd=home, env=there, stdin=subprocess.PIPE, bufsize=0)
 try:
     while data := os.read(0, 65536):
-        ours.sendall(data)
-    ours.shutdown(socket.SHUT_WR)
+        started.stdin.write(data)
+    started.stdin.close()
 except BrokenPipeError:
     pass
 status = started.wait()
@@ -89,6 +88,19 @@ def odd_lines(seed):
     return b"\n".join(lines)
 
 
+def sessions():
+    """The sessions of all processes that have not ended."""
+    found = set()
+    for file in Path("/proc").glob("[0-9]*/stat"):
+        try:
+            state, _, _, session = file.read_text(errors="replace").rsplit(")", 1)[1].split()[:4]
+        except OSError:
+            continue
+        if state != "Z":
+            found.add(int(session))
+    return found
+
+
 class Spreads(Cases):
     def __init__(self):
         super().__init__(PROGRAMS / "gateway")
@@ -96,10 +108,10 @@ class Spreads(Cases):
         self.told, self.commands = commands()
         self.first = self.top / "first"
         self.hosts = self.top / "hosts"
-        for folder in (self.first, self.hosts, self.top / "home"):
+        for folder in (self.first, self.hosts, self.top / "home", self.top / "tmp"):
             folder.mkdir()
         plain = {name: value for name, value in os.environ.items() if not name.startswith("PARALLEL")}
-        self.env = {**plain, "HOME": str(self.top / "home"), "PATH": "%s:%s:%s" % (self.first, PROGRAMS, os.environ["PATH"]), "SHELL": "/bin/bash"}
+        self.env = {**plain, "HOME": str(self.top / "home"), "TMPDIR": str(self.top / "tmp"), "PATH": "%s:%s:%s" % (self.first, PROGRAMS, os.environ["PATH"]), "SHELL": "/bin/bash"}
         self.number = 0
 
     def day(self, data, rule=RULE):
@@ -134,6 +146,10 @@ class Spreads(Cases):
             os.killpg(ran.pid, signal.SIGKILL)
             out, said = ran.communicate()
             said += b"no end after %d seconds\n" % SECONDS
+        # where parallel was killed, its processes may still have a part to write
+        end = time.monotonic() + SECONDS
+        while ran.pid in sessions() and time.monotonic() < end:
+            time.sleep(0.05)
         return ran.returncode, out.decode("latin1"), said.decode("latin1")
 
     def quietly(self, name, command, **options):
@@ -238,8 +254,8 @@ def rules(t):
         t.same(name + ", what is seen", t.do("check")[1].split("\n")[:2], ["day.txt:%d" % LINES, "day.answers:3"])
 
 
-def put_together(t, name):
-    t.quietly(name, "again")
+def put_together(t, name, **options):
+    t.quietly(name, "again", **options)
     t.written(name + ", answers", "day.answers", t.one_run("gateway"))
 
 
@@ -262,6 +278,11 @@ def parts(t):
     Path("parts/2").unlink()
     gap(t, "a file that is gone")
     t.same("a file that is gone, files", sorted(path.name for path in Path("parts").iterdir() if path.name.isdigit()), [name for name in before if name != "2"])
+
+    t.day(b"".join(b"tank A1: %d L\n" % number for number in range(LINES)))
+    t.quietly("more than nine parts", "parts", block="20K")
+    t.same("more than nine parts, how many", str(len(t.rows("parts/log")) > 9), "True")
+    put_together(t, "more than nine parts", block="20K")
 
     t.day(ODD)
     t.kill("gateway", 3, 1)
