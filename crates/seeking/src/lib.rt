@@ -9,7 +9,7 @@ mod straight;
 use machine::Stop;
 use machine::start;
 use openings::next_start;
-use straight::straight;
+use straight::fails_soon;
 use walker::run_to_end;
 ghost use mathlib.Core.Path.{_≡_};
 ghost use mathlib.Core.List.{List, []};
@@ -49,7 +49,7 @@ fn try_start(
     ensures { λ r. ⌜ ((first : List ℕ) (t : Trace) → Ready (now (code .entry)) (now (subject .entry)) (length (now (work .entry))) budget first (go entry begin (now (regs .entry)) []) t
         → Agrees (now (code .entry)) (now (subject .entry)) (length (now (work .entry))) budget first (now (regs .exit)) (now (work .exit)) (until budget 0 t) r) ⌝ }
 {
-    let used = straight(code, subject, entry, begin, budget);
+    let used = fails_soon(code, subject, entry, begin, budget);
     if 0 < used {
         return Stop::Nothing(used);
     }

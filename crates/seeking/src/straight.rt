@@ -3,6 +3,7 @@
 // The way leads from the rule's first node over byte items, assertions and openings of groups, as long as each of them holds. Nothing is left to try on it,
 // so that a node that fails there ends the start, after as many steps as there were nodes. Where nearly every byte can begin a rule, or where it begins
 // with `\b`, most starts end so, and to make the machine ready for each would take longer than its steps.
+use machine::BRANCH;
 use machine::BYTE;
 use machine::RUN;
 use nodes::assertion_holds;
@@ -18,6 +19,9 @@ const OPEN: u32 = 3;
 
 // The longest node, a byte item: its class is the last eight numbers.
 const NODE_LENGTH: usize = 11;
+
+// How many nodes of a straight way are looked at. A start that fails mostly does so at the first few, and all that is looked at of another is walked again.
+const LOOKS: u32 = 4;
 
 // What is seen of a node at a position: it fails after so many steps; or it is one step on the way to another node and position; or it is no node of a
 // straight way.
@@ -97,7 +101,7 @@ fn look(code: &[u32], sub: &[u8], pc: u32, at: u32) -> Seen
 
 // The steps after which the start at `begin` fails on its straight way, within the budget; 0 where it is not seen to. The first start of a line is not looked
 // at: many rules match there or nowhere, and a look would be for nothing.
-pub fn straight(code: &[u32], sub: &[u8], entry: u32, begin: u32, budget: u32) -> u32
+fn straight(code: &[u32], sub: &[u8], entry: u32, begin: u32, budget: u32) -> u32
     requires { ⌜ length (now sub) < 2 ^ 32 ⌝ }
     ensures { λ r. ⌜ (1 ≤ r → (r ≤ budget) × Fails (now (code .entry)) (now (sub .entry)) begin entry r) ⌝ }
 {
@@ -124,4 +128,22 @@ pub fn straight(code: &[u32], sub: &[u8], entry: u32, begin: u32, budget: u32) -
         }
     }
     0
+}
+
+// The steps after which the start at `begin` is seen to fail, within the budget; 0 where it is not. A rule that begins with branches has no straight way.
+pub fn fails_soon(code: &[u32], sub: &[u8], entry: u32, begin: u32, budget: u32) -> u32
+    requires { ⌜ length (now sub) < 2 ^ 32 ⌝ }
+    ensures { λ r. ⌜ (1 ≤ r → (r ≤ budget) × Fails (now (code .entry)) (now (sub .entry)) begin entry r) ⌝ }
+{
+    let node = entry as usize;
+    if code.len() <= node {
+        return 0;
+    }
+    if code[node] == BRANCH {
+        return 0;
+    }
+    if budget < LOOKS {
+        return straight(code, sub, entry, begin, budget);
+    }
+    straight(code, sub, entry, begin, LOOKS)
 }

@@ -8,14 +8,14 @@ use borrow.Author.Needs.{needs}
 use Rattle.seeking.proofs.try_start.Statement.{statement}
 use Rattle.seeking.proofs.try_start.Tie as tie
 
-straight-requires : tie.Need-straight-requires
-straight-requires c κs = search needs
+fails-soon-requires : tie.Need-fails-soon-requires
+fails-soon-requires c κs = search needs
 
 returns : tie.Need-returns
 unfolding replay
 returns c =
-    let f = c .before .straight .ensures (omega (arith, c .if1 .taken)) in
-    λ first t ready. rw (fails-until (now (c .before .before .before .before .before .before .args .code)) (now (c .before .before .before .before .before .before .args .subject)) (c .before .before .before .before .before .before .args .entry) (c .before .before .before .before .before .before .args .begin) (c .before .straight .result) (length (now (c .before .before .before .before .before .before .args .work))) (c .before .before .before .before .before .before .args .budget) first (now (c .before .before .before .before .before .before .args .regs)) t (f .1) (f .0) ready) (allTried (f .0) (ready .back))
+    let f = c .before .fails-soon .ensures (omega (arith, c .if1 .taken)) in
+    λ first t ready. rw (fails-until (now (c .before .before .before .before .before .before .args .code)) (now (c .before .before .before .before .before .before .args .subject)) (c .before .before .before .before .before .before .args .entry) (c .before .before .before .before .before .before .args .begin) (c .before .fails-soon .result) (length (now (c .before .before .before .before .before .before .args .work))) (c .before .before .before .before .before .before .args .budget) first (now (c .before .before .before .before .before .before .args .regs)) t (f .1) (f .0) ready) (allTried (f .0) (ready .back))
 
 start-requires : tie.Need-start-requires
 start-requires c κs = search needs
@@ -36,7 +36,7 @@ pub try-start-spec : {M : Type 1} → statement M
 try-start-spec =
     tie.close
     (tie.spec
-    straight-requires
+    fails-soon-requires
     returns
     start-requires
     run-to-end-requires
