@@ -201,11 +201,11 @@ impl Compared<'_> {
         let classes = [(shape.has_unrolled_empty_round, Class::Unrolled), (shape.has_skipped_start, Class::SkippedStart)];
         classes.into_iter().find(|(marked, _)| *marked).map(|(_, class)| class)
     }
+}
 
-    /// The class of a rule that PCRE2 refuses with this error.
-    pub fn pcre2_refusal_class(&self, error: i32) -> Option<Class> {
-        (error == PCRE2_NAMED_SET_OUTSIDE && self.case.rule.windows(2).any(|pair| pair == b"[:")).then_some(Class::ColonClass)
-    }
+/// The class of a rule that PCRE2 refuses with this error.
+pub fn pcre2_refusal_class(rule: &[u8], error: i32) -> Option<Class> {
+    (error == PCRE2_NAMED_SET_OUTSIDE && rule.windows(2).any(|pair| pair == b"[:")).then_some(Class::ColonClass)
 }
 
 /// The rule with some of its escapes and bytes written otherwise: each backslash is handed over with the byte behind it, any other byte alone.

@@ -5,7 +5,7 @@
 use harness::arguments::arguments_and_switches;
 use harness::case::{shown, shown_row, Case};
 use harness::contender::Contender;
-use harness::differences::{Compared, SetAside};
+use harness::differences::{pcre2_refusal_class, Compared, SetAside};
 use harness::independent::{self, Answer, Ending, Row};
 use harness::pcre2::{Found, Loop, Pattern};
 use harness::random::shared::{self, Shared};
@@ -82,7 +82,7 @@ impl Tester {
         let compared = Compared { case };
         // The library is held to what PCRE2 answers without what it does beyond document 02.
         match (theirs(asked, case, &compared.plain_rule()), compared.pcre2_class()) {
-            (Err(error), _) => self.refused(case, &compared, error),
+            (Err(error), _) => self.refused(case, error),
             (Ok(None), _) => self.left_out += 1,
             (Ok(Some(results)), _) if results == ours => self.agreed(case, &compared, &ours),
             (_, Some(class)) => self.aside.count(class),
@@ -103,8 +103,8 @@ impl Tester {
         }
     }
 
-    fn refused(&mut self, case: &Shared, compared: &Compared, error: i32) {
-        match compared.pcre2_refusal_class(error) {
+    fn refused(&mut self, case: &Shared, error: i32) {
+        match pcre2_refusal_class(&case.rule, error) {
             Some(class) => self.aside.count(class),
             None => self.group.fail(&format!("PCRE2 refuses `{}` with its error {error}", text::escaped(&case.rule))),
         }

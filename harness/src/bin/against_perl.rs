@@ -6,7 +6,7 @@
 use harness::arguments::arguments_and_switches;
 use harness::case::{shown, shown_row, Case};
 use harness::contender::Contender;
-use harness::differences::{Class, Compared, SetAside};
+use harness::differences::{pcre2_refusal_class, Class, Compared, SetAside};
 use harness::independent::{self, Ending, Row};
 use harness::pcre2::{Found, Loop, Pattern};
 use harness::perl::{self, Answer, Charset, Fields, Question};
@@ -192,7 +192,7 @@ impl Tester {
         let found = match Pattern::new(&compared.plain_rule(), case.flags) {
             Ok(pattern) if self.call == Call::Match => pattern.first(&case.subject),
             Ok(pattern) => pattern.successive(&case.subject, Loop::Plain),
-            Err(error) => return compared.pcre2_refusal_class(error).is_some(),
+            Err(error) => return pcre2_refusal_class(&case.rule, error).is_some(),
         };
         let sides = found == Found::Rows(ours.to_vec());
         self.confirmed += u64::from(sides);

@@ -2,7 +2,7 @@
 //! here for a name, with 12, 13, 25 or 26, the others refuse too, and what is sound here they take; a difference has to have the marks of a known class.
 
 use harness::arguments::arguments;
-use harness::differences::{name_class, Class, Other, SetAside};
+use harness::differences::{name_class, pcre2_refusal_class, Class, Other, SetAside};
 use harness::independent::tree::Rule;
 use harness::independent::{self, Refusal};
 use harness::pcre2::Pattern;
@@ -62,7 +62,8 @@ impl Judged {
     /// The class of a difference from another matcher.
     fn class(&self, other: Other) -> Option<Class> {
         match &self.read {
-            Ok(tree) => (other == Other::Perl && shape(tree).has_repeated_empty_class).then_some(Class::EmptyClass),
+            Ok(tree) if other == Other::Perl => shape(tree).has_repeated_empty_class.then_some(Class::EmptyClass),
+            Ok(_) => pcre2_refusal_class(&self.rule, Pattern::new(&self.rule, self.flags).err()?),
             Err(refusal) => name_class(&self.rule, *refusal, other),
         }
     }
