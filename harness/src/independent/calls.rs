@@ -130,9 +130,9 @@ pub fn steps_at(call: Call, rule: &Rule, subject: &[u8], start: usize, budget: u
     walked(call, rule, subject, start, budget).steps
 }
 
-/// The steps before and behind each reference that a call tries at one start.
-pub fn references_at(call: Call, rule: &Rule, subject: &[u8], start: usize, budget: u64) -> Vec<(u64, u64)> {
-    walked(call, rule, subject, start, budget).references
+/// The steps before and behind each reference that a call tries at one start, and each part that looks ahead or holds on.
+pub fn stretches_at(call: Call, rule: &Rule, subject: &[u8], start: usize, budget: u64) -> Vec<(u64, u64)> {
+    walked(call, rule, subject, start, budget).stretches
 }
 
 fn walked<'r>(call: Call, rule: &'r Rule, subject: &'r [u8], start: usize, budget: u64) -> Walk<'r> {

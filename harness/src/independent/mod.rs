@@ -18,7 +18,7 @@ mod walk;
 
 pub use batch::{lines, Part, PART_LENGTH};
 pub use calls::{
-    answer, references_at, steps_at, Answer, Ending, Inputs, Row, Walks, LONGEST_RULE, LONGEST_SUBJECT, ROW_LENGTH, RULE_AREA, UNSET, WORK_PER_STEP,
+    answer, steps_at, stretches_at, Answer, Ending, Inputs, Row, Walks, LONGEST_RULE, LONGEST_SUBJECT, ROW_LENGTH, RULE_AREA, UNSET, WORK_PER_STEP,
 };
 pub use explain::{Attempt, Explanation};
 pub use names::{named, Index, ENTRY_LENGTH, INDEX_LENGTH, LONGEST_NAME};

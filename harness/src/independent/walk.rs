@@ -39,8 +39,8 @@ pub struct Walk<'r> {
     folds: bool,
     budget: u64,
     pub steps: u64,
-    /// The steps before and behind each reference tried, for budgets that end within one.
-    pub references: Vec<(u64, u64)>,
+    /// The steps before and behind each reference tried, and each part that looks ahead or holds on, for budgets that end within one.
+    pub stretches: Vec<(u64, u64)>,
     /// The items that failed so far, in the order in which they were tried.
     pub misses: Vec<Miss>,
     /// Tries put off, the next one last; inside what looks ahead or holds on, those of its inside alone.
@@ -89,7 +89,7 @@ impl<'r> Walk<'r> {
     pub fn new(rule: &'r Rule, subject: &'r [u8], start: usize, budget: u64) -> Walk<'r> {
         let todo = push(Task::Branch(&rule.whole, 0), &None);
         let begin = State { at: start, spans: Rc::new(vec![None; rule.groups + 1]), todo };
-        Walk { subject, folds: rule.folds, budget, steps: 0, references: Vec::new(), misses: Vec::new(), pending: vec![begin] }
+        Walk { subject, folds: rule.folds, budget, steps: 0, stretches: Vec::new(), misses: Vec::new(), pending: vec![begin] }
     }
 
     /// Goes on until the rule's end is reached, the budget is used or nothing is left.
@@ -182,7 +182,12 @@ impl<'r> Walk<'r> {
                 state.todo = push(Task::Decide { repeat, rounds: 0, last_from: None }, &state.todo);
                 Ok(Tried::On(state))
             }
-            Part::Inner(inner) => self.enter(inner, state),
+            Part::Inner(inner) => {
+                let before = self.steps;
+                let tried = self.enter(inner, state);
+                self.stretches.push((before, self.steps));
+                tried
+            }
         }
     }
 
@@ -231,7 +236,7 @@ impl<'r> Walk<'r> {
             Kind::Reference(group) => {
                 let before = self.steps;
                 let tried = self.refer(*group, state);
-                self.references.push((before, self.steps));
+                self.stretches.push((before, self.steps));
                 tried
             }
         }

@@ -31,7 +31,7 @@ pub fn case(seed: u64, number: u64) -> Case {
     }
     let call = if rng.percent(50) { Call::Match } else { Call::List };
     let budget = match &tree {
-        Some(tree) if rng.percent(50) => within_reference(rng, call, tree, &subject).unwrap_or_else(|| budget(rng)),
+        Some(tree) if rng.percent(35) => within_stretch(rng, call, tree, &subject).unwrap_or_else(|| budget(rng)),
         _ => budget(rng),
     };
     let (rule_area, work_area, result_area) = areas(rng, budget);
@@ -40,11 +40,11 @@ pub fn case(seed: u64, number: u64) -> Case {
     Case { call, rule, flags, subject, budget, rule_area, work_area, result_area, name_index, marks }
 }
 
-/// The steps up to a reference that the call tries, or to one of the bytes that it compares; none where no reference is tried. Many compare no
-/// byte, so that it is mostly the longest.
-fn within_reference(rng: &mut Rng, call: Call, rule: &Rule, subject: &[u8]) -> Option<u32> {
+/// The steps up to a reference that the call tries, or to one of the bytes that it compares, or up to a part that looks ahead or holds on, or into it; none
+/// where no such is tried. Many references compare no byte, so that it is mostly the longest.
+fn within_stretch(rng: &mut Rng, call: Call, rule: &Rule, subject: &[u8]) -> Option<u32> {
     let start = if rng.percent(60) { 0 } else { rng.between(0, subject.len()) };
-    let tried = independent::references_at(call, rule, subject, start, 1_000);
+    let tried = independent::stretches_at(call, rule, subject, start, 1_000);
     let longest = tried.iter().max_by_key(|(before, behind)| behind - before)?;
     let (before, behind) = *if rng.percent(75) { longest } else { rng.pick(&tried) };
     Some((before + rng.number() % (behind - before + 2)) as u32)

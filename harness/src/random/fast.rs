@@ -2,7 +2,7 @@
 //! taken as one run, starts skipped because of their byte, branches passed over because of theirs, a listing's rows found again by an index, a
 //! reference's bytes compared in one go. Half of the calls are under `i`, `x` or both: what can begin, and what a run or a reference takes, then
 //! has letters of both cases. Most budgets are at an edge: the steps that the independent matcher counts for one start, or up to or
-//! within one reference, or a few more or less.
+//! within one reference or one part that looks ahead or holds on, or a few more or less.
 
 mod rules;
 mod subjects;
@@ -88,10 +88,10 @@ impl Starts<'_> {
         self.steps_at(rng.between(0, self.subject.len()))
     }
 
-    /// The steps before and behind each reference that is tried at a start, within as many steps.
-    fn references_at_any(&self, rng: &mut Rng) -> Vec<(u64, u64)> {
+    /// The steps before and behind each reference that is tried at a start, and each part that looks ahead or holds on, within as many steps.
+    fn stretches_at_any(&self, rng: &mut Rng) -> Vec<(u64, u64)> {
         let start = rng.between(0, self.subject.len());
-        independent::references_at(self.call, self.rule, self.subject, start, 500 + 4 * self.subject.len() as u64)
+        independent::stretches_at(self.call, self.rule, self.subject, start, 500 + 4 * self.subject.len() as u64)
     }
 
     /// The budget that is just enough for all starts up to one of them. Of a long line only some starts are looked at.
@@ -101,12 +101,12 @@ impl Starts<'_> {
     }
 }
 
-/// Mostly what some starts need, or a little beside it; where references are tried, often what leads up to one, into it or out of it. The
-/// shorter of two walks is often that of a start that cannot begin.
+/// Mostly what some starts need, or a little beside it; where references are tried, or parts that look ahead or hold on, often what leads up to one, into
+/// it or out of it. The shorter of two walks is often that of a start that cannot begin.
 fn budget(rng: &mut Rng, starts: &Starts) -> u32 {
-    let references = starts.references_at_any(rng);
-    if !references.is_empty() && rng.percent(50) {
-        let (before, behind) = *rng.pick(&references);
+    let stretches = starts.stretches_at_any(rng);
+    if !stretches.is_empty() && rng.percent(50) {
+        let (before, behind) = *rng.pick(&stretches);
         let within = before + rng.number() % (behind - before + 1);
         let steps = *rng.pick(&[before, within, behind]);
         return (steps + rng.number() % 3).saturating_sub(1) as u32;
