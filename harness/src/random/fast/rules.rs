@@ -1,5 +1,5 @@
 //! Rules by how they begin: with sets, groups, branches, repeats of every kind and places, alone and within each other. Under `x` blanks and
-//! comments stand before what begins and before its repeat. Nearly half of the rules look ahead or hold on.
+//! comments stand before what begins and before its repeat. Nearly a third of the rules look ahead or hold on.
 
 use crate::independent::FLAG_X;
 use crate::random::Rng;
