@@ -37,8 +37,10 @@ ghost use Rattle.machine.specs.Words.{stackOf, nowOf, movedOn};
 ghost use Rattle.machine.specs.Ready.{until, Several, Leads, RanBy, StackFits, Ready, Agrees};
 ghost use Rattle.walker.specs.Behind.{Told};
 
-// The kinds of a group's opening and of the end of a round.
+// The kinds of a group's opening, of the last branch and of the end of a round.
 const OPEN: u32 = 3;
+
+const LAST: u32 = 6;
 
 const ROUND_END: u32 = 8;
 
@@ -192,7 +194,9 @@ fn end_group(
         Behind::NoByte => leave_group(code, sub, regs, work, m, left),
     }
 }
-// Byte items one after the other: those whose bytes are there, and those that are fallen back to. They need no jump of the kind.
+
+// Byte items one after the other: those whose bytes are there, and those that are fallen back to. They need no jump of the kind. A last branch that is fallen
+// back to begins here: a fourth kind beside the three of `advance` would make the compiler jump by a table, which costs each of them more.
 fn take_bytes(
     code: &[u32],
     sub: &[u8],
@@ -226,7 +230,16 @@ fn take_bytes(
             return there;
         }
         let pc = next.pc as usize;
-        if code[pc] != BYTE {
+        let kind = code[pc];
+        if kind == LAST {
+            let body = begin_last_branch(code, next);
+            let one_less = rest - 1;
+            return Standing {
+                rest: one_less,
+                head: body,
+            };
+        }
+        if kind != BYTE {
             return there;
         }
         head = next;
@@ -262,7 +275,13 @@ fn advance(
             head: there,
         };
     }
-    let next = step(code, sub, regs, work, kind, m);
+    let own = Machine {
+        pc: m.pc,
+        at: m.at,
+        height: m.height,
+        live: m.live,
+    };
+    let next = step(code, sub, regs, work, kind, own);
     let rest = left - 1;
     Standing {
         rest: rest,
@@ -273,7 +292,9 @@ fn advance(
 // Walks on until it comes to an end or a node above it, the steps are used or nothing is left. It is a loop of its own, apart from these, so that
 // the compiler keeps in registers what each step needs. The steps are counted down, since one number is then enough, and the machine is made
 // anew from its fields wherever it is kept, here and in `run_to_end`, so that the seven bytes which only fill it up are not carried along: they would be
-// copied as two words that overlap, and each such copy waits until the stores of the one before it are done. That took half of a short walk's time.
+// copied as two words that overlap, and each such copy waits until the stores of the one before it are done. That took half of a short walk's time. It is
+// also made anew where a function is really called (`step`, `take_marked`): what is lent to a call stands in memory, and would be written there at each turn,
+// whatever its kind.
 fn walk(
     code: &[u32],
     sub: &[u8],
@@ -349,7 +370,13 @@ fn take_several(
     if kind == BREAK {
         return take_break(code, sub, regs, work, m, left);
     }
-    let next = take_marked(code, regs, work, kind, m);
+    let own = Machine {
+        pc: m.pc,
+        at: m.at,
+        height: m.height,
+        live: m.live,
+    };
+    let next = take_marked(code, regs, work, kind, own);
     Ran::Made(1, next)
 }
 

@@ -1,6 +1,6 @@
 -- `take_bytes` meets its contract. The loop's invariant: the steps used lead from the beginning to a byte item, and a step is left for it. The measure is
 -- the steps that are left.
-use mathlib.Core.Path.{_≡_, _∙_}
+use mathlib.Core.Path.{_≡_, refl, _∙_}
 use mathlib.Core.Bool.{true}
 use Prim.Native.Nat.{_≤_}
 use native.Mathlib.Omega.{arith}
@@ -66,46 +66,73 @@ returns-2 c =
 cast-pc : tie.Need-cast-pc Inv-loop μ-loop
 cast-pc c = search needs
 
-mul-if3 : tie.Need-mul-if3 Inv-loop μ-loop
-mul-if3 c =
+mul-kind : tie.Need-mul-kind Inv-loop μ-loop
+mul-kind c =
     let s = c .before .before .before .before .before .before .before .before .before .before .before .before .before .before .before .before in
     let l = c .before .before .before .before .before .before .before .before .before .before .before .loop .inv in
     let k = c .before .before .before .before .before .before .before .before .take-byte in
     let h = stepping-node (l .0) 0 (l .1) (l .2) (omega arith) (l .3) (k .last .1 .1 .0) (k .last .1 .1 .1 .0) (k .result) (k .ensures) (k .kept .1 .1 .0) (k .kept .1 .1 .1 .0) in
     omega (arith, stepping-fits h (not-false _ (c .before .before .if1 .left)) .here, s .pre .0 .5)
 
-shared-slice-read-if3 : tie.Need-shared-slice-read-if3 Inv-loop μ-loop
-shared-slice-read-if3 c =
+shared-slice-read-kind : tie.Need-shared-slice-read-kind Inv-loop μ-loop
+shared-slice-read-kind c =
     let s = c .before .before .before .before .before .before .before .before .before .before .before .before .before .before .before .before .before in
     let l = c .before .before .before .before .before .before .before .before .before .before .before .before .loop .inv in
     let k = c .before .before .before .before .before .before .before .before .before .take-byte in
     let h = stepping-node (l .0) 0 (l .1) (l .2) (omega arith) (l .3) (k .last .1 .1 .0) (k .last .1 .1 .1 .0) (k .result) (k .ensures) (k .kept .1 .1 .0) (k .kept .1 .1 .1 .0) in
     stepping-fits h (not-false _ (c .before .before .before .if1 .left)) .here
 
-same-length-5 : tie.Need-same-length-5 Inv-loop μ-loop
-same-length-5 c = c .before .before .before .before .before .before .before .before .before .before .take-byte .kept .1 .1 .0 ∙ c .before .before .before .before .before .before .before .before .before .before .before .before .before .loop .inv .0 .size
-
-same-length-6 : tie.Need-same-length-6 Inv-loop μ-loop
-same-length-6 c = c .before .before .before .before .before .before .before .before .before .before .take-byte .kept .1 .1 .1 .0 ∙ c .before .before .before .before .before .before .before .before .before .before .before .before .before .loop .inv .0 .wide
-
-returns-3 : tie.Need-returns-3 Inv-loop μ-loop
-returns-3 c =
+begin-last-branch-requires : tie.Need-begin-last-branch-requires Inv-loop μ-loop
+begin-last-branch-requires c κs =
     let s = c .before .before .before .before .before .before .before .before .before .before .before .before .before .before .before .before .before .before in
     let l = c .before .before .before .before .before .before .before .before .before .before .before .before .before .loop .inv in
     let k = c .before .before .before .before .before .before .before .before .before .before .take-byte in
+    let h = stepping-node (l .0) 0 (l .1) (l .2) (omega arith) (l .3) (k .last .1 .1 .0) (k .last .1 .1 .1 .0) (k .result) (k .ensures) (k .kept .1 .1 .0) (k .kept .1 .1 .1 .0) in
+    fits-at (now (s .args .code)) _ 6 (c .if3 .taken) (stepping-fits h (not-false _ (c .before .before .before .before .if1 .left)))
+
+sub-one-less : tie.Need-sub-one-less Inv-loop μ-loop
+sub-one-less c = omega (arith, c .before .before .before .before .if2 .left)
+
+same-length-5 : tie.Need-same-length-5 Inv-loop μ-loop
+same-length-5 c = c .before .before .before .before .before .before .before .before .before .before .before .take-byte .kept .1 .1 .0 ∙ c .before .before .before .before .before .before .before .before .before .before .before .before .before .before .loop .inv .0 .size
+
+same-length-6 : tie.Need-same-length-6 Inv-loop μ-loop
+same-length-6 c = c .before .before .before .before .before .before .before .before .before .before .before .take-byte .kept .1 .1 .1 .0 ∙ c .before .before .before .before .before .before .before .before .before .before .before .before .before .before .loop .inv .0 .wide
+
+returns-3 : tie.Need-returns-3 Inv-loop μ-loop
+returns-3 c =
+    let s = c .before .before .before .before .before .before .before .before .before .before .before .before .before .before .before .before .before .before .before in
+    let l = c .before .before .before .before .before .before .before .before .before .before .before .before .before .before .loop .inv in
+    let k = c .before .before .before .before .before .before .before .before .before .before .before .take-byte in
+    let h = stepping-node (l .0) 0 (l .1) (l .2) (omega arith) (l .3) (k .last .1 .1 .0) (k .last .1 .1 .1 .0) (k .result) (k .ensures) (k .kept .1 .1 .0) (k .kept .1 .1 .1 .0) in
+    let b = c .begin-last-branch in
+    let z = stepping-node h 6 (not-false _ (c .before .before .before .before .before .if1 .left)) (c .before .if3 .taken) (omega arith) (omega (arith, c .before .before .before .before .if2 .left)) (k .last .1 .1 .0) (k .last .1 .1 .1 .0) (b .result) (b .ensures (now (s .args .sub)) (k .last .1 .1 .0) (k .last .1 .1 .1 .0)) refl refl in
+    (omega (arith, l .0 .few, l .3), z .leads)
+
+same-length-7 : tie.Need-same-length-7 Inv-loop μ-loop
+same-length-7 c = c .before .before .before .before .before .before .before .before .before .before .before .take-byte .kept .1 .1 .0 ∙ c .before .before .before .before .before .before .before .before .before .before .before .before .before .before .loop .inv .0 .size
+
+same-length-8 : tie.Need-same-length-8 Inv-loop μ-loop
+same-length-8 c = c .before .before .before .before .before .before .before .before .before .before .before .take-byte .kept .1 .1 .1 .0 ∙ c .before .before .before .before .before .before .before .before .before .before .before .before .before .before .loop .inv .0 .wide
+
+returns-4 : tie.Need-returns-4 Inv-loop μ-loop
+returns-4 c =
+    let s = c .before .before .before .before .before .before .before .before .before .before .before .before .before .before .before .before .before .before .before in
+    let l = c .before .before .before .before .before .before .before .before .before .before .before .before .before .before .loop .inv in
+    let k = c .before .before .before .before .before .before .before .before .before .before .before .take-byte in
     let h = stepping-node (l .0) 0 (l .1) (l .2) (omega arith) (l .3) (k .last .1 .1 .0) (k .last .1 .1 .1 .0) (k .result) (k .ensures) (k .kept .1 .1 .0) (k .kept .1 .1 .1 .0) in
     (omega (arith, l .0 .few, l .3), h .leads)
 
 loop-less : tie.Need-loop-less Inv-loop μ-loop
-loop-less c = omega (arith, c .before .before .before .before .before .before .before .before .before .before .before .before .before .loop .inv .3)
+loop-less c = omega (arith, c .before .before .before .before .before .before .before .before .before .before .before .before .before .before .loop .inv .3)
 
 loop-again : tie.Need-loop-again Inv-loop μ-loop
 loop-again c =
-    let s = c .before .before .before .before .before .before .before .before .before .before .before .before .before .before .before .before .before .before in
-    let l = c .before .before .before .before .before .before .before .before .before .before .before .before .before .loop .inv in
-    let k = c .before .before .before .before .before .before .before .before .before .before .take-byte in
+    let s = c .before .before .before .before .before .before .before .before .before .before .before .before .before .before .before .before .before .before .before in
+    let l = c .before .before .before .before .before .before .before .before .before .before .before .before .before .before .loop .inv in
+    let k = c .before .before .before .before .before .before .before .before .before .before .before .take-byte in
     let h = stepping-node (l .0) 0 (l .1) (l .2) (omega arith) (l .3) (k .last .1 .1 .0) (k .last .1 .1 .1 .0) (k .result) (k .ensures) (k .kept .1 .1 .0) (k .kept .1 .1 .1 .0) in
-    (h, not-false _ (c .before .before .before .before .if1 .left), c .if3 .left, omega (arith, c .before .before .before .if2 .left))
+    (h, not-false _ (c .before .before .before .before .before .if1 .left), c .if4 .left, omega (arith, c .before .before .before .before .if2 .left))
 
 pub take-bytes-spec : {M : Type 1} → statement M
 take-bytes-spec =
@@ -123,10 +150,15 @@ take-bytes-spec =
     same-length-4
     returns-2
     cast-pc
-    mul-if3
-    shared-slice-read-if3
+    mul-kind
+    shared-slice-read-kind
+    begin-last-branch-requires
+    sub-one-less
     same-length-5
     same-length-6
     returns-3
+    same-length-7
+    same-length-8
+    returns-4
     loop-less
     loop-again)
