@@ -16,8 +16,8 @@ const LINES: usize = 200_000;
 /// Passes over all cases; the shortest time of each counts.
 const PASSES: usize = 3;
 
-/// The seconds of one case: the library's and PCRE2's.
-type Times = [f64; 2];
+/// The seconds of one case: the library's, PCRE2's, and PCRE2's with its answers kept as the library keeps them.
+type Times = [f64; 3];
 
 /// The gateway's rules, each on so many lines.
 pub fn gateway(lines: usize) -> Vec<Case> {
@@ -36,18 +36,18 @@ fn batch(case: Case, lines: usize) -> Case {
 }
 
 pub fn print() {
-    println!("| {} lines of | Library | a line | PCRE2 compiled once, lines by `memchr` | a line | Library / PCRE2 |", grouped(LINES as u64));
+    println!("| {} lines of | Library | PCRE2 compiled once, lines by `memchr` | its answers kept | Library / PCRE2 | / PCRE2, answers kept |", grouped(LINES as u64));
     println!("|---|---|---|---|---|---|");
     let cases = gateway(LINES);
     let mut all: Vec<Times> = cases.iter().map(measure).collect();
     for _ in 1..PASSES {
         for (times, again) in all.iter_mut().zip(cases.iter().map(measure)) {
-            *times = [times[0].min(again[0]), times[1].min(again[1])];
+            *times = std::array::from_fn(|i| times[i].min(again[i]));
         }
     }
-    for (case, [ours, theirs]) in cases.iter().zip(all) {
-        let a_line = |seconds: f64| time(seconds / LINES as f64);
-        let cells = [case.name.clone(), time(ours), a_line(ours), time(theirs), a_line(theirs), digits(ours / theirs)];
+    for (case, [ours, theirs, kept]) in cases.iter().zip(all) {
+        let a_line = |seconds: f64| format!("{} a line", time(seconds / LINES as f64));
+        let cells = [case.name.clone(), a_line(ours), a_line(theirs), a_line(kept), digits(ours / theirs), digits(ours / kept)];
         println!("| {} |", cells.join(" | "));
     }
 }
@@ -56,8 +56,9 @@ pub fn print() {
 fn measure(case: &Case) -> Times {
     let (library, rival) = (RefCell::new(Library::new(case)), OverLines::new(case));
     assert!(found(library.borrow_mut().reply(&case.subject).0) == rival.rows(), "PCRE2 finds something else: {}", case.name);
-    let times = shortest(&mut [Box::new(|| library.borrow_mut().call(&case.subject)), Box::new(|| rival.call())]);
-    [times[0], times[1]]
+    let mut parts = vec![1; LINES * PART_LENGTH];
+    let times = shortest(&mut [Box::new(|| library.borrow_mut().call(&case.subject)), Box::new(|| rival.call()), Box::new(|| rival.keep(&mut parts))]);
+    [times[0], times[1], times[2]]
 }
 
 /// The row of each line, or none where it is not matched.

@@ -6,6 +6,7 @@ use std::ptr::null_mut;
 
 use crate::bench::collector::{collect, Collector};
 use crate::bench::{Case, Reply};
+use crate::independent::{Row, PART_LENGTH, ROW_LENGTH};
 use crate::pcre2::sys::*;
 use crate::pcre2::{closing, options_of, row};
 use crate::raw::Call;
@@ -75,7 +76,7 @@ impl<'c> Rival<'c> {
             (NO_MATCH, None) => Reply::Rows(Vec::new()),
             (MATCH_LIMIT_REACHED, _) => Reply::GaveUp,
             (error, _) if error < 0 => panic!("PCRE2's error {error} in a case of the benchmark"),
-            _ => Reply::Rows(compiled.first_row()),
+            _ => Reply::Rows(compiled.first_row().to_vec()),
         }
     }
 
@@ -136,10 +137,22 @@ impl<'c> OverLines<'c> {
         black_box(matched);
     }
 
+    /// As `call`, and keeps what was found: a part for each line, as the library writes it, but for the steps.
+    pub fn keep(&self, parts: &mut [u32]) {
+        let mut parts = parts.chunks_exact_mut(PART_LENGTH);
+        self.each(|end| {
+            let part = parts.next().expect("a part for each line");
+            if end >= 0 {
+                part[..ROW_LENGTH].copy_from_slice(&self.compiled.first_row());
+            }
+            part[ROW_LENGTH..].copy_from_slice(&[u32::from(end < 0), 0, 0, 0]);
+        });
+    }
+
     /// The row of each line, or none where it is not matched.
     pub fn rows(&self) -> Vec<Option<Vec<u32>>> {
         let mut rows = Vec::new();
-        self.each(|end| rows.push((end >= 0).then(|| self.compiled.first_row())));
+        self.each(|end| rows.push((end >= 0).then(|| self.compiled.first_row().to_vec())));
         rows
     }
 }
@@ -166,13 +179,13 @@ impl Compiled {
     }
 
     /// The row of the match that was just made.
-    fn first_row(&self) -> Vec<u32> {
+    fn first_row(&self) -> Row {
         // Safety: after a match the vector holds as many pairs as it counts.
         let offsets = unsafe {
             let pairs = pcre2_get_ovector_count_8(self.data) as usize;
             std::slice::from_raw_parts(pcre2_get_ovector_pointer_8(self.data), 2 * pairs)
         };
-        row(offsets[0], offsets[1], &offsets[2..]).to_vec()
+        row(offsets[0], offsets[1], &offsets[2..])
     }
 }
 
