@@ -13,13 +13,14 @@ use Rattle.syntax.specs.declared.Most.{Most}
 use Rattle.syntax.specs.declared.Reason.{Reason}
 use Rattle.syntax.specs.declared.Reason.the-variants.{HeldOrLook, TooManyBranches}
 use Rattle.syntax.specs.Limits.{byteLimit, rowLength}
-use Rattle.syntax.specs.Tree.{Rule, empty, item, seq, alt, group, repeat, held, look, Branches, one, also}
+use Rattle.syntax.specs.Tree.{Rule, empty, item, seq, alt, group, repeat, held, look, Branches, one, also, branchCount}
+use Rattle.syntax.specs.Checkable.{unfollowed, crowded}
 use Rattle.semantics.specs.States.{branch, code, State, starting, chose, Row, row}
 use Rattle.semantics.specs.Items.{toll}
-use Rattle.semantics.specs.Derivations.{branchCount, Rounds, stop, turn, Derives, Picks, Derivation}
+use Rattle.semantics.specs.Derivations.{Rounds, stop, turn, Derives, Picks, Derivation}
 use Rattle.semantics.specs.Calls.{Call, Return}
 use Rattle.semantics.specs.Proposals.{Trail, stepThen, arrives, strays, pathOf, aReading, noReading, exhausts, Check}
-use Rattle.semantics.specs.Checks.{unfollowed, crowded, CheckOutcome, AReading, NoReading, CheckExhausted, CheckRefused, checkCall}
+use Rattle.semantics.specs.Checks.{CheckOutcome, AReading, NoReading, CheckExhausted, CheckRefused, checkCall}
 use Rattle.semantics.specs.Demands.{In, Start, Fault, Refuses, Accepted, Written, Regular, RowFacts}
 
 -- The steps of a derivation -----------------------------------------------------------

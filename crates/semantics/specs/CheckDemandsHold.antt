@@ -6,10 +6,11 @@ use Prim.Native.Nat.{ℕ, _≤_}
 use lib.ListN.{length}
 use Rattle.syntax.specs.Limits.{rowLength}
 use Rattle.syntax.specs.Tree.{Rule}
+use Rattle.syntax.specs.Checkable.{unfollowed, crowded}
 use Rattle.semantics.specs.States.{Row}
 use Rattle.semantics.specs.Calls.{Call, Return, ListOutcome, room}
 use Rattle.semantics.specs.Proposals.{exhausts, check}
-use Rattle.semantics.specs.Checks.{unfollowed, crowded, CheckOutcome, checkCall}
+use Rattle.semantics.specs.Checks.{CheckOutcome, checkCall}
 use Rattle.semantics.specs.Demands.{In, Accepted, Reading, ListAnswers}
 use Rattle.semantics.specs.CheckDemands.{CheckDemand, CheckDemands, Proposed}
 use Rattle.semantics.specs.Laws.Refusals.{subject-enough}

@@ -9,15 +9,10 @@ use Prim.Native.Nat.{ℕ, suc}
 use lib.Dec.{eqb}
 use Rattle.syntax.specs.declared.Greed.{Greed}
 use Rattle.syntax.specs.declared.Most.{Most}
-use Rattle.syntax.specs.Tree.{Rule, empty, item, seq, alt, group, repeat, held, look, Branches, one, also}
+use Rattle.syntax.specs.Tree.{Rule, empty, item, seq, alt, group, repeat, held, look, Branches, one, also, branchCount}
 use Rattle.semantics.specs.States.{branch, again, goOn, Before, State, starting, chose, moved, closed}
 use Rattle.semantics.specs.Items.{goes, try}
 use Rattle.semantics.specs.Repeats.{Next, round, leave, either, decision}
-
--- how many branches there are: the number of the next one
-unfoldable pub branchCount : Branches → ℕ
-branchCount (one a) = 1
-branchCount (also bs bar b) = suc (branchCount bs)
 
 -- a decision at s begins a round at t
 abbrev pub Again : Next → State → State → Type 0

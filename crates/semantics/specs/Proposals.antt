@@ -8,11 +8,10 @@ use lib.Dec.{eqb, leb}
 use Rattle.syntax.specs.declared.Greed.{Greed}
 use Rattle.syntax.specs.declared.Most.{Most}
 use Rattle.syntax.specs.Read.{if_then_else_}
-use Rattle.syntax.specs.Tree.{Rule, empty, item, seq, alt, group, repeat, held, look, Branches, one, also}
+use Rattle.syntax.specs.Tree.{Rule, empty, item, seq, alt, group, repeat, held, look, Branches, one, also, branchCount}
 use Rattle.semantics.specs.States.{branch, again, goOn, State, starting, chose, closed}
 use Rattle.semantics.specs.Items.{Tried, fails, goes, toll, try}
 use Rattle.semantics.specs.Repeats.{Next, round, leave, either, decision}
-use Rattle.semantics.specs.Derivations.{branchCount}
 
 -- Paths --------------------------------------------------------------------------
 

@@ -9,11 +9,10 @@ use lib.Dec.{eqb}
 use Rattle.syntax.specs.declared.Greed.{Greed}
 use Rattle.syntax.specs.declared.Greed.the-variants.{Greedy, Lazy}
 use Rattle.syntax.specs.declared.Most.{Most}
-use Rattle.syntax.specs.Tree.{Rule, empty, item, seq, alt, group, repeat, held, look, Branches, one, also}
+use Rattle.syntax.specs.Tree.{Rule, empty, item, seq, alt, group, repeat, held, look, Branches, one, also, branchCount}
 use Rattle.semantics.specs.States.{branch, again, goOn, State, starting, chose, moved, closed}
 use Rattle.semantics.specs.Items.{Tried, fails, goes, toll, try}
 use Rattle.semantics.specs.Repeats.{Next, round, leave, either, decision}
-use Rattle.semantics.specs.Derivations.{branchCount}
 
 infixl 60 _▹_
 -- "One step each: a byte item tried, a place tried, a reference tried, a capturing group opened, one closed, a branch begun (two or more

@@ -27,6 +27,7 @@ use mathlib.Core.Path.{_≡_}
 use mathlib.Core.Bool.{Bool, true, false}
 use mathlib.Core.List.{List}
 use mathlib.Core.Logic.{_⊎_}
+use mathlib.Core.Option.{Option, none, some}
 use Prim.Native.Nat.{ℕ, _+_, _≤_, _<_}
 use lib.ListN.{getD, drop}
 use Rattle.syntax.specs.declared.Assertion.{Assertion}
@@ -42,6 +43,11 @@ use Rattle.syntax.specs.Tree.{Item, byteIn, assert, reference, Rule, emp
 use Rattle.syntax.specs.WellFormed.{BoundsFit}
 
 -- Numbers for what is no number -----------------------------------------------
+
+-- a place that may have been found: one more than it, and 0 for none
+unfoldable pub marked : Option ℕ → ℕ
+marked none = 0
+marked (some place) = place + 1
 
 unfoldable pub assertionWord : Assertion → ℕ
 assertionWord TextStart = 0

@@ -7,4 +7,5 @@ pub mod Formation
 pub mod Names
 pub mod Places
 pub mod Profile
+pub mod Checkable
 pub mod ClassTest

@@ -15,6 +15,7 @@ pub mod Quantifiers
 pub mod Grammar
 pub mod Lengths
 pub mod Reading
+pub mod Checkable
 pub mod WellFormed
 pub mod Compiled
 pub mod Laws

@@ -16,13 +16,13 @@ use Rattle.syntax.specs.declared.Greed.the-variants.{Greedy}
 use Rattle.syntax.specs.declared.Most.{Most}
 use Rattle.syntax.specs.Limits.{spansLength, slot, registers}
 use Rattle.syntax.specs.Read.{if_then_else_}
-use Rattle.syntax.specs.Tree.{Item, byteIn, assert, reference, Rule, empty, item, seq, alt, group, repeat, held, look, Branches, one, also}
+use Rattle.syntax.specs.Tree.{Item, byteIn, assert, reference, Rule, empty, item, seq, alt, group, repeat, held, look, Branches, one, also, branchCount}
 use Rattle.syntax.specs.WellFormed.{BoundsFit}
 use Rattle.syntax.specs.Compiled.{RunOf, CompiledItem, Compiled, CompiledBranches}
 use Rattle.semantics.specs.States.{branch, again, goOn, State, starting, chose, closed}
 use Rattle.semantics.specs.Items.{Tried, fails, goes, toll, try}
 use Rattle.semantics.specs.Repeats.{Next, round, leave, either, decision}
-use Rattle.semantics.specs.Derivations.{branchCount, Again}
+use Rattle.semantics.specs.Derivations.{Again}
 use Rattle.semantics.specs.Proposals.{Trail, stepThen, arrives, strays, Follow, _▸_, stepsThen, behind, choosing, eitherWay, settling, laps, follow, followIn, pathOf}
 use Rattle.semantics.specs.Laws.Right.{try-reach}
 use Rattle.semantics.specs.Laws.Cases.{three}

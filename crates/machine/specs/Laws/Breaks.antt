@@ -4,10 +4,9 @@ use mathlib.Core.List.{List, [], _∷_, append-nil}
 use mathlib.Core.Bool.{Bool, true, false}
 use Prim.Native.Nat.{ℕ, suc}
 use Rattle.syntax.specs.Sets.{single, only, Class, inClass}
-use Rattle.syntax.specs.Tree.{byteIn, returnOrFeeds, lineBreak}
+use Rattle.syntax.specs.Tree.{byteIn, returnOrFeeds, lineBreak, branchCount}
 use Rattle.semantics.specs.States.{branch, State, chose, moved}
 use Rattle.semantics.specs.Items.{fails, goes, toll, try}
-use Rattle.semantics.specs.Derivations.{branchCount}
 use Rattle.semantics.specs.Walk.{step, miss, Trace, Go, _▹_, done, tried, paying, toFirst, walk}
 use Rattle.machine.specs.Moves.{tested, takes, isReturn, isFeed, isBreak}
 use Rattle.machine.specs.Laws.Extent.{tested-none, tested-one}

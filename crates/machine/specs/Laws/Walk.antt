@@ -16,13 +16,12 @@ use Rattle.syntax.specs.declared.Most.{Most}
 use Rattle.syntax.specs.Limits.{spansLength, slot, registers}
 use Rattle.syntax.specs.Read.{byte}
 use Rattle.syntax.specs.Sets.{Class, inClass}
-use Rattle.syntax.specs.Tree.{Item, byteIn, assert, reference, Rule, empty, item, seq, alt, group, repeat, held, look, Branches, one, also, lineBreak}
+use Rattle.syntax.specs.Tree.{Item, byteIn, assert, reference, Rule, empty, item, seq, alt, group, repeat, held, look, Branches, one, also, lineBreak, branchCount}
 use Rattle.syntax.specs.WellFormed.{BoundsFit}
 use Rattle.syntax.specs.Compiled.{RunOf, CompiledItem, Compiled, CompiledBranches}
 use Rattle.semantics.specs.States.{Choice, branch, again, goOn, State, chose, moved, closed}
 use Rattle.semantics.specs.Items.{Tried, fails, goes, when, refer, toll, try}
 use Rattle.semantics.specs.Repeats.{Next, round, leave, either, isFull, decision}
-use Rattle.semantics.specs.Derivations.{branchCount}
 use Rattle.semantics.specs.Walk.{step, miss, end, Trace, Go, _▹_, done, tried, paying, decide, toFirst, ending, entering, rounds, enough, walk, walks}
 use Rattle.semantics.specs.Laws.Traces.{bind-append, bind-bind, bind-done, bind-end}
 use Rattle.semantics.specs.Laws.Right.{try-reach}

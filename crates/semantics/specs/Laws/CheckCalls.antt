@@ -12,15 +12,16 @@ use Rattle.syntax.specs.declared.Reason.{Reason}
 use Rattle.syntax.specs.declared.Reason.the-variants.{HeldOrLook, TooManyBranches}
 use Rattle.syntax.specs.Limits.{ruleAreaNeed, rowLength, branchLimit}
 use Rattle.syntax.specs.Read.{if_then_else_, refused}
-use Rattle.syntax.specs.Tree.{Rule, empty, item, seq, alt, group, repeat, held, look, Branches, one, also}
+use Rattle.syntax.specs.Tree.{Rule, empty, item, seq, alt, group, repeat, held, look, Branches, one, also, branchCount}
 use Rattle.syntax.specs.Reading.{firstOf, namesOf, reading}
+use Rattle.syntax.specs.Checkable.{lowest, unfollowed, unfollowedIn, crowdedAt, crowded, crowdedIn, uncheckable}
+use Rattle.syntax.specs.Laws.Checkable.{form-uncheckable, crowd-uncheckable, is-checkable}
 use Rattle.syntax.specs.Laws.Places.{ItemsIn, BranchesIn, Found, first-found, if-found, reading-items}
 use Rattle.semantics.specs.States.{State, row}
-use Rattle.semantics.specs.Derivations.{branchCount}
 use Rattle.semantics.specs.NameIndex.{nameIndex}
 use Rattle.semantics.specs.Calls.{Call, workAreaNeed, Return, over, cleared, untouched, declined, leaving}
 use Rattle.semantics.specs.Proposals.{Finding, aReading, noReading, exhausts, Check, check}
-use Rattle.semantics.specs.Checks.{lowest, unfollowed, unfollowedIn, crowdedAt, crowded, crowdedIn, CheckOutcome, AReading, NoReading, CheckExhausted, CheckRefused, checkReturns, unlessCrowded, unlessUnfollowed, checkRule, checkCall}
+use Rattle.semantics.specs.Checks.{CheckOutcome, AReading, NoReading, CheckExhausted, CheckRefused, checkReturns, unlessUncheckable, checkRule, checkCall}
 use Rattle.semantics.specs.Demands.{Fault, Faultless, FirstFault, Refuses, itself, itsRule, Accepted, Written, Regular, RowFacts}
 use Rattle.semantics.specs.CheckDemands.{CheckRefuses, likeMatch, heldOrLook, tooManyBranches, Checkable, CheckAnswers, CheckDemands}
 use Rattle.semantics.specs.Laws.Cases.{clash}
@@ -113,25 +114,21 @@ module _ (proposal : List ℕ) (c : Call) where
   unfolding checkCall
   by-rule place why f e = call-rule-refused CheckRefused rowLength (checkRule proposal) c place why f e
 
-  read-as : (r : Rule) (groups : ℕ) → Accepted rowLength c r groups → (o : Option ℕ) → unfollowed r ≡ o → x ≡ unlessUnfollowed proposal c r o
+  read-as : (r : Rule) (groups : ℕ) → Accepted rowLength c r groups → (o : Option (ℕ × Reason)) → uncheckable r ≡ o → x ≡ unlessUncheckable proposal c r o
   unfolding checkCall checkRule
-  read-as r groups a o e = call-answered CheckRefused rowLength (checkRule proposal) c r groups a ∙ ap (λ (p : Option ℕ). unlessUnfollowed proposal c r p) e
+  read-as r groups a o e = call-answered CheckRefused rowLength (checkRule proposal) c r groups a ∙ ap (λ (p : Option (ℕ × Reason)). unlessUncheckable proposal c r p) e
 
   by-form : (r : Rule) (groups place : ℕ) → Accepted rowLength c r groups → unfollowed r ≡ some place → x ≡ declined (CheckRefused place HeldOrLook) c
-  unfolding unlessUnfollowed
-  by-form r groups place a e = read-as r groups a (some place) e
-
-  followed-as : (r : Rule) (groups : ℕ) → Accepted rowLength c r groups → unfollowed r ≡ none → (o : Option ℕ) → crowded r ≡ o → x ≡ unlessCrowded proposal c r o
-  unfolding unlessUnfollowed
-  followed-as r groups a f o e = read-as r groups a none f ∙ ap (λ (p : Option ℕ). unlessCrowded proposal c r p) e
+  unfolding unlessUncheckable
+  by-form r groups place a e = read-as r groups a (some (place, HeldOrLook)) (form-uncheckable r place e)
 
   by-crowd : (r : Rule) (groups bar : ℕ) → Accepted rowLength c r groups → unfollowed r ≡ none → crowded r ≡ some bar → x ≡ declined (CheckRefused bar TooManyBranches) c
-  unfolding unlessCrowded
-  by-crowd r groups bar a f e = followed-as r groups a f (some bar) e
+  unfolding unlessUncheckable
+  by-crowd r groups bar a f e = read-as r groups a (some (bar, TooManyBranches)) (crowd-uncheckable r bar f e)
 
   pub check-as : (r : Rule) (groups : ℕ) → Checkable c r groups → (f : Finding) → of r .finding ≡ f → x ≡ checkReturns c f (of r .steps)
-  unfolding unlessCrowded
-  check-as r groups k f e = followed-as r groups (k .accepted) (k .followed) none (k .few-branches) ∙ ap (λ (g : Finding). checkReturns c g (of r .steps)) e
+  unfolding unlessUncheckable
+  check-as r groups k f e = read-as r groups (k .accepted) none (is-checkable r (k .followed) (k .few-branches)) ∙ ap (λ (g : Finding). checkReturns c g (of r .steps)) e
 
   -- Every input -------------------------------------------------------------------------------
 

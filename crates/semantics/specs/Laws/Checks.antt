@@ -11,10 +11,10 @@ use lib.ListN.{length}
 use lib.Dec.{leb}
 use borrow.Author.Tests.{leb-true, leb-false}
 use Rattle.syntax.specs.Tree.{Rule}
+use Rattle.syntax.specs.Checkable.{unfollowed}
 use Rattle.semantics.specs.States.{Choice, code, State, starting}
 use Rattle.semantics.specs.Derivations.{Derivation}
 use Rattle.semantics.specs.Proposals.{Trail, stepThen, arrives, strays, Follow, _▸_, stepsThen, follow, pathOf, Finding, aReading, noReading, exhausts, Check, unlessLeft, oneMore, within, startless, startOf, check}
-use Rattle.semantics.specs.Checks.{unfollowed}
 use Rattle.semantics.specs.CheckDemands.{stepsAlong, ownSteps, stepsIn, Sent, ReadingSent, NeedsMore, CheckDemand}
 use Rattle.semantics.specs.Laws.Cases.{clash, le-or}
 use Rattle.semantics.specs.Laws.Following.{Leads, leads-split, made, on-along, along}

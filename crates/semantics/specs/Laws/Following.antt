@@ -13,14 +13,14 @@ use borrow.Author.Tests.{ltb-true, eqb-true, eq-eqb, ne-eqb}
 use Rattle.syntax.specs.declared.Greed.{Greed}
 use Rattle.syntax.specs.declared.Most.{Most}
 use Rattle.syntax.specs.Read.{if_then_else_}
-use Rattle.syntax.specs.Tree.{Item, byteIn, assert, reference, Rule, empty, item, seq, alt, group, repeat, held, look, Branches, one, also}
+use Rattle.syntax.specs.Tree.{Item, byteIn, assert, reference, Rule, empty, item, seq, alt, group, repeat, held, look, Branches, one, also, branchCount}
+use Rattle.syntax.specs.Checkable.{unfollowed, unfollowedIn}
 use Rattle.syntax.specs.Laws.Formation.{first-none}
 use Rattle.semantics.specs.States.{Choice, branch, again, goOn, code, State, chose, moved, closed}
 use Rattle.semantics.specs.Items.{Tried, fails, goes, refer, toll, try}
 use Rattle.semantics.specs.Repeats.{Next, round, leave, either, isFull, allowed, decision}
-use Rattle.semantics.specs.Derivations.{branchCount, Again, On, Rounds, stop, turn, Derives, Picks}
+use Rattle.semantics.specs.Derivations.{Again, On, Rounds, stop, turn, Derives, Picks}
 use Rattle.semantics.specs.Proposals.{Trail, stepThen, arrives, strays, Follow, _▸_, stepsThen, behind, choosing, eitherWay, settling, laps, follow, followIn}
-use Rattle.semantics.specs.Checks.{unfollowed, unfollowedIn}
 use Rattle.semantics.specs.CheckDemands.{roundSteps, stepsAlong, stepsWithin}
 use Rattle.semantics.specs.Laws.Cases.{clash}
 use Rattle.semantics.specs.Laws.Right.{when-goes}

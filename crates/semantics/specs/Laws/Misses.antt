@@ -11,11 +11,11 @@ use lib.Dec.{eqb}
 use Rattle.syntax.specs.declared.Greed.{Greed}
 use Rattle.syntax.specs.declared.Greed.the-variants.{Greedy, Lazy}
 use Rattle.syntax.specs.declared.Most.{Most}
-use Rattle.syntax.specs.Tree.{Rule, empty, item, seq, alt, group, repeat, held, look, Branches, one, also}
+use Rattle.syntax.specs.Tree.{Rule, empty, item, seq, alt, group, repeat, held, look, Branches, one, also, branchCount}
 use Rattle.semantics.specs.States.{branch, again, goOn, State, starting, chose, moved, closed}
 use Rattle.semantics.specs.Items.{Tried, fails, goes, toll, try}
 use Rattle.semantics.specs.Repeats.{Next, round, leave, either, decision}
-use Rattle.semantics.specs.Derivations.{branchCount, Again, Derives, Derivation}
+use Rattle.semantics.specs.Derivations.{Again, Derives, Derivation}
 use Rattle.semantics.specs.Walk.{step, miss, end, Trace, Go, _▹_, done, tried, paying, decide, toFirst, ending, entering, rounds, enough, walk, walks, trace}
 use Rattle.semantics.specs.Explanations.{Failure, failures, position, furthest, reach, closest}
 use Rattle.semantics.specs.Demands.{In, Start, NoDerivation}

@@ -19,6 +19,7 @@ use Rattle.syntax.specs.Flags.{depot}
 use Rattle.syntax.specs.Tree.{Rule, empty, item, seq, alt, group, repeat, held, look, Branches, one, also}
 use Rattle.syntax.specs.Lengths.{leastLength, unbounded}
 use Rattle.syntax.specs.Reading.{namesOf, idle, idleIn, reading}
+use Rattle.syntax.specs.Checkable.{uncheckable}
 use Rattle.syntax.specs.Laws.Forward.{Given, given-less}
 use Rattle.syntax.specs.Laws.Formation.{first-none, tested}
 use Rattle.syntax.specs.Laws.Profile.{unprofiled, accepted-as-full, accepted-narrow}
@@ -30,7 +31,7 @@ use Rattle.semantics.specs.Explanations.{failures, furthest, closest, ma
 use Rattle.semantics.specs.Scans.{scan}
 use Rattle.semantics.specs.Calls.{Call, unacceptable, Return, untouched, declined, leaving, withReading, unlessRefused, call, Matched, NotMatched, Exhausted, Refused, matchReturns, matchRule, matchCall, ListRefused, listOutcome, joined, room, listReturns, listRule, listCall, scanRule, scanCall, Fits, Unfit, ExplainExhausted, ExplainRefused, markable, explainReturns, explainRule, explainCall}
 use Rattle.semantics.specs.Proposals.{Finding, aReading, noReading, exhausts, check}
-use Rattle.semantics.specs.Checks.{unfollowed, crowded, AReading, NoReading, CheckExhausted, CheckRefused, checkReturns, unlessCrowded, unlessUnfollowed, checkRule, checkCall}
+use Rattle.semantics.specs.Checks.{AReading, NoReading, CheckExhausted, CheckRefused, checkReturns, unlessUncheckable, checkRule, checkCall}
 use Rattle.semantics.specs.Batches.{lineCall, lineless, partOf, parts, linesOf, partsNeed, Done, BatchRefused, batchRule, batchCall}
 use Rattle.semantics.specs.Profile.{roundsOf, Advances, AllAdvance, EachAdvances, inFull, AnswersInFull}
 use Rattle.semantics.specs.Laws.Lengths.{again-still, left-still, takes-least}
@@ -163,19 +164,14 @@ module _ (c : Call) (h : Passes c) where
   check-returns noReading steps = leaving-in-full (NoReading steps) []
   check-returns (exhausts start) steps = leaving-in-full (CheckExhausted start steps) []
 
-  unless-crowded : (proposal : List ℕ) (o : Option ℕ) → unlessCrowded proposal c (h .tree) o ≡ unlessCrowded proposal (inFull c) (h .tree) o
-  unfolding unlessCrowded declined
-  unless-crowded proposal (some bar) = refl
-  unless-crowded proposal none = let a = check (c .subject) (h .tree) (c .budget) proposal in check-returns (a .finding) (a .steps)
-
-  unless-unfollowed : (proposal : List ℕ) (o : Option ℕ) → unlessUnfollowed proposal c (h .tree) o ≡ unlessUnfollowed proposal (inFull c) (h .tree) o
-  unfolding unlessUnfollowed declined
-  unless-unfollowed proposal (some place) = refl
-  unless-unfollowed proposal none = unless-crowded proposal (crowded (h .tree))
+  unless-uncheckable : (proposal : List ℕ) (o : Option (ℕ × Reason)) → unlessUncheckable proposal c (h .tree) o ≡ unlessUncheckable proposal (inFull c) (h .tree) o
+  unfolding unlessUncheckable declined
+  unless-uncheckable proposal (some f) = refl
+  unless-uncheckable proposal none = let a = check (c .subject) (h .tree) (c .budget) proposal in check-returns (a .finding) (a .steps)
 
   check-in-full : (proposal : List ℕ) → checkCall proposal c ≡ checkCall proposal (inFull c)
   unfolding checkCall checkRule
-  check-in-full proposal = call-in-full CheckRefused rowLength (checkRule proposal) (unless-unfollowed proposal (unfollowed (h .tree)))
+  check-in-full proposal = call-in-full CheckRefused rowLength (checkRule proposal) (unless-uncheckable proposal (uncheckable (h .tree)))
 
   lined : (line results : List ℕ) → Passes (lineCall c line results)
   lined line results = record { known = h .known; tree = h .tree; groups = h .groups; stop = h .stop; reads = h .reads }

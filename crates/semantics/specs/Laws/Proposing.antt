@@ -12,14 +12,15 @@ use borrow.Author.Tests.{eqb-false}
 use Rattle.syntax.specs.declared.Greed.{Greed}
 use Rattle.syntax.specs.declared.Most.{Most}
 use Rattle.syntax.specs.Limits.{subjectLimit, byteLimit, branchLimit}
-use Rattle.syntax.specs.Tree.{Rule, empty, item, seq, alt, group, repeat, held, look, Branches, one, also}
+use Rattle.syntax.specs.Tree.{Rule, empty, item, seq, alt, group, repeat, held, look, Branches, one, also, branchCount}
 use Rattle.syntax.specs.Reading.{firstOf}
+use Rattle.syntax.specs.Checkable.{unfollowed, crowdedAt, crowded, crowdedIn}
 use Rattle.syntax.specs.Laws.Formation.{first-none, tested}
 use Rattle.semantics.specs.States.{Choice, branch, again, goOn, code, State, starting, chose, moved, closed, Row}
 use Rattle.semantics.specs.Repeats.{Next, round, leave, either, decision}
-use Rattle.semantics.specs.Derivations.{branchCount, Again, On, Rounds, stop, turn, Derives, Picks, Derivation}
+use Rattle.semantics.specs.Derivations.{Again, On, Rounds, stop, turn, Derives, Picks, Derivation}
 use Rattle.semantics.specs.Proposals.{aReading, check}
-use Rattle.semantics.specs.Checks.{unfollowed, crowdedAt, crowded, crowdedIn, AReading}
+use Rattle.semantics.specs.Checks.{AReading}
 use Rattle.semantics.specs.Demands.{In, Reading}
 use Rattle.semantics.specs.CheckDemands.{ownSteps, Sent, ReadingSent, proposalOf, Proposed}
 use Rattle.semantics.specs.Laws.Cases.{three}

@@ -10,11 +10,11 @@ use lib.ListN.{length}
 use lib.Dec.{eqb}
 use Rattle.syntax.specs.declared.Greed.{Greed}
 use Rattle.syntax.specs.declared.Most.{Most}
-use Rattle.syntax.specs.Tree.{Rule, empty, item, seq, alt, group, repeat, held, look, Branches, one, also}
+use Rattle.syntax.specs.Tree.{Rule, empty, item, seq, alt, group, repeat, held, look, Branches, one, also, branchCount}
 use Rattle.semantics.specs.States.{Choice, branch, earlier, State, chose, moved, closed}
 use Rattle.semantics.specs.Items.{toll, try}
 use Rattle.semantics.specs.Repeats.{decision}
-use Rattle.semantics.specs.Derivations.{branchCount, Derives, Picks}
+use Rattle.semantics.specs.Derivations.{Derives, Picks}
 use Rattle.semantics.specs.Walk.{step, Trace, _▹_, decide, ending, rounds, enough, walk, walks}
 use Rattle.semantics.specs.Laws.Traces.{bind-same}
 use Rattle.semantics.specs.Laws.Right.{reach-still, reach-self, Right, Makes, right-step, right-as, right-done, right-bind, right-append, right-first, right-lacking, right-paying, right-tried, right-chose, makes-chose, try-reach, again-reach}
