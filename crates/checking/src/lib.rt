@@ -6,8 +6,19 @@
 mod items;
 mod paths;
 mod turns;
+mod verdicts;
 
 pub use paths::follow_path;
+use syntax::Refusal;
+pub use verdicts::check_held;
+
+// What a check tells: a reading or none, and the steps; or the start, if the budget was used up, and the steps; or why it is refused.
+pub enum Verdict {
+    Reading(u64),
+    Nothing(u64),
+    Exhausted(u32, u64),
+    Refused(Refusal),
+}
 
 // How following went: to the rule's end with all choices used, at this position, in so many steps; to no reading, in so many; or the steps are spent.
 pub enum Followed {
