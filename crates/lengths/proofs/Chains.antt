@@ -8,12 +8,14 @@ use Rattle.syntax.specs.Names.{Names}
 use Rattle.syntax.specs.Tree.{Rule, seq}
 use Rattle.syntax.specs.Lengths.{capped, leastLength}
 use Rattle.syntax.specs.Reading.{unresolved, idle}
+use Rattle.syntax.specs.Checkable.{unfollowed, crowded}
+use Rattle.syntax.specs.Compiled.{marked}
 use Rattle.syntax.specs.WellFormed.{Proper, levels}
 use Rattle.linker.specs.Nodes.{beforeOf, Sequence, Part, Chain}
 use Rattle.linker.proofs.Regions.{part-here, chain-below}
 use Rattle.linker.proofs.Chains.{for-some, for-none}
 use Rattle.lengths.specs.declared.Measured.{Measured}
-use Rattle.lengths.specs.Measures.{marked, sooner, Standing, IsNothing, Joined, Deep, Of, Finds}
+use Rattle.lengths.specs.Measures.{sooner, Standing, IsNothing, Joined, Deep, Of, Finds}
 use Rattle.lengths.proofs.Numbers.{capped-within, capped-both, capped-bounded, least-bounded, sooner-none, sooner-both, marked-first}
 
 -- what is found is capped
@@ -64,6 +66,8 @@ module _ (a : List ℕ) where
     least : leastLength t ≡ capped (leastLength rest + m .least)
     first : marked (unresolved 0 t) ≡ sooner (marked (unresolved 0 rest)) (m .reference)
     second : marked (idle t) ≡ sooner (marked (idle rest)) (m .idle)
+    third : marked (unfollowed t) ≡ sooner (marked (unfollowed rest)) (m .form)
+    fourth : marked (crowded t) ≡ sooner (marked (crowded rest)) (m .crowd)
 
   -- of whatever tree the loop began with
   pub Going : (last p : ℕ) (m : Measured) → Type 0
@@ -80,14 +84,16 @@ module _ (a : List ℕ) where
         least = rw (n .least) (sym (ap capped (add-none (leastLength t)) ∙ capped-within (leastLength t) (least-bounded t)));
         first = rw (n .reference) (sym (sooner-none (marked (unresolved 0 t))));
         second = rw (n .idle) (sym (sooner-none (marked (idle t))));
+        third = rw (n .form) (sym (sooner-none (marked (unfollowed t))));
+        fourth = rw (n .crowd) (sym (sooner-none (marked (crowded t))));
       }
 
   pub going-step : (last p before : ℕ) (m found more : Measured) → 1 ≤ p → before ≡ beforeOf a p → Finds Part a p found → Joined found m more → Going last p m → Going last before more
   unfolding Going Finds
   going-step last p before m found more l is f w g rule known groups t lo top q h =
       let k = g rule known groups t lo top q h in
-      for-some rule known a lo (k .mid) p (λ x. Proper groups x → leastLength t ≡ capped (leastLength x + m .least) → marked (unresolved 0 t) ≡ sooner (marked (unresolved 0 x)) (m .reference) → marked (idle t) ≡ sooner (marked (idle x)) (m .idle) → Left rule known groups t lo before more)
-      (λ x y h q c₁ c₂ c₃. let o = f rule known groups y (h .mid) (k .mid) (q .1) (h .right) in
+      for-some rule known a lo (k .mid) p (λ x. Proper groups x → leastLength t ≡ capped (leastLength x + m .least) → marked (unresolved 0 t) ≡ sooner (marked (unresolved 0 x)) (m .reference) → marked (idle t) ≡ sooner (marked (idle x)) (m .idle) → marked (unfollowed t) ≡ sooner (marked (unfollowed x)) (m .form) → marked (crowded t) ≡ sooner (marked (crowded x)) (m .crowd) → Left rule known groups t lo before more)
+      (λ x y h q c₁ c₂ c₃ c₄ c₅. let o = f rule known groups y (h .mid) (k .mid) (q .1) (h .right) in
       record {
         rest = x;
         mid = h .mid;
@@ -96,11 +102,13 @@ module _ (a : List ℕ) where
         least = c₁ ∙ unfold leastLength in capped-both (leastLength x) (leastLength y) (m .least) ∙ rw (w .least, o .least);
         first = c₂ ∙ unfold unresolved in ap (λ (n : ℕ). sooner n (m .reference)) (marked-first (unresolved 0 x) (unresolved 0 y)) ∙ sooner-both (marked (unresolved 0 x)) (marked (unresolved 0 y)) (m .reference) ∙ rw (w .reference, o .reference);
         second = c₃ ∙ unfold idle in ap (λ (n : ℕ). sooner n (m .idle)) (marked-first (idle x) (idle y)) ∙ sooner-both (marked (idle x)) (marked (idle y)) (m .idle) ∙ rw (w .idle, o .idle);
-      }) l (k .rest) (k .stands) (k .proper) (k .least) (k .first) (k .second)
+        third = c₄ ∙ unfold unfollowed in ap (λ (n : ℕ). sooner n (m .form)) (marked-first (unfollowed x) (unfollowed y)) ∙ sooner-both (marked (unfollowed x)) (marked (unfollowed y)) (m .form) ∙ rw (w .form, o .form);
+        fourth = c₅ ∙ unfold crowded in ap (λ (n : ℕ). sooner n (m .crowd)) (marked-first (crowded x) (crowded y)) ∙ sooner-both (marked (crowded x)) (marked (crowded y)) (m .crowd) ∙ rw (w .crowd, o .crowd);
+      }) l (k .rest) (k .stands) (k .proper) (k .least) (k .first) (k .second) (k .third) (k .fourth)
 
   pub going-end : (last p : ℕ) (m : Measured) → p ≡ 0 → m .least ≤ lengthLimit → Going last p m → Finds Chain a last m
   unfolding Going Finds
   going-end last p m e l g rule known groups t lo top q h =
       let k = g rule known groups t lo top q h in
-      for-none rule known a lo (k .mid) p (λ x. leastLength t ≡ capped (leastLength x + m .least) → marked (unresolved 0 t) ≡ sooner (marked (unresolved 0 x)) (m .reference) → marked (idle t) ≡ sooner (marked (idle x)) (m .idle) → Of t m)
-      (λ c₁ c₂ c₃. unfold leastLength unresolved idle marked sooner in record { least = sym (c₁ ∙ ap capped (none-add (m .least)) ∙ capped-within (m .least) l); reference = sym c₂; idle = sym c₃ }) e (k .rest) (k .stands) (k .least) (k .first) (k .second)
+      for-none rule known a lo (k .mid) p (λ x. leastLength t ≡ capped (leastLength x + m .least) → marked (unresolved 0 t) ≡ sooner (marked (unresolved 0 x)) (m .reference) → marked (idle t) ≡ sooner (marked (idle x)) (m .idle) → marked (unfollowed t) ≡ sooner (marked (unfollowed x)) (m .form) → marked (crowded t) ≡ sooner (marked (crowded x)) (m .crowd) → Of t m)
+      (λ c₁ c₂ c₃ c₄ c₅. unfold leastLength unresolved idle unfollowed crowded marked sooner in record { least = sym (c₁ ∙ ap capped (none-add (m .least)) ∙ capped-within (m .least) l); reference = sym c₂; idle = sym c₃; form = sym c₄; crowd = sym c₅ }) e (k .rest) (k .stands) (k .least) (k .first) (k .second) (k .third) (k .fourth)

@@ -7,25 +7,28 @@ use mathlib.Core.Option.{Option, none, some}
 use Prim.Native.Nat.{ℕ, _+_, _-_, _≤_, _<_}
 use native.Mathlib.Omega.{arith}
 use lib.ListN.{getD, length}
-use Rattle.syntax.specs.declared.Reason.the-variants.{BarredReference, IdleRepeat}
-use Rattle.syntax.specs.Tree.{Rule, empty, item, seq, alt, group, repeat, held, look, Branches}
+use Rattle.syntax.specs.declared.Reason.the-variants.{BarredReference, IdleRepeat, HeldOrLook, TooManyBranches}
+use Rattle.syntax.specs.Tree.{Rule, empty, item, seq, alt, group, repeat, held, look, Branches, branchCount}
 use Rattle.syntax.specs.Lengths.{leastLength}
 use Rattle.syntax.specs.Reading.{unresolved, unresolvedIn, idle, idleIn, unless, profiled}
+use Rattle.syntax.specs.Checkable.{unfollowed, unfollowedIn, crowdedAt, crowded, crowdedIn}
+use Rattle.syntax.specs.Compiled.{marked}
 use Rattle.syntax.specs.WellFormed.{Proper, levels}
-use Rattle.linker.specs.Nodes.{Branch, Chain, Inside, Several}
+use Rattle.syntax.specs.Laws.Checkable.{form-uncheckable, crowd-uncheckable, is-checkable}
+use Rattle.linker.specs.Nodes.{Branch, Chain, Inside, Preceding}
 use Rattle.linker.proofs.Regions.{part-here, chain-order}
 use Rattle.linker.proofs.Insides.{is-chain, for-alt}
 use Rattle.lengths.specs.declared.Measured.{Measured}
 use Rattle.lengths.specs.declared.Judgement.the-variants.{Passes, Barred}
-use Rattle.lengths.specs.Measures.{marked, IsNothing, Deep, DeepBranches, Of, Finds, FindsBranches, Judges}
-use Rattle.lengths.proofs.Numbers.{marked-first}
+use Rattle.lengths.specs.Measures.{IsNothing, Deep, DeepBranches, Of, Finds, FindsBranches, Judges, Follows}
+use Rattle.lengths.proofs.Numbers.{marked-first, marked-three}
 
 module _ (a : List ℕ) (p : ℕ) where
   -- Nothing ---------------------------------------------------------------------------------
 
   pub none-found : (m : Measured) → p ≡ 0 → IsNothing m → Finds Inside a p m
-  unfolding Finds Inside leastLength unresolved idle marked
-  none-found m e n rule known groups empty lo top q h = record { least = n .least; reference = n .reference; idle = n .idle }
+  unfolding Finds Inside leastLength unresolved idle unfollowed crowded marked
+  none-found m e n rule known groups empty lo top q h = record { least = n .least; reference = n .reference; idle = n .idle; form = n .form; crowd = n .crowd }
   none-found m e n rule known groups (seq x y) lo top q h = absurd (omega (arith, part-here rule known a y (h .mid) top p (h .right) .some))
   none-found m e n rule known groups (alt bs bar t) lo top q h = absurd (omega (arith, h .node .some))
   none-found m e n rule known groups (item place i) lo top q h = absurd h
@@ -71,7 +74,7 @@ module _ (a : List ℕ) (p : ℕ) where
       positive : (n : ℕ) → (n ≡ 0 → ⊥) → 1 ≤ n
       positive n h = omega arith
 
-      go : (bs : Branches) (bar : ℕ) (t : Rule) → Branch a 6 (Several (d .rule) (d .known) a bs) (Chain (d .rule) (d .known) a t) (d .lo) (d .top) p → Proper (d .groups) (alt bs bar t) → levels (alt bs bar t) ≤ depth → AltAt depth
+      go : (bs : Branches) (bar : ℕ) (t : Rule) → Branch a 6 (Preceding (d .rule) (d .known) a bs bar) (Chain (d .rule) (d .known) a t) (d .lo) (d .top) p → Proper (d .groups) (alt bs bar t) → levels (alt bs bar t) ≤ depth → AltAt depth
       go bs bar t h q u =
           let o = chain-order (d .rule) (d .known) a t (h .mid) p (h .inside) (h .right) in
           let w = d .within in
@@ -80,24 +83,26 @@ module _ (a : List ℕ) (p : ℕ) where
           record {
             fits = omega arith;
             inner = rw (h .of) (record { rule = d .rule; known = d .known; tree = t; lo = h .mid; top = p; holds = h .right; within = omega arith; groups = d .groups; proper = q .1; deep = omega arith });
-            others = rw (h .link) (record { rule = d .rule; known = d .known; branches = bs; lo = d .lo; top = h .mid; holds = h .left; within = omega arith; groups = d .groups; proper = q .0; deep = omega arith });
+            others = rw (h .link) (record { rule = d .rule; known = d .known; branches = bs; bar = bar; lo = d .lo; top = h .mid; holds = h .left; within = omega arith; groups = d .groups; proper = q .0; deep = omega arith });
           }
 
   pub alt-found : (last m : Measured) → (p ≡ 0 → ⊥) → getD a p 0 ≡ 6 → Finds Chain a (getD a (p + 1) 0) last → FindsBranches a (getD a (p + 2) 0) last m → Finds Inside a p m
-  unfolding Finds FindsBranches leastLength unresolved idle
+  unfolding Finds FindsBranches leastLength unresolved idle unfollowed crowded
   alt-found last m l e f g rule known groups t lo top q h = for-alt rule known a lo top p (λ t. Proper groups t → Of t m) go (positive p l) e t h q
     where
       positive : (n : ℕ) → (n ≡ 0 → ⊥) → 1 ≤ n
       positive n h = omega arith
 
-      go : (bs : Branches) (bar : ℕ) (t : Rule) → Branch a 6 (Several rule known a bs) (Chain rule known a t) lo top p → Proper groups (alt bs bar t) → Of (alt bs bar t) m
+      go : (bs : Branches) (bar : ℕ) (t : Rule) → Branch a 6 (Preceding rule known a bs bar) (Chain rule known a t) lo top p → Proper groups (alt bs bar t) → Of (alt bs bar t) m
       go bs bar t h q =
           let o = f rule known groups t (h .mid) p (q .1) (rw (h .of) (h .right)) in
-          let b = g rule known groups bs lo (h .mid) (q .0) (rw (h .link) (h .left)) in
+          let b = g rule known groups bs bar lo (h .mid) (q .0) (rw (h .link) (h .left)) in
           record {
             least = b .least ∙ rw (o .least);
             reference = b .reference ∙ rw (o .reference) (sym (marked-first (unresolvedIn 0 bs) (unresolved 0 t)));
             idle = b .idle ∙ rw (o .idle) (sym (marked-first (idleIn bs) (idle t)));
+            form = b .form ∙ rw (o .form) (sym (marked-first (unfollowedIn bs) (unfollowed t)));
+            crowd = b .crowd ∙ rw (o .crowd) (sym (marked-three (crowdedIn bs) (crowdedAt (branchCount bs) bar) (crowded t)));
           }
 
   -- The whole rule ------------------------------------------------------------------------------
@@ -128,6 +133,29 @@ module _ (a : List ℕ) (p : ℕ) where
     judged-passes z i rule known groups t lo top q h rest =
         let o = f rule known groups t lo top q h in
         rw (none-marked (unresolved 0 t) (m .reference) (o .reference) z, none-marked (idle t) (m .idle) (o .idle) i)
+
+    -- What a check cannot follow --------------------------------------------------------------
+
+    pub followed-form : (m .form ≡ 0 → ⊥) → Follows true a p (Barred (record { place = m .form - 1; reason = HeldOrLook }))
+    unfolding Finds Follows
+    followed-form z rule known groups t lo top q h = (refl, form-uncheckable t (m .form - 1) (some-marked (unfollowed t) (m .form) (f rule known groups t lo top q h .form) z))
+
+    pub followed-crowd : m .form ≡ 0 → (m .crowd ≡ 0 → ⊥) → Follows true a p (Barred (record { place = m .crowd - 1; reason = TooManyBranches }))
+    unfolding Finds Follows
+    followed-crowd z i rule known groups t lo top q h =
+        let o = f rule known groups t lo top q h in
+        (refl, crowd-uncheckable t (m .crowd - 1) (none-marked (unfollowed t) (m .form) (o .form) z) (some-marked (crowded t) (m .crowd) (o .crowd) i))
+
+    pub followed-all : m .form ≡ 0 → m .crowd ≡ 0 → Follows true a p Passes
+    unfolding Finds Follows
+    followed-all z i rule known groups t lo top q h e =
+        let o = f rule known groups t lo top q h in
+        is-checkable t (none-marked (unfollowed t) (m .form) (o .form) z) (none-marked (crowded t) (m .crowd) (o .crowd) i)
+
+-- where no check asks, everything passes
+pub followed-not : (a : List ℕ) (p : ℕ) (checked : Bool) → checked ≡ false → Follows checked a p Passes
+unfolding Follows
+followed-not a p checked off rule known groups t lo top q h e = let bad : _≡_ {A = ℕ} 0 1 = cc (off, e) in absurd (omega arith)
 
 -- where the profile is not asked for, everything passes
 pub judged-not : (a : List ℕ) (p : ℕ) (strict : Bool) → strict ≡ false → Judges strict a p Passes

@@ -1,8 +1,8 @@
 -- The numbers that are found: lengths that are capped, and places.
-use mathlib.Core.Path.{_≡_, refl}
+use mathlib.Core.Path.{_≡_, refl, ap, _∙_}
 use mathlib.Core.Bool.{Bool, false}
 use mathlib.Core.Option.{Option, none, some}
-use Prim.Native.Nat.{ℕ, zero, suc, _+_, _*_, _≤_}
+use Prim.Native.Nat.{ℕ, zero, suc, min, _+_, _*_, _≤_}
 use native.Mathlib.Omega.{arith}
 use lib.Dec.{eqb}
 use borrow.Author.Tests.{ne-eqb, lt-leb}
@@ -10,7 +10,9 @@ use Rattle.syntax.specs.Limits.{lengthLimit}
 use Rattle.syntax.specs.Tree.{Item, byteIn, assert, reference, Rule, empty, item, seq, alt, group, repeat, held, look}
 use Rattle.syntax.specs.Lengths.{capped, itemLength, leastLength, shortest}
 use Rattle.syntax.specs.Reading.{firstOf, dangling}
-use Rattle.lengths.specs.Measures.{marked, sooner}
+use Rattle.syntax.specs.Checkable.{lowest}
+use Rattle.syntax.specs.Compiled.{marked}
+use Rattle.lengths.specs.Measures.{sooner, lower}
 
 -- Lengths ---------------------------------------------------------------------------
 
@@ -70,6 +72,18 @@ pub marked-first : (x y : Option ℕ) → marked (firstOf x y) ≡ sooner (marke
 unfolding marked firstOf
 marked-first none y = unfold sooner in refl
 marked-first (some p) y = sooner-some p (marked y)
+
+pub marked-three : (x y z : Option ℕ) → marked (firstOf x (firstOf y z)) ≡ sooner (marked x) (sooner (marked y) (marked z))
+marked-three x y z = marked-first x (firstOf y z) ∙ ap (sooner (marked x)) (marked-first y z)
+
+-- the lower of a form's own place and of what was found in it
+min-both : (a b : ℕ) → min (a + 1) (b + 1) ≡ min a b + 1
+min-both a b = omega arith
+
+pub marked-lowest : (place : ℕ) (o : Option ℕ) → lower (place + 1) (marked o) ≡ marked (some (lowest place o))
+unfolding lower marked lowest
+marked-lowest place none = refl
+marked-lowest place (some q) = rw (ne-eqb (q + 1) 0 (λ e. omega arith)) (min-both place q)
 
 -- with no groups every reference is to none
 pub dangles : (at : ℕ) (folded : Bool) (n : ℕ) → dangling 0 at (reference folded n) ≡ some at

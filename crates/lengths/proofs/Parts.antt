@@ -12,20 +12,21 @@ use borrow.Author.Tests.{ne-eqb}
 use Rattle.syntax.specs.declared.Greed.{Greed}
 use Rattle.syntax.specs.declared.Most.{Most}
 use Rattle.syntax.specs.declared.Most.the-variants.{AtMost, Unlimited}
-use Rattle.syntax.specs.Limits.{unset, boundLimit, lengthLimit}
+use Rattle.syntax.specs.Limits.{unset, boundLimit, byteLimit, lengthLimit, branchLimit}
 use Rattle.syntax.specs.Read.{if_then_else_}
-use Rattle.syntax.specs.Tree.{Item, byteIn, assert, reference, Rule, item, repeat, held, lineBreak}
-use Rattle.syntax.specs.Compiled.{mostWord}
+use Rattle.syntax.specs.Tree.{Item, byteIn, assert, reference, Rule, item, repeat, held, branchCount, lineBreak}
+use Rattle.syntax.specs.Compiled.{marked, mostWord}
 use Rattle.syntax.specs.Lengths.{capped, itemLength, leastLength, shortest, unbounded}
 use Rattle.syntax.specs.Reading.{firstOf, dangling, unresolved, unresolvedIn, idle, idleIn}
+use Rattle.syntax.specs.Checkable.{lowest, unfollowed, unfollowedIn, crowdedAt, crowded, crowdedIn}
 use Rattle.syntax.specs.WellFormed.{BoundsFit, Proper, levels}
 use Rattle.linker.specs.Nodes.{Breaking, Part, Inside}
 use Rattle.linker.specs.Stores.{Bracketed}
 use Rattle.linker.proofs.Regions.{part-here}
 use Rattle.linker.proofs.Trees.{ItemKind, for-bracketed, for-repeat, for-plain, for-item}
 use Rattle.lengths.specs.declared.Measured.{Measured}
-use Rattle.lengths.specs.Measures.{marked, sooner, idleAt, Repeated, Enclosed, Singled, Deep, Of, Finds}
-use Rattle.lengths.proofs.Numbers.{marked-first, dangles}
+use Rattle.lengths.specs.Measures.{sooner, idleAt, Repeated, Enclosed, formAt, Singled, Deep, Of, Finds}
+use Rattle.lengths.proofs.Numbers.{marked-first, marked-lowest, dangles}
 
 -- whether a repeat has an upper bound is told by its maximum's number
 most-told : (least : ℕ) (most : Most) → BoundsFit least most → eqb (mostWord most) unset ≡ unbounded most
@@ -63,13 +64,13 @@ module _ (a : List ℕ) (p : ℕ) where
         inner = rw is (record { rule = d .rule; known = d .known; tree = t; lo = d .lo; top = p; holds = h; within = omega (arith, u, d .within); groups = d .groups; proper = q; deep = l });
       }
 
-  pub bracket-found : (within m : Measured) → Bracketed (getD a p 0) → Finds Inside a (getD a (p + 5) 0) within → Enclosed (getD a p 0) within m → Finds Part a p m
-  unfolding Finds Part leastLength unresolved idle
+  pub bracket-found : (within m : Measured) → Bracketed (getD a p 0) → Finds Inside a (getD a (p + 5) 0) within → Enclosed a p (getD a p 0) within m → Finds Part a p m
+  unfolding Finds Part leastLength unresolved idle unfollowed crowded
   bracket-found within m e f w rule known groups t lo top proper h = for-bracketed rule known a lo top p (λ t. Proper groups t → Of t m)
-      (λ n t h q. let o = f rule known groups t lo p (q .2) (rw (h .is) (h .holds)) in record { least = w .least ∙ rw (h .node .is) (o .least); reference = w .reference ∙ o .reference; idle = w .idle ∙ o .idle })
-      (λ place t h q. let o = f rule known groups t lo p q (rw (h .is) (h .holds)) in record { least = w .least ∙ rw (h .node .is) (o .least); reference = w .reference ∙ o .reference; idle = w .idle ∙ o .idle })
-      (λ place t h q. let o = f rule known groups t lo p q (rw (h .is) (h .holds)) in record { least = w .least ∙ rw (h .node .is) refl; reference = w .reference ∙ o .reference; idle = w .idle ∙ o .idle })
-      (λ place t h q. let o = f rule known groups t lo p q (rw (h .is) (h .holds)) in record { least = w .least ∙ rw (h .node .is) refl; reference = w .reference ∙ o .reference; idle = w .idle ∙ o .idle }) e t h proper
+      (λ n t h q. let o = f rule known groups t lo p (q .2) (rw (h .is) (h .holds)) in record { least = w .least ∙ rw (h .node .is) (o .least); reference = w .reference ∙ o .reference; idle = w .idle ∙ o .idle; form = w .form ∙ rw (h .node .is) (o .form); crowd = w .crowd ∙ o .crowd })
+      (λ place t h q. let o = f rule known groups t lo p q (rw (h .is) (h .holds)) in record { least = w .least ∙ rw (h .node .is) (o .least); reference = w .reference ∙ o .reference; idle = w .idle ∙ o .idle; form = w .form ∙ rw (h .node .is, h .origin, o .form) (marked-lowest place (unfollowed t)); crowd = w .crowd ∙ o .crowd })
+      (λ place t h q. let o = f rule known groups t lo p q (rw (h .is) (h .holds)) in record { least = w .least ∙ rw (h .node .is) refl; reference = w .reference ∙ o .reference; idle = w .idle ∙ o .idle; form = w .form ∙ rw (h .node .is, h .origin, o .form) (marked-lowest place (unfollowed t)); crowd = w .crowd ∙ o .crowd })
+      (λ place t h q. let o = f rule known groups t lo p q (rw (h .is) (h .holds)) in record { least = w .least ∙ rw (h .node .is) refl; reference = w .reference ∙ o .reference; idle = w .idle ∙ o .idle; form = w .form ∙ rw (h .node .is, h .origin, o .form) (marked-lowest place (unfollowed t)); crowd = w .crowd ∙ o .crowd }) e t h proper
 
   -- Groups that do not ------------------------------------------------------------------
 
@@ -105,7 +106,7 @@ module _ (a : List ℕ) (p : ℕ) where
       }) e (d .tree) (d .holds) (d .proper) (d .deep)
 
   pub repeat-found : (body m : Measured) → getD a p 0 ≡ 7 → Finds Part a (getD a (p + 6) 0) body → Repeated a p body m → Finds Part a p m
-  unfolding Finds Part leastLength unresolved idle idleAt
+  unfolding Finds Part leastLength unresolved idle idleAt unfollowed crowded
   repeat-found body m e f w rule known groups t lo top proper h = for-repeat rule known a lo top p (λ t. Proper groups t → Of t m) go e t h proper
     where
       go : (place least : ℕ) (most : Most) (g : Greed) (t : Rule) → Part rule known a (repeat place least most g t) lo top p → Proper groups (repeat place least most g t) → Of (repeat place least most g t) m
@@ -115,22 +116,24 @@ module _ (a : List ℕ) (p : ℕ) where
             least = w .least ∙ rw (h .least, o .least);
             reference = w .reference ∙ o .reference;
             idle = w .idle ∙ rw (o .idle, o .least, h .most, h .origin, most-told least most (q .0)) (own-found place (idle t) (unbounded most && eqb (leastLength t) 0));
+            form = w .form ∙ o .form;
+            crowd = w .crowd ∙ o .crowd;
           }
 
   -- Items ---------------------------------------------------------------------------------
 
   pub item-found : (m : Measured) → (Bracketed (getD a p 0) → ⊥) → (getD a p 0 ≡ 7 → ⊥) → (getD a p 0 ≡ 10 → ⊥) → Singled a p (getD a p 0) m → Finds Part a p m
-  unfolding Finds Part lineBreak leastLength itemLength shortest capped lengthLimit unresolved unresolvedIn firstOf dangling idle idleIn marked
+  unfolding Finds Part lineBreak leastLength itemLength shortest capped lengthLimit unresolved unresolvedIn firstOf dangling idle idleIn lowest unfollowed unfollowedIn crowdedAt crowded crowdedIn branchCount branchLimit byteLimit formAt marked
   item-found m b e₇ e₁₀ w rule known groups t lo top proper h = for-item rule known a lo top p (λ t. Of t m) go broken b e₇ e₁₀ t h
     where
       go : (place : ℕ) (i : Item) → ItemKind i (getD a p 0) → Part rule known a (item place i) lo top p → Of (item place i) m
-      go place (byteIn folded c) k h = record { least = w .least ∙ rw k; reference = w .reference ∙ rw k; idle = w .idle }
-      go place (assert c) k h = record { least = w .least ∙ rw k; reference = w .reference ∙ rw k; idle = w .idle }
-      go place (reference folded n) (inl k) (inl h) = record { least = w .least ∙ rw k; reference = w .reference ∙ rw (k, h .origin, dangles place folded n); idle = w .idle }
+      go place (byteIn folded c) k h = record { least = w .least ∙ rw k; reference = w .reference ∙ rw k; idle = w .idle; form = w .form ∙ rw k; crowd = w .crowd }
+      go place (assert c) k h = record { least = w .least ∙ rw k; reference = w .reference ∙ rw k; idle = w .idle; form = w .form ∙ rw k; crowd = w .crowd }
+      go place (reference folded n) (inl k) (inl h) = record { least = w .least ∙ rw k; reference = w .reference ∙ rw (k, h .origin, dangles place folded n); idle = w .idle; form = w .form ∙ rw k; crowd = w .crowd }
       go place (reference folded n) (inl k) (inr h) = absurd (omega (arith, k, h .node .is))
       go place (reference folded n) (inr k) (inl h) = absurd (omega (arith, k, h .node .is))
-      go place (reference folded n) (inr k) (inr h) = record { least = w .least ∙ rw k; reference = w .reference ∙ rw (k, h .origin, dangles place folded n); idle = w .idle }
+      go place (reference folded n) (inr k) (inr h) = record { least = w .least ∙ rw k; reference = w .reference ∙ rw (k, h .origin, dangles place folded n); idle = w .idle; form = w .form ∙ rw k; crowd = w .crowd }
 
       -- `\R` takes one byte or two
       broken : (place : ℕ) (s : Rule) → held place s ≡ lineBreak place → Breaking a place lo top p → Of (held place s) m
-      broken place s e h = rw e (record { least = w .least ∙ rw (h .node .is); reference = w .reference ∙ rw (h .node .is); idle = w .idle })
+      broken place s e h = rw e (record { least = w .least ∙ rw (h .node .is); reference = w .reference ∙ rw (h .node .is); idle = w .idle; form = w .form ∙ rw (h .node .is, h .origin); crowd = w .crowd })

@@ -1,4 +1,4 @@
-// What the depot profile bars of a rule, and the least lengths that it asks for: a recursion over the rule's groups and repeats, one inside another, in
+// What the depot profile bars of a rule, and the least lengths that it asks for; and what a check cannot follow. A recursion over the rule's groups and repeats, one inside another, in
 // which the levels that are left fall at each part. It goes over the nodes as the first pass left them in the rule area, and looks at each once. It has
 // to come before linking, since the linked rule does not tell where an alternation ends, and a repeat's place there gives way to its register.
 use linker::before_of;
@@ -9,15 +9,19 @@ use syntax::Refusal;
 ghost use mathlib.Core.Path.{_≡_};
 ghost use mathlib.Core.Bool.{true};
 ghost use Prim.Native.Nat.{min, _+_, _≤_};
+ghost use lib.Dec.{ltb};
 ghost use lib.ListN.{length};
 ghost use Rattle.syntax.specs.Limits.{lengthLimit, levelLimit};
+ghost use Rattle.syntax.specs.Read.{if_then_else_};
 ghost use Rattle.linker.specs.Nodes.{Part, Chain, Inside};
-ghost use Rattle.lengths.specs.Measures.{sooner, IsNothing, Joined, Shorter, idleAt, Repeated, Enclosed, takesBytes, refersBack, Singled, Deep, DeepBranches, Finds, FindsBranches, Judges};
+ghost use Rattle.lengths.specs.Measures.{sooner, lower, IsNothing, Joined, Shorter, idleAt, Repeated, Enclosed, takesBytes, refersBack, formAt, Singled, Deep, DeepBranches, Finds, FindsBranches, Judges, Follows};
 
 // The kinds of nodes, as the linker's specs/Nodes.antt lists them.
 const BYTE: usize = 0;
 
 const NAMED: usize = 2;
+
+const CLOSE: usize = 4;
 
 const LAST: usize = 6;
 
@@ -40,18 +44,20 @@ const LENGTH_LIMIT: usize = 65536;
 // How many levels of sequences and repeats a rule can have, one inside another.
 const LEVEL_LIMIT: u32 = 150;
 
-// Whether a rule keeps to the profile, or why it does not.
+// Whether a rule keeps to the profile, or can be followed by a check, or why it does not.
 pub enum Judgement {
     Passes,
     Barred(Refusal),
 }
 
 // What was found of a part: its least length, and one more than the places of its first reference and of its first repeat without upper bound whose body
-// has the least length 0; 0 for none.
+// has the least length 0, of its first held part or looking ahead, and of its first bar before a 257th branch; 0 for none.
 struct Measured {
     least: usize,
     reference: usize,
     idle: usize,
+    form: usize,
+    crowd: usize,
 }
 
 // Of two places that were found, the one further left. 0 is none.
@@ -73,6 +79,16 @@ fn smaller(a: usize, b: usize) -> usize
     b
 }
 
+// The lower of a place and one that may have been found.
+fn lower_of(own: usize, other: usize) -> usize
+    ensures { λ r. ⌜ r ≡ lower own other ⌝ }
+{
+    if other == 0 {
+        return own;
+    }
+    smaller(own, other)
+}
+
 // Nothing: it takes no bytes, and nothing is found in it.
 fn nothing() -> Measured
     ensures { λ m. ⌜ IsNothing m ⌝ }
@@ -81,6 +97,8 @@ fn nothing() -> Measured
         least: 0,
         reference: 0,
         idle: 0,
+        form: 0,
+        crowd: 0,
     }
 }
 
@@ -94,16 +112,22 @@ fn follow(a: Measured, b: Measured) -> Measured
     let y = b.reference;
     let i = a.idle;
     let j = b.idle;
+    let f = a.form;
+    let g = b.form;
+    let c = a.crowd;
+    let d = b.crowd;
     Measured {
         least: smaller(sum, LENGTH_LIMIT),
         reference: first(x, y),
         idle: first(i, j),
+        form: first(f, g),
+        crowd: first(c, d),
     }
 }
 
-// Branches of which one is taken.
-fn either(a: Measured, b: Measured) -> Measured
-    ensures { λ m. ⌜ Shorter a b m ⌝ }
+// Branches of which one is taken, with what tells of the bar between them.
+fn either(a: Measured, bar: usize, b: Measured) -> Measured
+    ensures { λ m. ⌜ Shorter a bar b m ⌝ }
 {
     let k = a.least;
     let l = b.least;
@@ -111,10 +135,17 @@ fn either(a: Measured, b: Measured) -> Measured
     let y = b.reference;
     let i = a.idle;
     let j = b.idle;
+    let f = a.form;
+    let g = b.form;
+    let c = a.crowd;
+    let d = b.crowd;
+    let behind = first(bar, d);
     Measured {
         least: smaller(k, l),
         reference: first(x, y),
         idle: first(i, j),
+        form: first(f, g),
+        crowd: first(c, behind),
     }
 }
 
@@ -140,28 +171,49 @@ fn repeated(area: &[u32], p: usize, body: Measured) -> Measured
     let length = body.least;
     let reference = body.reference;
     let inner = body.idle;
+    let form = body.form;
+    let crowd = body.crowd;
     let least = word(area, p + 2);
     let own = own_idle(area, p, length);
     Measured {
         least: smaller(least * length, LENGTH_LIMIT),
         reference,
         idle: first(inner, own),
+        form,
+        crowd,
     }
 }
 
-// A group that captures, a held part or looking ahead, of whose inside this was found. Looking ahead takes no bytes.
-fn enclosed(kind: usize, within: Measured) -> Measured
-    ensures { λ m. ⌜ Enclosed kind within m ⌝ }
+// How many bytes a held part or looking ahead takes, whose inside takes so many: looking ahead takes none.
+fn taken(kind: usize, within: usize) -> usize
+    ensures { λ r. ⌜ r ≡ (if ltb kind 15 then within else 0) ⌝ }
 {
     if kind < AHEAD {
         return within;
     }
+    0
+}
+
+// The group that captures, held part or looking ahead at p, of whose inside this was found. A possessive's place is behind those in its body.
+fn enclosed(area: &[u32], p: usize, kind: usize, within: Measured) -> Measured
+    requires { ⌜ p + 7 ≤ length (now area) ⌝ }
+    ensures { λ m. ⌜ Enclosed (now (area .entry)) p kind within m ⌝ }
+{
+    if kind == CLOSE {
+        return within;
+    }
     let reference = within.reference;
     let idle = within.idle;
+    let inner = within.form;
+    let crowd = within.crowd;
+    let length = within.least;
+    let place = word(area, p + 3);
     Measured {
-        least: 0,
+        least: taken(kind, length),
         reference,
         idle,
+        form: lower_of(place + 1, inner),
+        crowd,
     }
 }
 
@@ -185,27 +237,49 @@ fn refers(kind: usize) -> bool
     kind == NAMED
 }
 
+// The place of `\R` at p, if it is one.
+fn own_form(area: &[u32], p: usize, kind: usize) -> usize
+    requires { ⌜ p + 3 ≤ length (now area) ⌝ }
+    ensures { λ r. ⌜ r ≡ formAt (now (area .entry)) p kind ⌝ }
+{
+    if kind != BREAK {
+        return 0;
+    }
+    word(area, p + 2) + 1
+}
+
 // The item at p, of a kind, or `\R`.
 fn single(area: &[u32], p: usize, kind: usize) -> Measured
     requires { ⌜ p + 3 ≤ length (now area) ⌝ }
     ensures { λ m. ⌜ Singled (now (area .entry)) p kind m ⌝ }
 {
+    let form = own_form(area, p, kind);
     if takes(kind) {
         return Measured {
             least: 1,
             reference: 0,
             idle: 0,
+            form,
+            crowd: 0,
         };
     }
     if refers(kind) {
-        let place = word(area, p + 2);
+        let reference = word(area, p + 2) + 1;
         return Measured {
             least: 0,
-            reference: place + 1,
+            reference,
             idle: 0,
+            form,
+            crowd: 0,
         };
     }
-    nothing()
+    Measured {
+        least: 0,
+        reference: 0,
+        idle: 0,
+        form,
+        crowd: 0,
+    }
 }
 
 // The part at p, in which so many levels may stand.
@@ -216,7 +290,7 @@ fn part(area: &[u32], p: usize, depth: u32) -> Measured
     let kind = word(area, p);
     if is_bracketed(kind) {
         let within = inside(area, word(area, p + 5), depth);
-        return enclosed(kind, within);
+        return enclosed(area, p, kind, within);
     }
     if kind == PLAIN {
         return inside(area, word(area, p + 2), depth);
@@ -254,8 +328,9 @@ fn branches(area: &[u32], last: usize, behind: Measured, depth: u32) -> Measured
     while p != 0 {
         let held = word(area, p + 1);
         let before = word(area, p + 2);
+        let bar = word(area, p + 3);
         let one = chain(area, held, depth);
-        m = either(one, m);
+        m = either(one, bar, m);
         p = before;
     }
     m
@@ -296,6 +371,29 @@ pub fn judge(area: &[u32], p: usize) -> Judgement
         return Judgement::Barred(Refusal {
             place: idle - 1,
             reason: Reason::IdleRepeat,
+        });
+    }
+    Judgement::Passes
+}
+
+// Whether a check can follow a whole rule, whose inside the first pass left.
+pub fn checkable(area: &[u32], p: usize) -> Judgement
+    requires { ⌜ Deep Inside (now area) p levelLimit ⌝ }
+    ensures { λ r. ⌜ Follows true (now (area .entry)) p r ⌝ }
+{
+    let m = inside(area, p, LEVEL_LIMIT);
+    let form = m.form;
+    let crowd = m.crowd;
+    if form != 0 {
+        return Judgement::Barred(Refusal {
+            place: form - 1,
+            reason: Reason::HeldOrLook,
+        });
+    }
+    if crowd != 0 {
+        return Judgement::Barred(Refusal {
+            place: crowd - 1,
+            reason: Reason::TooManyBranches,
         });
     }
     Judgement::Passes

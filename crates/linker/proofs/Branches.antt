@@ -10,7 +10,7 @@ use Rattle.syntax.specs.Reading.{firstOf, unresolved, unresolvedIn}
 use Rattle.syntax.specs.Names.{Names}
 use Rattle.syntax.specs.Tree.{Rule, alt, Branches, one, also}
 use Rattle.syntax.specs.Compiled.{Compiled, CompiledBranches}
-use Rattle.linker.specs.Nodes.{Region, Nothing, Branch, Chain, Several}
+use Rattle.linker.specs.Nodes.{Region, Nothing, Branch, Chain, Several, Preceding}
 use Rattle.linker.specs.Linking.{Outside, Fits, FitAll, Stands, StandAll, noted, Made, MadeAll, Links, LinksAll}
 use Rattle.linker.specs.Stores.{PutTwo}
 use Rattle.linker.proofs.Regions.{chain-order, chain-below, several-node, several-same}
@@ -103,11 +103,11 @@ module _ (rule : List ℕ) (known : Names) where
       inner : firstOf (unresolvedIn groups bs) (unresolved groups t) ≡ none → Compiled d lo top t entry next r
       first : last ≡ noted (firstOf (unresolvedIn groups bs) (unresolved groups t)) sofar
 
-    joined : (d : List ℕ) (bs : Branches) (kind pc last : ℕ) → (h : Branch a kind (Several rule known a bs) (Chain rule known a t) lo top p) → Branched groups r a c t (h .mid) p kind other next sofar entry found
+    joined : (d : List ℕ) (bs : Branches) (bar kind pc last : ℕ) → (h : Branch a kind (Preceding rule known a bs bar) (Chain rule known a t) lo top p) → Branched groups r a c t (h .mid) p kind other next sofar entry found
         → MadeAll groups r bs lo (h .mid) c d p next found pc last → Joined d bs kind pc last
-    joined d bs kind pc last h w m =
+    joined d bs bar kind pc last h w m =
         let u = h .node .high in
-        let q = several-node rule known a bs lo (h .mid) (h .before) (h .left) in
+        let q = several-node rule known a bs lo (h .mid) (h .before) (h .left .earlier) in
         let l : lo ≤ h .mid = omega (arith, q .low, q .high) in
         let n = chain-order rule known a t (h .mid) p (h .inside) (h .right) in
         let us = unresolvedIn groups bs in
@@ -123,11 +123,11 @@ module _ (rule : List ℕ) (known : Names) where
           first = m .first ∙ ap (noted us) (w .first) ∙ noted-first us ut sofar;
         }
 
-    made-also : (d : List ℕ) (bs : Branches) (bar pc last : ℕ) → (h : Branch a 5 (Several rule known a bs) (Chain rule known a t) lo top p) → Branched groups r a c t (h .mid) p 5 other next sofar entry found
+    made-also : (d : List ℕ) (bs : Branches) (bar pc last : ℕ) → (h : Branch a 5 (Preceding rule known a bs bar) (Chain rule known a t) lo top p) → Branched groups r a c t (h .mid) p 5 other next sofar entry found
         → MadeAll groups r bs lo (h .mid) c d p next found pc last → MadeAll groups r (also bs bar t) lo top a d other next sofar pc last
     unfolding unresolved Compiled
     made-also d bs bar pc last h w m =
-        let j = joined d bs 5 pc last h w m in
+        let j = joined d bs bar 5 pc last h w m in
         record {
           outside = j .outside;
           near = j .near;
@@ -135,11 +135,11 @@ module _ (rule : List ℕ) (known : Names) where
           first = j .first;
         }
 
-    pub made-alt : (d : List ℕ) (bs : Branches) (bar pc last : ℕ) → (h : Branch a 6 (Several rule known a bs) (Chain rule known a t) lo top p) → Branched groups r a c t (h .mid) p 6 other next sofar entry found
+    pub made-alt : (d : List ℕ) (bs : Branches) (bar pc last : ℕ) → (h : Branch a 6 (Preceding rule known a bs bar) (Chain rule known a t) lo top p) → Branched groups r a c t (h .mid) p 6 other next sofar entry found
         → MadeAll groups r bs lo (h .mid) c d p next found pc last → Made groups r (alt bs bar t) lo top a d next sofar pc last
     unfolding unresolved Compiled
     made-alt d bs bar pc last h w m =
-        let j = joined d bs 6 pc last h w m in
+        let j = joined d bs bar 6 pc last h w m in
         record {
           outside = j .outside;
           near = omega (arith, j .near);
@@ -212,9 +212,9 @@ module _ (rule : List ℕ) (known : Names) where
         go : (rest : Branches) → Several rule known a rest (s .lo) (k .mid) p → FitAll groups r rest → AllTurn
         go (one t) h f = record { branch = branch-at groups r a Nothing t (s .lo) (k .mid) p 5 short small (fits-one groups r t f) h; near = near; lower = rw (h .link) (omega (arith, h .left .0)) }
         go (also bs bar t) h f =
-            let q = several-node rule known a bs (s .lo) (h .mid) (h .before) (h .left) in
+            let q = several-node rule known a bs (s .lo) (h .mid) (h .before) (h .left .earlier) in
             let o = chain-order rule known a t (h .mid) p (h .inside) (h .right) in
-            record { branch = branch-at groups r a (Several rule known a bs) t (s .lo) (k .mid) p 5 short small (fits-last groups r bar bs t f) h; near = near; lower = rw (h .link) (omega (arith, q .high)) }
+            record { branch = branch-at groups r a (Preceding rule known a bs bar) t (s .lo) (k .mid) p 5 short small (fits-last groups r bar bs t f) h; near = near; lower = rw (h .link) (omega (arith, q .high)) }
 
     -- the branch at p is linked, and its node written
     module _ (b c : List ℕ) (before entry last : ℕ) (some : 1 ≤ p) (is : before ≡ getD a (p + 2) 0) (m : Links (Chain rule known a) groups r a b (getD a (p + 1) 0) next found entry last) (w : PutTwo b c (p + 1) entry after) where
@@ -239,11 +239,11 @@ module _ (rule : List ℕ) (known : Names) where
                 more = λ e. absurd (omega arith);
               }
           go (also bs′ bar t) h f whole =
-              let q = several-node rule known a bs′ lo (h .mid) (h .before) (h .left) in
+              let q = several-node rule known a bs′ lo (h .mid) (h .before) (h .left .earlier) in
               let o = chain-order rule known a t (h .mid) p (h .inside) (h .right) in
               let u = h .node .high in
               let mt = m t (h .mid) p (rw (h .of) (h .right)) (fits-last groups r bar bs′ t f) in
-              let bt = branched groups r a b c (Several rule known a bs′) t lo (k .mid) p 5 after next found entry last h mt w in
+              let bt = branched groups r a b c (Preceding rule known a bs′ bar) t lo (k .mid) p 5 after next found entry last h mt w in
               record {
                 near = omega (arith, k .ends);
                 long = bt .outside .long ∙ l .long;
@@ -252,7 +252,7 @@ module _ (rule : List ℕ) (known : Names) where
                   rest = bs′;
                   mid = h .mid;
                   ends = omega (arith, k .ends);
-                  stands = rw (is ∙ h .link) (several-same rule known a c bs′ lo (h .mid) (h .before) (λ i _ y. bt .outside .below i y) (h .left));
+                  stands = rw (is ∙ h .link) (several-same rule known a c bs′ lo (h .mid) (h .before) (λ i _ y. bt .outside .below i y) (h .left .earlier));
                   fits = fits-others groups r bar bs′ t f;
                   whole = λ new at z mb. whole new at z (made-also groups r a c t lo (k .mid) p after next found entry last new bs′ bar at z h bt mb);
                 };

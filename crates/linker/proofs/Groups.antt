@@ -66,10 +66,10 @@ module _ (rule : List ℕ) (known : Names) where
       captures : (n : ℕ) (t : Rule) → Part rule known a (group n t) (s .lo) (s .top) p → Fits groups r (group n t) → GroupAt groups r a p
       captures n t h f = standing groups r a p s (group n t) t 7 (h .inside) refl (f .proper .2) f (h .node .high) (omega arith) (λ z. absurd (omega (arith, h .node .is))) (h .node .some) (h .is) (h .holds)
 
-      holds : (place : ℕ) (t : Rule) → Marked a 14 (Inside rule known a t) (s .lo) (s .top) p → Fits groups r (held place t) → GroupAt groups r a p
+      holds : (place : ℕ) (t : Rule) → Marked a 14 place (Inside rule known a t) (s .lo) (s .top) p → Fits groups r (held place t) → GroupAt groups r a p
       holds place t h f = standing groups r a p s (held place t) t 7 (h .inside) refl (f .proper) f (h .node .high) (omega arith) (λ z. absurd (omega (arith, h .node .is))) (h .node .some) (h .is) (h .holds)
 
-      ahead : (place : ℕ) (t : Rule) → Marked a 15 (Inside rule known a t) (s .lo) (s .top) p → Fits groups r (look place false t) → GroupAt groups r a p
+      ahead : (place : ℕ) (t : Rule) → Marked a 15 place (Inside rule known a t) (s .lo) (s .top) p → Fits groups r (look place false t) → GroupAt groups r a p
       ahead place t h f = standing groups r a p s (look place false t) t 7 (h .inside) refl (f .proper) f (h .node .high) (omega arith) (λ z. absurd (omega (arith, h .node .is))) (h .node .some) (h .is) (h .holds)
 
       not-ahead : (place : ℕ) (t : Rule) → Forbidden a place (Inside rule known a t) (s .lo) (s .top) p → Fits groups r (look place true t) → GroupAt groups r a p
@@ -108,7 +108,7 @@ module _ (rule : List ℕ) (known : Names) where
         }
 
     -- a held part, or looking ahead
-    module _ (kind : ℕ) (s : Rule) (lo top : ℕ) (h : Marked a kind (Inside rule known a s) lo top p) (other : kind ≡ 17 → ⊥) (room : r + 2 ≤ registers) (m : Made groups (r + 2) s lo p a b p sofar entry found) (w : GroupClosed b c p next r entry) where
+    module _ (kind place : ℕ) (s : Rule) (lo top : ℕ) (h : Marked a kind place (Inside rule known a s) lo top p) (other : kind ≡ 17 → ⊥) (room : r + 2 ≤ registers) (m : Made groups (r + 2) s lo p a b p sofar entry found) (w : GroupClosed b c p next r entry) where
       is-kind : getD b p 0 ≡ kind
       is-kind = m .outside .above p (omega arith) ∙ h .node .is
 
@@ -132,27 +132,27 @@ module _ (rule : List ℕ) (known : Names) where
             closer = w .closer;
           }
 
-    held-made : (place : ℕ) (s : Rule) (lo top : ℕ) → Marked a 14 (Inside rule known a s) lo top p → Fits groups r (held place s) → Made groups (r + 2) s lo p a b p sofar entry found → GroupClosed b c p next r entry
+    held-made : (place : ℕ) (s : Rule) (lo top : ℕ) → Marked a 14 place (Inside rule known a s) lo top p → Fits groups r (held place s) → Made groups (r + 2) s lo p a b p sofar entry found → GroupClosed b c p next r entry
         → Made groups r (held place s) lo top a c next sofar (p + 4) found
     unfolding unresolved Compiled
     held-made place s lo top h f m w =
         let room : r + 2 ≤ registers = omega (arith, f .room) in
         record {
-          outside = marked-outside 14 s lo top h (λ e. omega arith) room m w;
+          outside = marked-outside 14 place s lo top h (λ e. omega arith) room m w;
           near = omega (arith, h .node .high);
-          stands = λ e. inr (marked-stands 14 s lo top h (λ e. omega arith) room m w e);
+          stands = λ e. inr (marked-stands 14 place s lo top h (λ e. omega arith) room m w e);
           first = m .first;
         }
 
-    ahead-made : (place : ℕ) (s : Rule) (lo top : ℕ) → Marked a 15 (Inside rule known a s) lo top p → Fits groups r (look place false s) → Made groups (r + 2) s lo p a b p sofar entry found → GroupClosed b c p next r entry
+    ahead-made : (place : ℕ) (s : Rule) (lo top : ℕ) → Marked a 15 place (Inside rule known a s) lo top p → Fits groups r (look place false s) → Made groups (r + 2) s lo p a b p sofar entry found → GroupClosed b c p next r entry
         → Made groups r (look place false s) lo top a c next sofar (p + 4) found
     unfolding unresolved Compiled
     ahead-made place s lo top h f m w =
         let room : r + 2 ≤ registers = omega (arith, f .room) in
         record {
-          outside = marked-outside 15 s lo top h (λ e. omega arith) room m w;
+          outside = marked-outside 15 place s lo top h (λ e. omega arith) room m w;
           near = omega (arith, h .node .high);
-          stands = λ e. marked-stands 15 s lo top h (λ e. omega arith) room m w e;
+          stands = λ e. marked-stands 15 place s lo top h (λ e. omega arith) room m w e;
           first = m .first;
         }
 

@@ -11,7 +11,7 @@ use Rattle.syntax.specs.Names.{Names}
 use Rattle.syntax.specs.Tree.{Rule, empty, item, seq, alt, group, repeat, held, look, Branches, also}
 use Rattle.linker.specs.declared.Linkage.the-variants.{Entry, NoGroup}
 use Rattle.linker.specs.Table.{Spelled, namesIn, NamesFit, names-are, names-fit}
-use Rattle.linker.specs.Nodes.{Branch, Chain, Inside, Several}
+use Rattle.linker.specs.Nodes.{Branch, Chain, Inside, Several, Preceding}
 use Rattle.linker.specs.Linking.{Fits, FitAll, Stands, StandAll, Linkable, noted, Made, Links, LinksAll, LinksWhole}
 use Rattle.linker.specs.Stores.{PutTwo}
 use Rattle.linker.proofs.Regions.{part-here, chain-order, several-node, several-same}
@@ -68,7 +68,7 @@ module _ (rule : List ℕ) (known : Names) where
 
   -- An alternation ----------------------------------------------------------------------
 
-  pub for-alt : (a : List ℕ) (lo top p : ℕ) (Q : Rule → Type 0) → ((bs : Branches) (bar : ℕ) (t : Rule) → Branch a 6 (Several rule known a bs) (Chain rule known a t) lo top p → Q (alt bs bar t)) → 1 ≤ p → getD a p 0 ≡ 6 → (t : Rule) → Inside rule known a t lo top p → Q t
+  pub for-alt : (a : List ℕ) (lo top p : ℕ) (Q : Rule → Type 0) → ((bs : Branches) (bar : ℕ) (t : Rule) → Branch a 6 (Preceding rule known a bs bar) (Chain rule known a t) lo top p → Q (alt bs bar t)) → 1 ≤ p → getD a p 0 ≡ 6 → (t : Rule) → Inside rule known a t lo top p → Q t
   unfolding Inside
   for-alt a lo top p Q f l e empty h = absurd (omega (arith, h .0))
   for-alt a lo top p Q f l e (seq x y) h = absurd (never-last rule known a y (h .mid) top p (h .right) e)
@@ -87,26 +87,26 @@ module _ (rule : List ℕ) (known : Names) where
     pub alt-at : Stands (Inside rule known a) groups r a p → BranchAt rule known groups r a p × (getD a (p + 2) 0 < p)
     alt-at s = for-alt a (s .lo) (s .top) p (λ t. Fits groups r t → BranchAt rule known groups r a p × (getD a (p + 2) 0 < p)) go l e (s .tree) (s .holds) (s .fits)
       where
-        go : (bs : Branches) (bar : ℕ) (t : Rule) → Branch a 6 (Several rule known a bs) (Chain rule known a t) (s .lo) (s .top) p → Fits groups r (alt bs bar t) → BranchAt rule known groups r a p × (getD a (p + 2) 0 < p)
+        go : (bs : Branches) (bar : ℕ) (t : Rule) → Branch a 6 (Preceding rule known a bs bar) (Chain rule known a t) (s .lo) (s .top) p → Fits groups r (alt bs bar t) → BranchAt rule known groups r a p × (getD a (p + 2) 0 < p)
         go bs bar t h f =
-            let q = several-node rule known a bs (s .lo) (h .mid) (h .before) (h .left) in
+            let q = several-node rule known a bs (s .lo) (h .mid) (h .before) (h .left .earlier) in
             let o = chain-order rule known a t (h .mid) p (h .inside) (h .right) in
-            (branch-at rule known groups r a (Several rule known a bs) t (s .lo) (s .top) p 6 (s .within) (s .small) (fits-last groups r bar bs t (fits-branches groups r bar bs t f)) h, rw (h .link) (omega (arith, q .high)))
+            (branch-at rule known groups r a (Preceding rule known a bs bar) t (s .lo) (s .top) p 6 (s .within) (s .small) (fits-last groups r bar bs t (fits-branches groups r bar bs t f)) h, rw (h .link) (omega (arith, q .high)))
 
     -- the last branch is linked, and its node written
     module _ (b c : List ℕ) (other next sofar entry found : ℕ) (m : Links (Chain rule known a) groups r a b (getD a (p + 1) 0) next sofar entry found) (w : PutTwo b c (p + 1) entry other) where
-      last-branched : (bs : Branches) (bar : ℕ) (t : Rule) (lo top : ℕ) → (h : Branch a 6 (Several rule known a bs) (Chain rule known a t) lo top p) → Fits groups r (alt bs bar t) → Branched groups r a c t (h .mid) p 6 other next sofar entry found
+      last-branched : (bs : Branches) (bar : ℕ) (t : Rule) (lo top : ℕ) → (h : Branch a 6 (Preceding rule known a bs bar) (Chain rule known a t) lo top p) → Fits groups r (alt bs bar t) → Branched groups r a c t (h .mid) p 6 other next sofar entry found
       unfolding Links
-      last-branched bs bar t lo top h f = branched rule known groups r a b c (Several rule known a bs) t lo top p 6 other next sofar entry found h (m t (h .mid) p (rw (h .of) (h .right)) (fits-last groups r bar bs t (fits-branches groups r bar bs t f))) w
+      last-branched bs bar t lo top h f = branched rule known groups r a b c (Preceding rule known a bs bar) t lo top p 6 other next sofar entry found h (m t (h .mid) p (rw (h .of) (h .right)) (fits-last groups r bar bs t (fits-branches groups r bar bs t f))) w
 
       -- the branches before it stand as they stood
-      others-stand : (bs : Branches) (bar : ℕ) (t : Rule) (lo top : ℕ) → (h : Branch a 6 (Several rule known a bs) (Chain rule known a t) lo top p) → Fits groups r (alt bs bar t) → Several rule known c bs lo (h .mid) (getD a (p + 2) 0)
-      others-stand bs bar t lo top h f = rw (h .link) (several-same rule known a c bs lo (h .mid) (h .before) (λ i _ y. last-branched bs bar t lo top h f .outside .below i y) (h .left))
+      others-stand : (bs : Branches) (bar : ℕ) (t : Rule) (lo top : ℕ) → (h : Branch a 6 (Preceding rule known a bs bar) (Chain rule known a t) lo top p) → Fits groups r (alt bs bar t) → Several rule known c bs lo (h .mid) (getD a (p + 2) 0)
+      others-stand bs bar t lo top h f = rw (h .link) (several-same rule known a c bs lo (h .mid) (h .before) (λ i _ y. last-branched bs bar t lo top h f .outside .below i y) (h .left .earlier))
 
       pub alt-others : Stands (Inside rule known a) groups r a p → StandAll rule known groups r c (getD a (p + 2) 0)
       alt-others s = for-alt a (s .lo) (s .top) p (λ t. Fits groups r t → StandAll rule known groups r c (getD a (p + 2) 0)) go l e (s .tree) (s .holds) (s .fits)
         where
-          go : (bs : Branches) (bar : ℕ) (t : Rule) → Branch a 6 (Several rule known a bs) (Chain rule known a t) (s .lo) (s .top) p → Fits groups r (alt bs bar t) → StandAll rule known groups r c (getD a (p + 2) 0)
+          go : (bs : Branches) (bar : ℕ) (t : Rule) → Branch a 6 (Preceding rule known a bs bar) (Chain rule known a t) (s .lo) (s .top) p → Fits groups r (alt bs bar t) → StandAll rule known groups r c (getD a (p + 2) 0)
           go bs bar t h f =
               let o = chain-order rule known a t (h .mid) p (h .inside) (h .right) in
               let u = h .node .high in
@@ -125,7 +125,7 @@ module _ (rule : List ℕ) (known : Names) where
       unfolding Links LinksAll
       alt-links d pc last n t lo top h f = for-alt a lo top p (λ t. Fits groups r t → Made groups r t lo top a d next sofar pc last) go l e t h f
         where
-          go : (bs : Branches) (bar : ℕ) (t : Rule) → Branch a 6 (Several rule known a bs) (Chain rule known a t) lo top p → Fits groups r (alt bs bar t) → Made groups r (alt bs bar t) lo top a d next sofar pc last
+          go : (bs : Branches) (bar : ℕ) (t : Rule) → Branch a 6 (Preceding rule known a bs bar) (Chain rule known a t) lo top p → Fits groups r (alt bs bar t) → Made groups r (alt bs bar t) lo top a d next sofar pc last
           go bs bar t h f =
               made-alt rule known groups r a c t lo top p other next sofar entry found d bs bar pc last h (last-branched bs bar t lo top h f)
               (n bs lo (h .mid) (others-stand bs bar t lo top h f) (fits-others groups r bar bs t (fits-branches groups r bar bs t f)))

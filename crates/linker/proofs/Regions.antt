@@ -13,7 +13,7 @@ use Rattle.charset.specs.Class.{has}
 use Rattle.syntax.specs.Read.{if_then_else_}
 use Rattle.syntax.specs.Names.{Names}
 use Rattle.syntax.specs.Tree.{Item, byteIn, assert, reference, Rule, empty, item, seq, alt, group, repeat, held, look, Branches, one, also}
-use Rattle.linker.specs.Nodes.{beforeOf, Last, Region, Nothing, Sequence, Branch, Plain, Marked, ItemPart, Part, Chain, Inside, Several}
+use Rattle.linker.specs.Nodes.{beforeOf, Last, Region, Nothing, Sequence, Branch, Barred, Plain, Marked, ItemPart, Part, Chain, Inside, Several, Preceding}
 
 -- equal numbers in a region
 abbrev pub Same : ℕ → ℕ → List ℕ → List ℕ → Type 0
@@ -195,10 +195,11 @@ module _ (rule : List ℕ) (known : Names) (a b : List ℕ) where
         holds = f lo p (h .inside) (λ i i1 i2. s i i1 (omega (arith, h .node .high))) (h .holds);
       }
 
-  marked-same : (kind : ℕ) (X Y : Region) → Carries X Y → Carries (Marked a kind X) (Marked b kind Y)
-  marked-same kind X Y f lo top p s h =
+  marked-same : (kind place : ℕ) (X Y : Region) → Carries X Y → Carries (Marked a kind place X) (Marked b kind place Y)
+  marked-same kind place X Y f lo top p s h =
       record {
         node = last-same a b lo top p 7 kind (omega arith) s (h .node);
+        origin = word a b lo top p 7 kind 3 (omega arith) s (h .node) (h .origin);
         opening = word a b lo top p 7 kind 4 (omega arith) s (h .node) (h .opening);
         inside = h .inside;
         is = word a b lo top p 7 kind 5 (omega arith) s (h .node) (h .is);
@@ -210,6 +211,15 @@ module _ (rule : List ℕ) (known : Names) (a b : List ℕ) where
 
   several-order : (bs : Branches) (lo top p : ℕ) → Several rule known a bs lo top p → lo ≤ top
   several-order bs lo top p h = let n = several-node rule known a bs lo top p h in omega (arith, n .low, n .high)
+
+  preceding-order : (bs : Branches) (bar lo top p : ℕ) → Preceding rule known a bs bar lo top p → lo ≤ top
+  preceding-order bs bar lo top p h = several-order bs lo top p (h .earlier)
+
+  -- the bar's number lies in the region too
+  barred-same : (bs : Branches) (bar : ℕ) → Carries (Several rule known a bs) (Several rule known b bs) → Carries (Preceding rule known a bs bar) (Preceding rule known b bs bar)
+  barred-same bs bar f lo top p s h =
+      let n = several-node rule known a bs lo top p (h .earlier) in
+      record { earlier = f lo top p s (h .earlier); fits = h .fits; bar = s (p + 3) (omega (arith, n .low)) (omega (arith, h .fits)) ∙ h .bar }
 
   mutual
     unfolding Part
@@ -238,8 +248,8 @@ module _ (rule : List ℕ) (known : Names) (a b : List ℕ) where
           holds = part-same t lo p (h .body) (λ i i1 i2. s i i1 (omega (arith, h .node .high))) (h .holds);
         }
     part-same (held place t) lo top p s (inl h) = inl (h .0, record { node = last-same a b lo top p 3 12 (omega arith) s (h .1 .node); origin = word a b lo top p 3 12 2 (omega arith) s (h .1 .node) (h .1 .origin) })
-    part-same (held place t) lo top p s (inr h) = inr (marked-same 14 (Inside rule known a t) (Inside rule known b t) (λ l u q v w. inside-same t l u q v w) lo top p s h)
-    part-same (look place false t) lo top p s h = marked-same 15 (Inside rule known a t) (Inside rule known b t) (λ l u q v w. inside-same t l u q v w) lo top p s h
+    part-same (held place t) lo top p s (inr h) = inr (marked-same 14 place (Inside rule known a t) (Inside rule known b t) (λ l u q v w. inside-same t l u q v w) lo top p s h)
+    part-same (look place false t) lo top p s h = marked-same 15 place (Inside rule known a t) (Inside rule known b t) (λ l u q v w. inside-same t l u q v w) lo top p s h
     part-same (look place true t) lo top p s h =
         record {
           node = last-same a b lo top p 8 17 (omega arith) s (h .node);
@@ -251,7 +261,7 @@ module _ (rule : List ℕ) (known : Names) (a b : List ℕ) where
         }
     part-same empty lo top p s h = plain-same Nothing Nothing nothing-same lo top p s h
     part-same (seq x y) lo top p s h = plain-same (Sequence a (Chain rule known a x) (Part rule known a y)) (Sequence b (Chain rule known b x) (Part rule known b y)) (sequence-same x y (λ l u q v w. chain-same x l u q v w) (λ l u q v w. part-same y l u q v w)) lo top p s h
-    part-same (alt bs bar t) lo top p s h = plain-same (Branch a 6 (Several rule known a bs) (Chain rule known a t)) (Branch b 6 (Several rule known b bs) (Chain rule known b t)) (branch-same 6 (Several rule known a bs) (Several rule known b bs) t (several-order bs) (λ l u q v w. several-same bs l u q v w) (λ l u q v w. chain-same t l u q v w)) lo top p s h
+    part-same (alt bs bar t) lo top p s h = plain-same (Branch a 6 (Preceding rule known a bs bar) (Chain rule known a t)) (Branch b 6 (Preceding rule known b bs bar) (Chain rule known b t)) (branch-same 6 (Preceding rule known a bs bar) (Preceding rule known b bs bar) t (preceding-order bs bar) (barred-same bs bar (λ l u q v w. several-same bs l u q v w)) (λ l u q v w. chain-same t l u q v w)) lo top p s h
 
     pub chain-same : (t : Rule) (lo top p : ℕ) → Same lo top a b → Chain rule known a t lo top p → Chain rule known b t lo top p
     chain-same empty lo top p s h = h
@@ -266,7 +276,7 @@ module _ (rule : List ℕ) (known : Names) (a b : List ℕ) where
     pub inside-same : (t : Rule) (lo top p : ℕ) → Same lo top a b → Inside rule known a t lo top p → Inside rule known b t lo top p
     inside-same empty lo top p s h = h
     inside-same (seq x y) lo top p s h = sequence-same x y (λ l u q v w. chain-same x l u q v w) (λ l u q v w. part-same y l u q v w) lo top p s h
-    inside-same (alt bs bar t) lo top p s h = branch-same 6 (Several rule known a bs) (Several rule known b bs) t (several-order bs) (λ l u q v w. several-same bs l u q v w) (λ l u q v w. chain-same t l u q v w) lo top p s h
+    inside-same (alt bs bar t) lo top p s h = branch-same 6 (Preceding rule known a bs bar) (Preceding rule known b bs bar) t (preceding-order bs bar) (barred-same bs bar (λ l u q v w. several-same bs l u q v w)) (λ l u q v w. chain-same t l u q v w) lo top p s h
     inside-same (item place i) lo top p s h = absurd h
     inside-same (group n t) lo top p s h = absurd h
     inside-same (repeat place least most g t) lo top p s h = absurd h
@@ -275,4 +285,7 @@ module _ (rule : List ℕ) (known : Names) (a b : List ℕ) where
 
     pub several-same : (bs : Branches) (lo top p : ℕ) → Same lo top a b → Several rule known a bs lo top p → Several rule known b bs lo top p
     several-same (one t) lo top p s h = branch-same 5 Nothing Nothing t (λ l u q w. w .1) nothing-same (λ l u q v w. chain-same t l u q v w) lo top p s h
-    several-same (also bs bar t) lo top p s h = branch-same 5 (Several rule known a bs) (Several rule known b bs) t (several-order bs) (λ l u q v w. several-same bs l u q v w) (λ l u q v w. chain-same t l u q v w) lo top p s h
+    several-same (also bs bar t) lo top p s h = branch-same 5 (Preceding rule known a bs bar) (Preceding rule known b bs bar) t (preceding-order bs bar) (barred-same bs bar (λ l u q v w. several-same bs l u q v w)) (λ l u q v w. chain-same t l u q v w) lo top p s h
+
+  pub preceding-same : (bs : Branches) (bar lo top p : ℕ) → Same lo top a b → Preceding rule known a bs bar lo top p → Preceding rule known b bs bar lo top p
+  preceding-same bs bar = barred-same bs bar (several-same bs)

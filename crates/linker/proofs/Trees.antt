@@ -57,7 +57,7 @@ module _ (rule : List ℕ) (known : Names) where
   -- what holds of every tree of a kind holds of the tree that stands there
   module _ (a : List ℕ) (lo top p : ℕ) (Q : Rule → Type 0) where
     -- what stands between an end and an opening
-    pub for-bracketed : ((n : ℕ) (s : Rule) → Part rule known a (group n s) lo top p → Q (group n s)) → ((place : ℕ) (s : Rule) → Marked a 14 (Inside rule known a s) lo top p → Q (held place s)) → ((place : ℕ) (s : Rule) → Marked a 15 (Inside rule known a s) lo top p → Q (look place false s))
+    pub for-bracketed : ((n : ℕ) (s : Rule) → Part rule known a (group n s) lo top p → Q (group n s)) → ((place : ℕ) (s : Rule) → Marked a 14 place (Inside rule known a s) lo top p → Q (held place s)) → ((place : ℕ) (s : Rule) → Marked a 15 place (Inside rule known a s) lo top p → Q (look place false s))
         → ((place : ℕ) (s : Rule) → Forbidden a place (Inside rule known a s) lo top p → Q (look place true s)) → Bracketed (getD a p 0) → (t : Rule) → Part rule known a t lo top p → Q t
     unfolding Part
     for-bracketed f g l m e t h = go t h (part-kind a t lo top p h)

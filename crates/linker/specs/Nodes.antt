@@ -8,11 +8,11 @@
 --   group      4, before, 0, the slot of its span, 3, inside, 0       the close's four numbers, then the open's three
 --   plain     10, before, inside                                      a group that does not capture
 --   break     12, before, place                                       `\R`
---   held      14, before, 0, 0, 13, inside, 0                         a held part: the inner end's numbers, then those where it is entered
---   ahead     15, before, 0, 0, 13, inside, 0                         looking ahead, likewise
+--   held      14, before, 0, place, 13, inside, 0                     a held part: the inner end's numbers, then those where it is entered
+--   ahead     15, before, 0, place, 13, inside, 0                     looking ahead, likewise
 --   not ahead 17, before, 0, place, 16, inside, 0, 0                  negative looking ahead
 --   repeat     7, 8, least, most, greed, place, body, before
---   branch     5, inside, the branch before it
+--   branch     5, inside, the branch before it, a bar                 one more than the place of the bar behind it if a 257th branch follows, or 0
 --   last       6, inside, the branch before it
 --
 -- `inside` is the last part of a sequence, or the last branch of an alternation. 0 is no node's position: it stands for none.
@@ -31,12 +31,17 @@ use Rattle.syntax.specs.Limits.{slot}
 use Rattle.syntax.specs.Names.{Names, groupCalled}
 use Rattle.syntax.specs.Read.{if_then_else_}
 use Rattle.syntax.specs.Sets.{inClass}
-use Rattle.syntax.specs.Tree.{Item, byteIn, assert, reference, Rule, empty, item, seq, alt, group, repeat, held, look, Branches, one, also, lineBreak}
-use Rattle.syntax.specs.Compiled.{assertionWord, mostWord, greedWord, foldedWord}
+use Rattle.syntax.specs.Tree.{Item, byteIn, assert, reference, Rule, empty, item, seq, alt, group, repeat, held, look, Branches, one, also, branchCount, lineBreak}
+use Rattle.syntax.specs.Checkable.{crowdedAt}
+use Rattle.syntax.specs.Compiled.{marked, assertionWord, mostWord, greedWord, foldedWord}
 
 -- the part before the one at p
 unfoldable pub beforeOf : List ℕ → ℕ → ℕ
 beforeOf a p = if eqb (getD a p 0) 7 then getD a (p + 7) 0 else getD a (p + 1) 0
+
+-- what the bar behind some branches is marked by: only one before a 257th branch is told
+abbrev pub barWord : Branches → ℕ → ℕ
+barWord bs bar = marked (crowdedAt (branchCount bs) bar)
 
 -- a node of so many numbers at p, the first of them its kind, from lo on, and just below top
 pub record Last (a : List ℕ) (lo top p size kind : ℕ) : Type 0 where
@@ -74,6 +79,12 @@ module _ (a : List ℕ) where
     pub left : Earlier lo mid before
     pub right : Within mid p inside
 
+  -- branches before a bar: the number behind the latest branch's node is the bar's
+  pub record Barred (word : ℕ) (Earlier : Region) (lo top p : ℕ) : Type 0 where
+    pub earlier : Earlier lo top p
+    pub fits : p + 4 ≤ top
+    pub bar : getD a (p + 3) 0 ≡ word
+
   -- a group that does not capture: its tree is that of its inside
   pub record Plain (Within : Region) (lo top p : ℕ) : Type 0 where
     pub node : Last a lo top p 3 10
@@ -87,8 +98,9 @@ module _ (a : List ℕ) where
     pub origin : getD a (p + 2) 0 ≡ place
 
   -- a held part, or looking ahead
-  pub record Marked (kind : ℕ) (Within : Region) (lo top p : ℕ) : Type 0 where
+  pub record Marked (kind place : ℕ) (Within : Region) (lo top p : ℕ) : Type 0 where
     pub node : Last a lo top p 7 kind
+    pub origin : getD a (p + 3) 0 ≡ place
     pub opening : getD a (p + 4) 0 ≡ 13
     pub inside : ℕ
     pub is : getD a (p + 5) 0 ≡ inside
@@ -157,12 +169,12 @@ module _ (s : List ℕ) (known : Names) (a : List ℕ) where
       is : getD a (p + 6) 0 ≡ body;
       holds : Part t lo p body;
     }
-    Part (held place t) lo top p = ((held place t ≡ lineBreak place) × Breaking a place lo top p) ⊎ Marked a 14 (λ l h q. Inside t l h q) lo top p
-    Part (look place false t) lo top p = Marked a 15 (λ l h q. Inside t l h q) lo top p
+    Part (held place t) lo top p = ((held place t ≡ lineBreak place) × Breaking a place lo top p) ⊎ Marked a 14 place (λ l h q. Inside t l h q) lo top p
+    Part (look place false t) lo top p = Marked a 15 place (λ l h q. Inside t l h q) lo top p
     Part (look place true t) lo top p = Forbidden a place (λ l h q. Inside t l h q) lo top p
     Part empty lo top p = Plain a Nothing lo top p
     Part (seq x y) lo top p = Plain a (Sequence a (λ l h q. Chain x l h q) (λ l h q. Part y l h q)) lo top p
-    Part (alt bs bar t) lo top p = Plain a (Branch a 6 (λ l h q. Several bs l h q) (λ l h q. Chain t l h q)) lo top p
+    Part (alt bs bar t) lo top p = Plain a (Branch a 6 (Barred a (barWord bs bar) (λ l h q. Several bs l h q)) (λ l h q. Chain t l h q)) lo top p
 
     -- the parts of a sequence, the last of them at p, or 0 for none
     pub Chain : Rule → Region
@@ -179,7 +191,7 @@ module _ (s : List ℕ) (known : Names) (a : List ℕ) where
     pub Inside : Rule → Region
     Inside empty lo top p = Nothing lo top p
     Inside (seq x y) lo top p = Sequence a (λ l h q. Chain x l h q) (λ l h q. Part y l h q) lo top p
-    Inside (alt bs bar t) lo top p = Branch a 6 (λ l h q. Several bs l h q) (λ l h q. Chain t l h q) lo top p
+    Inside (alt bs bar t) lo top p = Branch a 6 (Barred a (barWord bs bar) (λ l h q. Several bs l h q)) (λ l h q. Chain t l h q) lo top p
     Inside (item place i) lo top p = ⊥
     Inside (group n t) lo top p = ⊥
     Inside (repeat place least most g t) lo top p = ⊥
@@ -189,4 +201,8 @@ module _ (s : List ℕ) (known : Names) (a : List ℕ) where
     -- branches but the last, the latest of them at p
     pub Several : Branches → Region
     Several (one t) lo top p = Branch a 5 Nothing (λ l h q. Chain t l h q) lo top p
-    Several (also bs bar t) lo top p = Branch a 5 (λ l h q. Several bs l h q) (λ l h q. Chain t l h q) lo top p
+    Several (also bs bar t) lo top p = Branch a 5 (Barred a (barWord bs bar) (λ l h q. Several bs l h q)) (λ l h q. Chain t l h q) lo top p
+
+  -- the branches before a bar
+  abbrev pub Preceding : Branches → ℕ → Region
+  Preceding bs bar = Barred a (barWord bs bar) (Several bs)

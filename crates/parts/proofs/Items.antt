@@ -84,7 +84,7 @@ module _ {old : List ℕ} {c : Cursor} {next : ℕ} (last kind least : ℕ) (mos
 
   -- a possessive one
   pub repeat-kept : {mid new : List ℕ} {before : ℕ} → keeps ≡ true → c .at + 1 < next → (kind ≡ 0 → ⊥) → (kind ≡ 2 → ⊥) → before ≡ getD old (last + 1) 0
-      → Wrote old mid (c .used) 8 (7 ∷ 8 ∷ least ∷ mostWord most ∷ greedWord greed ∷ c .at ∷ last ∷ 0 ∷ []) → Wrote mid new (c .used + 8) 7 (14 ∷ before ∷ 0 ∷ 0 ∷ 13 ∷ c .used ∷ 0 ∷ [])
+      → Wrote old mid (c .used) 8 (7 ∷ 8 ∷ least ∷ mostWord most ∷ greedWord greed ∷ c .at ∷ last ∷ 0 ∷ []) → Wrote mid new (c .used + 8) 7 (14 ∷ before ∷ 0 ∷ (next - 1) ∷ 13 ∷ c .used ∷ 0 ∷ [])
       → Repeats old new c last kind least most greed keeps next (Goes (behindNode c next 15) (c .used + 8) 2)
   unfolding repeating possessive
   repeat-kept {mid} {new} {before} own l ne two is w v = record {

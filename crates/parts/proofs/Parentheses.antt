@@ -56,7 +56,7 @@ module _ {s old : List ℕ} {c : Cursor} {b : ℕ} (opening before p : ℕ) (r :
       claim = λ known told lo t h. (group number t, closing-yes opening (group number t) (told (c .opened)) peeked e, group-part s known number lo t w (r .began) h);
     }
 
-    pub close-held : Wrote old new (c .used) 7 (14 ∷ before ∷ 0 ∷ 0 ∷ 13 ∷ p ∷ 0 ∷ []) → Closes s opening Held before old new c p (Sound (behindNode c (c .at + 1) 7) (c .used))
+    pub close-held : Wrote old new (c .used) 7 (14 ∷ before ∷ 0 ∷ opening ∷ 13 ∷ p ∷ 0 ∷ []) → Closes s opening Held before old new c p (Sound (behindNode c (c .at + 1) 7) (c .used))
     unfolding enclosed
     close-held w = record {
       moved = record { on = omega arith; within = omega arith; grown = omega arith; paid = omega arith; address = omega arith; few = r .few };
@@ -65,7 +65,7 @@ module _ {s old : List ℕ} {c : Cursor} {b : ℕ} (opening before p : ℕ) (r :
       claim = λ known told lo t h. (held opening t, closing-yes opening (held opening t) (told (c .opened)) peeked e, held-part s known opening lo t w (r .began) h);
     }
 
-    pub close-ahead : Wrote old new (c .used) 7 (15 ∷ before ∷ 0 ∷ 0 ∷ 13 ∷ p ∷ 0 ∷ []) → Closes s opening Ahead before old new c p (Sound (behindNode c (c .at + 1) 7) (c .used))
+    pub close-ahead : Wrote old new (c .used) 7 (15 ∷ before ∷ 0 ∷ opening ∷ 13 ∷ p ∷ 0 ∷ []) → Closes s opening Ahead before old new c p (Sound (behindNode c (c .at + 1) 7) (c .used))
     unfolding enclosed
     close-ahead w = record {
       moved = record { on = omega arith; within = omega arith; grown = omega arith; paid = omega arith; address = omega arith; few = r .few };

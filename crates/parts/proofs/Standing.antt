@@ -18,8 +18,8 @@ use Rattle.syntax.specs.Sets.{Class, inClass}
 use Rattle.syntax.specs.Tree.{byteIn, assert, reference, Rule, empty, item, seq, alt, group, repeat, held, look, Branches, one, also, alternatives, lineBreak}
 use Rattle.syntax.specs.Grammar.{Sequence, unrepeatable, repeatable, repeated, whole}
 use Rattle.syntax.specs.Compiled.{assertionWord, mostWord, greedWord, foldedWord}
-use Rattle.linker.specs.Nodes.{beforeOf, Last, Region, Nothing, Branch, Marked, Part, Chain, Inside, Several}
-use Rattle.linker.proofs.Regions.{Same, part-here, chain-order, several-node, part-same, chain-same, inside-same, several-same}
+use Rattle.linker.specs.Nodes.{barWord, beforeOf, Last, Region, Nothing, Branch, Marked, Part, Chain, Inside, Several, Preceding}
+use Rattle.linker.proofs.Regions.{Same, part-here, chain-order, several-node, part-same, chain-same, inside-same, preceding-same}
 use Rattle.writer.specs.Wrote.{Below, Wrote}
 use Rattle.parts.specs.Says.{After, PartAfter, SoFar}
 
@@ -134,22 +134,23 @@ module _ (s : List ℕ) (known : Names) where
   )
 
   -- held parts and looking ahead
-  marked : {old new : List ℕ} {p before inside : ℕ} (kind lo : ℕ) (t : Rule) → Wrote old new p 7 (kind ∷ before ∷ 0 ∷ 0 ∷ 13 ∷ inside ∷ 0 ∷ []) → 1 ≤ p → Inside s known old t lo p inside → Marked new kind (Inside s known new t) lo (p + 7) p
-  marked {old} {new} {p} {before} {inside} kind lo t w b h = record {
+  marked : {old new : List ℕ} {p before inside : ℕ} (kind place lo : ℕ) (t : Rule) → Wrote old new p 7 (kind ∷ before ∷ 0 ∷ place ∷ 13 ∷ inside ∷ 0 ∷ []) → 1 ≤ p → Inside s known old t lo p inside → Marked new kind place (Inside s known new t) lo (p + 7) p
+  marked {old} {new} {p} {before} {inside} kind place lo t w b h = record {
     node = node w (omega arith) b lo (inside-order old t lo p inside h);
+    origin = w .at 3 (omega arith);
     opening = w .at 4 (omega arith);
     inside = inside;
     is = w .at 5 (omega arith);
     holds = inside-same s known old new t lo p inside (below-same new old p lo p (omega arith) (w .below)) h;
   }
 
-  pub held-part : {old new : List ℕ} {p before inside : ℕ} (place lo : ℕ) (t : Rule) → Wrote old new p 7 (14 ∷ before ∷ 0 ∷ 0 ∷ 13 ∷ inside ∷ 0 ∷ []) → 1 ≤ p → Inside s known old t lo p inside → PartAfter s known before new (held place t) lo (p + 7) p
+  pub held-part : {old new : List ℕ} {p before inside : ℕ} (place lo : ℕ) (t : Rule) → Wrote old new p 7 (14 ∷ before ∷ 0 ∷ place ∷ 13 ∷ inside ∷ 0 ∷ []) → 1 ≤ p → Inside s known old t lo p inside → PartAfter s known before new (held place t) lo (p + 7) p
   unfolding Part
-  held-part place lo t w b h = (inr (marked 14 lo t w b h), after w (omega arith) b (λ e. omega arith))
+  held-part place lo t w b h = (inr (marked 14 place lo t w b h), after w (omega arith) b (λ e. omega arith))
 
-  pub ahead-part : {old new : List ℕ} {p before inside : ℕ} (place lo : ℕ) (t : Rule) → Wrote old new p 7 (15 ∷ before ∷ 0 ∷ 0 ∷ 13 ∷ inside ∷ 0 ∷ []) → 1 ≤ p → Inside s known old t lo p inside → PartAfter s known before new (look place false t) lo (p + 7) p
+  pub ahead-part : {old new : List ℕ} {p before inside : ℕ} (place lo : ℕ) (t : Rule) → Wrote old new p 7 (15 ∷ before ∷ 0 ∷ place ∷ 13 ∷ inside ∷ 0 ∷ []) → 1 ≤ p → Inside s known old t lo p inside → PartAfter s known before new (look place false t) lo (p + 7) p
   unfolding Part
-  ahead-part place lo t w b h = (marked 15 lo t w b h, after w (omega arith) b (λ e. omega arith))
+  ahead-part place lo t w b h = (marked 15 place lo t w b h, after w (omega arith) b (λ e. omega arith))
 
   pub not-ahead-part : {old new : List ℕ} {p before inside : ℕ} (place lo : ℕ) (t : Rule) → Wrote old new p 8 (17 ∷ before ∷ 0 ∷ place ∷ 16 ∷ inside ∷ 0 ∷ 0 ∷ []) → 1 ≤ p → Inside s known old t lo p inside
       → PartAfter s known before new (look place true t) lo (p + 8) p
@@ -243,7 +244,7 @@ module _ (s : List ℕ) (known : Names) where
 
   -- the last part repeated, and alone in a held part
   pub possessive-chain : {old mid new : List ℕ} {p last least place before : ℕ} (lo own : ℕ) (most : Most) (greed : Greed) (x y : Rule) → Wrote old mid p 8 (7 ∷ 8 ∷ least ∷ mostWord most ∷ greedWord greed ∷ place ∷ last ∷ 0 ∷ []) → before ≡ getD old (last + 1) 0
-      → Wrote mid new (p + 8) 7 (14 ∷ before ∷ 0 ∷ 0 ∷ 13 ∷ p ∷ 0 ∷ []) → 1 ≤ p → SoFar s known old (repeatable x y) lo p last → Chain s known new (seq x (held own (seq empty (repeat place least most greed y)))) lo (p + 15) (p + 8)
+      → Wrote mid new (p + 8) 7 (14 ∷ before ∷ 0 ∷ own ∷ 13 ∷ p ∷ 0 ∷ []) → 1 ≤ p → SoFar s known old (repeatable x y) lo p last → Chain s known new (seq x (held own (seq empty (repeat place least most greed y)))) lo (p + 15) (p + 8)
   unfolding Part
   possessive-chain {old} {mid} {new} {p} {last} {least} {place} {before} lo own most greed x y w e v b h =
       let low = h .0 in
@@ -277,14 +278,14 @@ module _ (s : List ℕ) (known : Names) where
   -- branches of which the last has no node yet: its last part is at `last`, and the branch before it at `before`
   abbrev pub Pending : List ℕ → Branches → (lo top before last : ℕ) → Type 0
   Pending a (one t) lo top before last = (before ≡ 0) × Chain s known a t lo top last
-  Pending a (also bs bar t) lo top before last = (mid : ℕ) × Several s known a bs lo mid before × Chain s known a t mid top last
+  Pending a (also bs bar t) lo top before last = (mid : ℕ) × Preceding s known a bs bar lo mid before × Chain s known a t mid top last
 
   -- its node is written behind it
-  put : {old new : List ℕ} {p before last kind : ℕ} (lo mid : ℕ) (X : Region) (t : Rule) → Wrote old new p 3 (kind ∷ last ∷ before ∷ []) → 1 ≤ p → lo ≤ mid → X lo mid before → Chain s known old t mid p last → Branch new kind X (Chain s known new t) lo (p + 3) p
-  put {old} {new} {p} {before} {last} lo mid X t w b l x h =
+  put : {old new : List ℕ} {p n before last kind : ℕ} {ws : List ℕ} (lo mid : ℕ) (X : Region) (t : Rule) → Wrote old new p n (kind ∷ last ∷ before ∷ ws) → 3 ≤ n → 1 ≤ p → lo ≤ mid → X lo mid before → Chain s known old t mid p last → Branch new kind X (Chain s known new t) lo (p + n) p
+  put {old} {new} {p} {n} {before} {last} lo mid X t w three b l x h =
       let o = chain-order s known old t mid p last h in
       record {
-        node = node w (omega arith) b lo (omega arith);
+        node = record { some = b; low = omega arith; high = omega arith; is = head w (omega arith) b };
         inside = last;
         of = w .at 1 (omega arith);
         before = before;
@@ -294,27 +295,31 @@ module _ (s : List ℕ) (known : Names) where
         right = chain-same s known old new t mid p last (below-same new old p mid p (omega arith) (w .below)) h;
       }
 
-  put-behind : {old new : List ℕ} {p before last kind : ℕ} (lo bar : ℕ) (bs : Branches) (t : Rule) → Wrote old new p 3 (kind ∷ last ∷ before ∷ []) → 1 ≤ p → Pending old (also bs bar t) lo p before last → Branch new kind (Several s known new bs) (Chain s known new t) lo (p + 3) p
-  put-behind {old} {new} {p} {before} {last} lo bar bs t w b h =
+  put-behind : {old new : List ℕ} {p n before last kind : ℕ} {ws : List ℕ} (lo bar : ℕ) (bs : Branches) (t : Rule) → Wrote old new p n (kind ∷ last ∷ before ∷ ws) → 3 ≤ n → 1 ≤ p → Pending old (also bs bar t) lo p before last
+      → Branch new kind (Preceding s known new bs bar) (Chain s known new t) lo (p + n) p
+  put-behind {old} {new} {p} {n} {before} {last} lo bar bs t w three b h =
       let mid = h .0 in
-      let n = several-node s known old bs lo mid before (h .1) in
+      let k = several-node s known old bs lo mid before (h .1 .earlier) in
       let o = chain-order s known old t mid p last (h .2) in
-      put lo mid (Several s known new bs) t w b (omega (arith, n .low, n .high)) (several-same s known old new bs lo mid before (below-same new old p lo mid o (w .below)) (h .1)) (h .2)
+      put lo mid (Preceding s known new bs bar) t w three b (omega (arith, k .low, k .high)) (preceding-same s known old new bs bar lo mid before (below-same new old p lo mid o (w .below)) (h .1)) (h .2)
 
-  -- the node of a branch that another follows
-  pub branch-put : {old new : List ℕ} {p before last : ℕ} (lo : ℕ) (bs : Branches) → Wrote old new p 3 (5 ∷ last ∷ before ∷ []) → 1 ≤ p → Pending old bs lo p before last → Several s known new bs lo (p + 3) p
+  branch-stands : {old new : List ℕ} {p before last word : ℕ} (lo : ℕ) (bs : Branches) → Wrote old new p 4 (5 ∷ last ∷ before ∷ word ∷ []) → 1 ≤ p → Pending old bs lo p before last → Several s known new bs lo (p + 4) p
   unfolding Part
-  branch-put lo (one t) w b h = put lo lo Nothing t w b (omega arith) (h .0, omega arith) (h .1)
-  branch-put lo (also bs bar t) w b h = put-behind lo bar bs t w b h
+  branch-stands lo (one t) w b h = put lo lo Nothing t w (omega arith) b (omega arith) (h .0, omega arith) (h .1)
+  branch-stands lo (also bs bar t) w b h = put-behind lo bar bs t w (omega arith) b h
+
+  -- the node of a branch that another follows, with the number of the bar between them
+  pub branch-put : {old new : List ℕ} {p before last word : ℕ} (lo bar : ℕ) (bs : Branches) → Wrote old new p 4 (5 ∷ last ∷ before ∷ word ∷ []) → word ≡ barWord bs bar → 1 ≤ p → Pending old bs lo p before last → Preceding s known new bs bar lo (p + 4) p
+  branch-put lo bar bs w e b h = record { earlier = branch-stands lo bs w b h; fits = omega arith; bar = w .at 3 (omega arith) ∙ e }
 
   -- the node of the last branch, where there are others
   pub last-put : {old new : List ℕ} {p before last : ℕ} (lo : ℕ) (bs : Branches) → Wrote old new p 3 (6 ∷ last ∷ before ∷ []) → 1 ≤ p → (before ≡ 0 → ⊥) → Pending old bs lo p before last → Inside s known new (alternatives bs) lo (p + 3) p
   unfolding Part alternatives
   last-put lo (one t) w b ne h = absurd (ne (h .0))
-  last-put lo (also bs bar t) w b ne h = put-behind lo bar bs t w b h
+  last-put lo (also bs bar t) w b ne h = put-behind lo bar bs t w (omega arith) b h
 
   -- a single branch is no alternation
   pub single-branch : (a : List ℕ) (lo top before last : ℕ) (bs : Branches) → before ≡ 0 → Pending a bs lo top before last → Inside s known a (alternatives bs) lo top last
   unfolding alternatives
   single-branch a lo top before last (one t) e h = chain-inside t a lo top last (h .1)
-  single-branch a lo top before last (also bs bar t) e h = let n = several-node s known a bs lo (h .0) before (h .1) in absurd (omega (arith, n .some))
+  single-branch a lo top before last (also bs bar t) e h = let n = several-node s known a bs lo (h .0) before (h .1 .earlier) in absurd (omega (arith, n .some))

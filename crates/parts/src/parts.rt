@@ -92,7 +92,8 @@ fn repeated(
     if keeps {
         put_repeat(area, used, least, most, greed, place, last as u32, 0);
         let around = used + 8;
-        put_marked(area, around, HELD, before, used as u32);
+        let own = (next - 1) as u32;
+        put_marked(area, around, HELD, before, own, used as u32);
         return Turn::Goes(behind(c, next, 15), around, REPEATED);
     }
     put_repeat(area, used, least, most, greed, place, last as u32, before);
@@ -217,11 +218,11 @@ pub fn close(
             Answer::Sound(behind(c, at + 1, 7), used)
         }
         Form::Held => {
-            put_marked(area, used, HELD, before as u32, p as u32);
+            put_marked(area, used, HELD, before as u32, opening as u32, p as u32);
             Answer::Sound(behind(c, at + 1, 7), used)
         }
         Form::Ahead => {
-            put_marked(area, used, AHEAD, before as u32, p as u32);
+            put_marked(area, used, AHEAD, before as u32, opening as u32, p as u32);
             Answer::Sound(behind(c, at + 1, 7), used)
         }
         Form::NotAhead => {

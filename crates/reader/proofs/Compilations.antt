@@ -1,7 +1,9 @@
 -- A rule that was read and linked is compiled: the reading of the whole rule follows from what was parsed with the names that the table spells, and from
 -- whether all references are resolved; what linking made stands in the needed part of the area, and the table behind it.
-use mathlib.Core.Path.{_≡_, refl, sym, ap, _∙_}
+use mathlib.Core.Path.{_≡_, refl, sym, ap, subst, _∙_}
+use mathlib.Core.Bool.{Bool, true, false}
 use mathlib.Core.List.{List, [], _++_, append-assoc}
+use mathlib.Core.Logic.{inl, inr}
 use mathlib.Core.Option.{none, some}
 use Prim.Native.Nat.{ℕ, zero, suc, min, _+_, _-_, _*_, _≤_, _<_}
 use native.Mathlib.Omega.{arith}
@@ -28,7 +30,7 @@ use Rattle.linker.specs.Nodes.{Inside}
 use Rattle.linker.proofs.Compiled.{keep}
 use Rattle.lengths.specs.declared.Judgement.{Judgement}
 use Rattle.lengths.specs.declared.Judgement.the-variants.{Passes, Barred}
-use Rattle.lengths.specs.Measures.{Deep, Judged, Judges}
+use Rattle.lengths.specs.Measures.{Deep, Judged, Judges, Followed, Follows}
 use Rattle.parts.specs.declared.Cursor.{Cursor}
 use Rattle.parts.specs.declared.Answer.the-variants.{Sound}
 use Rattle.reader.specs.Areas.{tableStart}
@@ -36,7 +38,7 @@ use Rattle.writer.specs.Wrote.{Wrote}
 use Rattle.reader.specs.Says.{Reads}
 use Rattle.reader.specs.declared.compiling.Compilation.{Compilation}
 use Rattle.reader.specs.declared.compiling.Compilation.the-variants.{Sound as Compiled·rule, Refused as Failed}
-use Rattle.reader.specs.Compiles.{StandsWith, SaysWith, Says, Compiles}
+use Rattle.reader.specs.Compiles.{StandsWith, Unfollowed, Fails, SaysWith, Says, Compiles}
 
 -- The table -----------------------------------------------------------------------
 
@@ -66,6 +68,14 @@ unfolding tableStart
 start-below = omega arith
 
 module _ (s : List ℕ) (flags : ℕ) where
+  -- What a call of any kind refuses, and what only a check does
+  pub fails-reading : (checked : Bool) (f : Refusal) → reading s flags ≡ refused (f .place) (f .reason) → Fails checked s flags f
+  fails-reading false f e = e
+  fails-reading true f e = inl e
+
+  fails-checked : (checked : Bool) (f : Refusal) → checked ≡ true → Unfollowed s flags f → Fails checked s flags f
+  fails-checked checked f e u = subst (λ (b : Bool). Fails b s flags f) (sym e) (inr u)
+
   -- The reading, from the parse ---------------------------------------------------
 
   pub parse-refused : (place : ℕ) (why : Reason) → ((known : Names) → parsed s flags known ≡ refused place why) → reading s flags ≡ refused place why
@@ -136,31 +146,47 @@ module _ (s : List ℕ) (flags : ℕ) where
     unfolding Judges
     judging j h = h s names (d .opened) (x .is names .0) 1 (d .used) (fits .proper) (x .is names .2)
 
+    following : (checked : Bool) (j : Judgement) → Follows checked area p j → Followed checked (x .is names .0) j
+    unfolding Follows
+    following checked j h = h s names (d .opened) (x .is names .0) 1 (d .used) (fits .proper) (x .is names .2)
+
     module _ (new : List ℕ) (l : Linkage) (y : LinksWhole s (d .opened) table area new p l) where
       made : Outside 1 (d .used) area new × Whole (d .opened) (x .is names .0) 1 (d .used) new l
       unfolding LinksWhole
       made = y names many (fit-spelled s table (d .opened) (x .fit)) (x .is names .0) 1 (d .used) (x .is names .2) fits
 
-      pub entered : (pc : ℕ) → l ≡ Entry pc → (j : Judgement) → j ≡ Passes → Judges (depot flags) area p j → StandsWith s flags new table tableStart pc (d .opened)
-      entered pc e j k h =
+      -- what was parsed is read, if every reference is to a group and the profile bars nothing
+      whole-read : (pc : ℕ) → l ≡ Entry pc → (j : Judgement) → j ≡ Passes → Judges (depot flags) area p j → reading s flags ≡ sound (x .is names .0, d .opened) (d .at)
+      whole-read pc e j k h =
           let w : Entered (d .opened) (x .is names .0) 1 (d .used) new pc = rw e at (made .1) in
           let passed : Judged (depot flags) (x .is names .0) Passes = rw k at (judging j h) in
+          parse-sound names (x .is names .0) (d .opened) (d .at) names-read many (x .is names .1) (w .resolved) ∙ passed (sound (x .is names .0, d .opened) (d .at))
+
+      pub entered : (checked : Bool) (pc : ℕ) → l ≡ Entry pc → (j : Judgement) → j ≡ Passes → Judges (depot flags) area p j → (q : Judgement) → q ≡ Passes → Follows checked area p q → StandsWith checked s flags new table tableStart pc (d .opened)
+      entered checked pc e j k h q u g =
+          let w : Entered (d .opened) (x .is names .0) 1 (d .used) new pc = rw e at (made .1) in
           record {
             tree = x .is names .0;
             stop = d .at;
-            reads = parse-sound names (x .is names .0) (d .opened) (d .at) names-read many (x .is names .1) (w .resolved) ∙ passed (sound (x .is names .0, d .opened) (d .at));
+            reads = whole-read pc e j k h;
             end = made .0 .below 0 (omega arith) ∙ x .end;
             compiled = keep new new 1 (d .used) 1 tableStart (omega arith) (x .small) (λ i a b. refl) (x .is names .0) pc 0 spansLength (w .compiled);
             near = omega (arith, w .near, x .small);
             many = rw names-read many;
             named = rw names-read (fit-spelled s table (d .opened) (x .fit));
+            followed = rw u at (following checked q g);
           }
 
-      pub barred : (pc : ℕ) → l ≡ Entry pc → (j : Judgement) (f : Refusal) → j ≡ Barred f → Judges (depot flags) area p j → reading s flags ≡ refused (f .place) (f .reason)
-      barred pc e j f k h =
+      pub unfollowed : (checked : Bool) (pc : ℕ) → l ≡ Entry pc → (j : Judgement) → j ≡ Passes → Judges (depot flags) area p j → (q : Judgement) (f : Refusal) → q ≡ Barred f → Follows checked area p q → Fails checked s flags f
+      unfollowed checked pc e j k h q f u g =
+          let found : Followed checked (x .is names .0) (Barred f) = rw u at (following checked q g) in
+          fails-checked checked f (found .0) (record { tree = x .is names .0; groups = d .opened; stop = d .at; reads = whole-read pc e j k h; found = found .1 })
+
+      pub barred : (checked : Bool) (pc : ℕ) → l ≡ Entry pc → (j : Judgement) (f : Refusal) → j ≡ Barred f → Judges (depot flags) area p j → Fails checked s flags f
+      barred checked pc e j f k h =
           let w : Entered (d .opened) (x .is names .0) 1 (d .used) new pc = rw e at (made .1) in
           let found : Judged (depot flags) (x .is names .0) (Barred f) = rw k at (judging j h) in
-          parse-sound names (x .is names .0) (d .opened) (d .at) names-read many (x .is names .1) (w .resolved) ∙ found (sound (x .is names .0, d .opened) (d .at))
+          fails-reading checked f (parse-sound names (x .is names .0) (d .opened) (d .at) names-read many (x .is names .1) (w .resolved) ∙ found (sound (x .is names .0, d .opened) (d .at)))
 
       pub dangling : (place : ℕ) → l ≡ NoGroup place → reading s flags ≡ refused place NoSuchGroup
       dangling place e = parse-dangling names (x .is names .0) (d .opened) (d .at) names-read many (x .is names .1) place (rw e at (made .1))
@@ -183,7 +209,7 @@ module _ (part old : List ℕ) (long : length part ≡ tableStart) (enough : rul
       length-take spansLength (drop tableStart (part ++ drop tableStart old)) ∙ rw k (omega arith)
 
 -- What stands in the first numbers stands in the whole area, in which the table follows them and whose rest is as it was.
-module _ (s : List ℕ) (flags : ℕ) (old part before copy table : List ℕ) (long : length part ≡ tableStart) (wide : length copy ≡ spansLength) (enough : ruleAreaNeed ≤ length old) (w : Wrote before copy 0 spansLength table) where
+module _ (checked : Bool) (s : List ℕ) (flags : ℕ) (old part before copy table : List ℕ) (long : length part ≡ tableStart) (wide : length copy ≡ spansLength) (enough : ruleAreaNeed ≤ length old) (w : Wrote before copy 0 spansLength table) where
   abbrev pub joined : List ℕ
   joined = part ++ (copy ++ drop ruleAreaNeed old)
 
@@ -206,7 +232,7 @@ module _ (s : List ℕ) (flags : ℕ) (old part before copy table : List ℕ) (l
   unfolding tableStart ruleAreaNeed spansLength groupLimit
   starts = omega arith
 
-  says-wider : (r : Compilation) → SaysWith s flags part table tableStart r → Says s flags joined r
+  says-wider : (r : Compilation) → SaysWith checked s flags part table tableStart r → Says checked s flags joined r
   says-wider (Compiled·rule pc groups) x =
       let b = start-below in
       let g : WellFormed groups (x .tree) = rw (x .reads) at (well-formed s flags) in
@@ -221,6 +247,7 @@ module _ (s : List ℕ) (flags : ℕ) (old part before copy table : List ℕ) (l
         near = omega (arith, x .near);
         many = x .many;
         named = spelled-same s _ table (drop tableStart joined) (λ i l. copied i (omega arith)) (x .named);
+        followed = x .followed;
       }
   says-wider (Failed f) x = x
 
@@ -229,10 +256,11 @@ module _ (s : List ℕ) (flags : ℕ) (old part before copy table : List ℕ) (l
       let e : length (part ++ copy) ≡ ruleAreaNeed = length-append part copy ∙ rw (long, wide) whole-need in
       ap (λ (l : List ℕ). drop ruleAreaNeed l) (sym (append-assoc part copy (drop ruleAreaNeed old))) ∙ drop-at (part ++ copy) (drop ruleAreaNeed old) ruleAreaNeed e
 
-  pub wider : (r : Compilation) → SaysWith s flags part table tableStart r → Compiles s flags old joined r
-  wider r x =
-      let e = whole-need in
-      record { says = says-wider r x; rest = rest; long = simp (length-append, length-drop) (omega arith) }
+  joined-long : length joined ≡ length old
+  joined-long = let e = whole-need in simp (length-append, length-drop) (omega arith)
+
+  pub wider : (r : Compilation) → SaysWith checked s flags part table tableStart r → Compiles checked s flags old joined r
+  wider r x = record { says = says-wider r x; rest = rest; long = joined-long }
 
   -- what comes back from the two parts that were lent
   pub is-joined : take tableStart (part ++ drop tableStart old) ++ (copy ++ drop spansLength (drop tableStart (part ++ drop tableStart old))) ≡ joined
@@ -241,3 +269,6 @@ module _ (s : List ℕ) (flags : ℕ) (old part before copy table : List ℕ) (l
       let b = drop-at part (drop tableStart old) tableStart long in
       let c = drop-drop spansLength tableStart old ∙ ap (λ (n : ℕ). drop n old) whole-need in
       rw (a, b, c)
+
+  pub back-joined : length (take tableStart (part ++ drop tableStart old) ++ (copy ++ drop spansLength (drop tableStart (part ++ drop tableStart old)))) ≡ length old
+  back-joined = ap length is-joined ∙ joined-long

@@ -1,6 +1,7 @@
 // A rule's bytes to a compiled rule: read, then linked.
 use crate::read_rule;
 use lengths::Judgement;
+use lengths::checkable;
 use lengths::judge;
 use lexemes::in_depot;
 use linker::Linkage;
@@ -14,7 +15,7 @@ ghost use lib.ListN.{length};
 ghost use Rattle.syntax.specs.Limits.{ruleLimit, ruleAreaNeed, spansLength, levelLimit};
 ghost use Rattle.syntax.specs.Flags.{depot};
 ghost use Rattle.linker.specs.Nodes.{Inside};
-ghost use Rattle.lengths.specs.Measures.{Deep, Judges};
+ghost use Rattle.lengths.specs.Measures.{Deep, Judges, Follows};
 ghost use Rattle.reader.specs.Areas.{tableStart};
 ghost use Rattle.writer.specs.Wrote.{Wrote};
 ghost use Rattle.reader.specs.Compiles.{SaysWith, Compiles};
@@ -42,11 +43,28 @@ fn judged(area: &[u32], p: usize, flags: u32) -> Judgement
     Judgement::Passes
 }
 
-// Reads and links a rule, and leaves the names of its groups in the table. What the profile bars is looked for before the rule is linked, but told only
-// where every reference is to a group.
-fn compile_into(rule: &[u8], flags: u32, area: &mut [u32], table: &mut [u32]) -> Compilation
+// Whether a check can follow the rule whose inside stands at p, if it is one that asks.
+fn followed(area: &[u32], p: usize, checked: bool) -> Judgement
+    requires { ⌜ Deep Inside (now area) p levelLimit ⌝ }
+    ensures { λ r. ⌜ Follows checked (now (area .entry)) p r ⌝ }
+{
+    if checked {
+        return checkable(area, p);
+    }
+    Judgement::Passes
+}
+
+// Reads and links a rule, and leaves the names of its groups in the table. What the profile bars and what a check cannot follow is
+// looked for before the rule is linked, but told only where every reference is to a group.
+fn compile_into(
+    rule: &[u8],
+    flags: u32,
+    checked: bool,
+    area: &mut [u32],
+    table: &mut [u32],
+) -> Compilation
     requires { ⌜ (length (now rule) ≤ ruleLimit) × (tableStart ≤ length (now area)) × (spansLength ≤ length (now table)) ⌝ }
-    ensures { λ r. ⌜ SaysWith (now (rule .entry)) flags (now (area .exit)) (now (table .exit)) tableStart r ⌝ }
+    ensures { λ r. ⌜ SaysWith checked (now (rule .entry)) flags (now (area .exit)) (now (table .exit)) tableStart r ⌝ }
 {
     let r = read_rule(rule, flags, area, table);
     match r {
@@ -54,6 +72,7 @@ fn compile_into(rule: &[u8], flags: u32, area: &mut [u32], table: &mut [u32]) ->
         Answer::Sound(d, inside) => {
             let groups = d.opened;
             let profile = judged(area, inside, flags);
+            let course = followed(area, inside, checked);
             let l = link(rule, area, inside, groups, table);
             match l {
                 Linkage::NoGroup(place) => Compilation::Refused(Refusal {
@@ -61,7 +80,10 @@ fn compile_into(rule: &[u8], flags: u32, area: &mut [u32], table: &mut [u32]) ->
                     reason: Reason::NoSuchGroup,
                 }),
                 Linkage::Entry(pc) => match profile {
-                    Judgement::Passes => Compilation::Sound(pc, groups),
+                    Judgement::Passes => match course {
+                        Judgement::Passes => Compilation::Sound(pc, groups),
+                        Judgement::Barred(f) => Compilation::Refused(f),
+                    },
                     Judgement::Barred(f) => Compilation::Refused(f),
                 },
             }
@@ -82,13 +104,13 @@ fn put_table(part: &mut [u32], table: [u32; SPANS_LENGTH])
 }
 
 // Compiles a rule into the first numbers of the area. The others are not even lent on. The table is made beside the area, since no two parts of one slice
-// can be lent at a time.
-pub fn compile(rule: &[u8], flags: u32, area: &mut [u32]) -> Compilation
+// can be lent at a time. A rule that is compiled for a check must be one that a check can follow.
+pub fn compile(rule: &[u8], flags: u32, checked: bool, area: &mut [u32]) -> Compilation
     requires { ⌜ (length (now rule) ≤ ruleLimit) × (ruleAreaNeed ≤ length (now area)) ⌝ }
-    ensures { λ r. ⌜ Compiles (now (rule .entry)) flags (now (area .entry)) (now (area .exit)) r ⌝ }
+    ensures { λ r. ⌜ Compiles checked (now (rule .entry)) flags (now (area .entry)) (now (area .exit)) r ⌝ }
 {
     let mut table = [0; SPANS_LENGTH];
-    let r = compile_into(rule, flags, &mut area[..TABLE_START], &mut table);
+    let r = compile_into(rule, flags, checked, &mut area[..TABLE_START], &mut table);
     put_table(&mut area[TABLE_START..RULE_AREA], table);
     r
 }

@@ -17,9 +17,9 @@ use parts::other;
 use syntax::NESTING_LIMIT;
 use syntax::Reason;
 use syntax::Refusal;
-use writer::BRANCH;
 use writer::FINISH;
 use writer::LAST;
+use writer::put_branch;
 use writer::put_three;
 ghost use mathlib.Core.Path.{_≡_};
 ghost use Prim.Native.Nat.{_+_, _≤_, _<_};
@@ -165,7 +165,7 @@ fn sequence(
     }
 }
 
-// The further branches as long as a bar follows, behind the first, whose last part stands at `first`.
+// The further branches as long as a bar follows, behind the first, whose last part stands at `first`. They are counted for the bars.
 fn further(
     rule: &[u8],
     flags: u32,
@@ -181,6 +181,7 @@ fn further(
     let mut d = c;
     let mut last = first;
     let mut before: usize = 0;
+    let mut count: usize = 1;
     loop {
         let at = d.at;
         let used = d.used;
@@ -192,8 +193,8 @@ fn further(
             put_three(area, used, LAST, last as u32, before as u32);
             return Answer::Sound(behind(d, at, 3), used);
         }
-        put_three(area, used, BRANCH, last as u32, before as u32);
-        let r = sequence(rule, flags, area, table, behind(d, at + 1, 3), depth);
+        put_branch(area, used, last as u32, before as u32, count, at);
+        let r = sequence(rule, flags, area, table, behind(d, at + 1, 4), depth);
         match r {
             Answer::Refused(f) => {
                 return Answer::Refused(f);
@@ -202,6 +203,7 @@ fn further(
                 d = e;
                 last = p;
                 before = used;
+                count += 1;
             }
         }
     }

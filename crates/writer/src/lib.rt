@@ -4,11 +4,12 @@ use syntax::Greed;
 use syntax::Most;
 ghost use mathlib.Core.Path.{_≡_};
 ghost use mathlib.Core.List.{[], _∷_};
-ghost use Prim.Native.Nat.{_+_, _≤_};
+ghost use Prim.Native.Nat.{_+_, _≤_, _<_};
 ghost use lib.ListN.{length};
 ghost use Rattle.syntax.specs.Limits.{groupLimit, slot};
 ghost use Rattle.syntax.specs.Flags.{ignoreCase};
-ghost use Rattle.syntax.specs.Compiled.{assertionWord, mostWord, greedWord, foldedWord};
+ghost use Rattle.syntax.specs.Checkable.{crowdedAt};
+ghost use Rattle.syntax.specs.Compiled.{marked, assertionWord, mostWord, greedWord, foldedWord};
 ghost use Rattle.writer.specs.Wrote.{Wrote};
 
 // The kinds of nodes, as the linker's specs/Nodes.antt lists them.
@@ -20,7 +21,7 @@ const OPEN: u32 = 3;
 
 const CLOSE: u32 = 4;
 
-pub const BRANCH: u32 = 5;
+const BRANCH: u32 = 5;
 
 pub const LAST: u32 = 6;
 
@@ -47,6 +48,9 @@ pub const AHEAD: u32 = 15;
 const FORBID: u32 = 16;
 
 const NOT_AHEAD: u32 = 17;
+
+// As many branches as one byte can tell apart: a check follows no more.
+const BRANCH_LIMIT: usize = 256;
 
 // The maximum of a repeat that has none.
 const UNLIMITED: u32 = 4294967295;
@@ -127,11 +131,11 @@ pub fn put_group(area: &mut [u32], at: usize, before: u32, number: u32, inside: 
 }
 
 // Writes a held part, or looking ahead, by its kind.
-pub fn put_marked(area: &mut [u32], at: usize, kind: u32, before: u32, inside: u32)
+pub fn put_marked(area: &mut [u32], at: usize, kind: u32, before: u32, place: u32, inside: u32)
     requires { ⌜ at + 7 ≤ length (now area) ⌝ }
-    ensures { λ _. ⌜ Wrote (now (area .entry)) (now (area .exit)) at 7 (kind ∷ before ∷ 0 ∷ 0 ∷ 13 ∷ inside ∷ 0 ∷ []) ⌝ }
+    ensures { λ _. ⌜ Wrote (now (area .entry)) (now (area .exit)) at 7 (kind ∷ before ∷ 0 ∷ place ∷ 13 ∷ inside ∷ 0 ∷ []) ⌝ }
 {
-    put_four(area, at, kind, before, 0, 0);
+    put_four(area, at, kind, before, 0, place);
     put_three(area, at + 4, MARK, inside, 0);
 }
 
@@ -142,6 +146,26 @@ pub fn put_not_ahead(area: &mut [u32], at: usize, before: u32, place: u32, insid
 {
     put_four(area, at, NOT_AHEAD, before, 0, place);
     put_four(area, at + 4, FORBID, inside, 0, 0);
+}
+
+// The number of a bar behind so many branches: one more than its place if a check cannot follow the branch behind it, and 0 otherwise.
+fn bar_word(count: usize, bar: usize) -> u32
+    requires { ⌜ bar + 1 < 4294967296 ⌝ }
+    ensures { λ r. ⌜ r ≡ marked (crowdedAt count bar) ⌝ }
+{
+    if count == BRANCH_LIMIT {
+        return (bar + 1) as u32;
+    }
+    0
+}
+
+// Writes a branch that a bar follows: there are so many branches with it.
+pub fn put_branch(area: &mut [u32], at: usize, inside: u32, before: u32, count: usize, bar: usize)
+    requires { ⌜ (at + 4 ≤ length (now area)) × (bar + 1 < 4294967296) ⌝ }
+    ensures { λ _. ⌜ Wrote (now (area .entry)) (now (area .exit)) at 4 (5 ∷ inside ∷ before ∷ marked (crowdedAt count bar) ∷ []) ⌝ }
+{
+    let word = bar_word(count, bar);
+    put_four(area, at, BRANCH, inside, before, word);
 }
 
 // The number of an assertion.

@@ -1,4 +1,4 @@
--- `follow` meets its contract: a sum that is capped, and the first of two places twice.
+-- `follow` meets its contract: a sum that is capped, and the first of two places four times.
 use native.Mathlib.Omega.{arith}
 use borrow.Author.Needs.{needs}
 use Rattle.syntax.specs.Limits.{lengthLimit}
@@ -19,9 +19,15 @@ first-requires c κs = search needs
 first-requires-2 : tie.Need-first-requires-2
 first-requires-2 c κs = search needs
 
+first-requires-3 : tie.Need-first-requires-3
+first-requires-3 c κs = search needs
+
+first-requires-4 : tie.Need-first-requires-4
+first-requires-4 c κs = search needs
+
 returns : tie.Need-returns
 unfolding capped lengthLimit
-returns c = record { least = c .before .before .smaller .ensures; reference = c .before .first .ensures; idle = c .first2 .ensures }
+returns c = record { least = c .before .before .before .before .smaller .ensures; reference = c .before .before .before .first .ensures; idle = c .before .before .first2 .ensures; form = c .before .first3 .ensures; crowd = c .first4 .ensures }
 
 pub follow-spec : {M : Type 1} → statement M
-follow-spec = tie.close (tie.spec add-sum smaller-requires first-requires first-requires-2 returns)
+follow-spec = tie.close (tie.spec add-sum smaller-requires first-requires first-requires-2 first-requires-3 first-requires-4 returns)

@@ -33,7 +33,7 @@ first-requires c κs = search needs
 
 returns : tie.Need-returns
 unfolding capped lengthLimit
-returns c = record { least = rw (← c .before .before .before .word .ensures .0) (c .before .smaller .ensures); reference = refl; idle = c .first .ensures ∙ rw (c .before .before .own-idle .ensures) }
+returns c = record { least = rw (← c .before .before .before .word .ensures .0) (c .before .smaller .ensures); reference = refl; idle = c .first .ensures ∙ rw (c .before .before .own-idle .ensures); form = refl; crowd = refl }
 
 pub repeated-spec : {M : Type 1} → statement M
 repeated-spec =

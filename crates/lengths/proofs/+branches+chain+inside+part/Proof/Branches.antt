@@ -29,17 +29,25 @@ module _ (t : ℕ) where
   pub word-requires-2 : lts.Need-word-requires-2 (calls t) (at t) Post Inv-loop μ-loop
   word-requires-2 c κs = let k = branch-at _ _ _ (c .before .before .loop .inv .0 (omega arith)) in omega (arith, k .fits)
 
+  pub add-word-3 : lts.Need-add-word-3 (calls t) (at t) Post Inv-loop μ-loop
+  add-word-3 c = let k = branch-at _ _ _ (c .before .before .before .loop .inv .0 (omega arith)) in omega (arith, k .fits)
+
+  pub word-requires-3 : lts.Need-word-requires-3 (calls t) (at t) Post Inv-loop μ-loop
+  word-requires-3 c κs = let k = branch-at _ _ _ (c .before .before .before .loop .inv .0 (omega arith)) in omega (arith, k .fits)
+
   pub chain-requires : lts.Need-chain-requires (calls t) (at t) Post Inv-loop μ-loop
-  chain-requires c κs = let k = branch-at _ _ _ (c .before .before .before .loop .inv .0 (omega arith)) in (omega arith, rw (c .before .word .ensures .0) (k .inner))
+  chain-requires c κs = let k = branch-at _ _ _ (c .before .before .before .before .loop .inv .0 (omega arith)) in (omega arith, rw (c .before .before .word .ensures .0) (k .inner))
 
   pub either-requires : lts.Need-either-requires (calls t) (at t) Post Inv-loop μ-loop
   either-requires c κs = search needs
 
   pub loop-less : lts.Need-loop-less (calls t) (at t) Post Inv-loop μ-loop
-  loop-less c = let k = branch-at _ _ _ (c .before .before .before .before .before .loop .inv .0 (omega arith)) in omega (arith, k .lower, c .before .before .word2 .ensures .0)
+  loop-less c = let k = branch-at _ _ _ (c .before .before .before .before .before .before .loop .inv .0 (omega arith)) in omega (arith, k .lower, c .before .before .before .word2 .ensures .0)
 
   pub loop-again : lts.Need-loop-again (calls t) (at t) Post Inv-loop μ-loop
-  loop-again c = let k = branch-at _ _ _ (c .before .before .before .before .before .loop .inv .0 (omega arith)) in (rw (c .before .before .word2 .ensures .0) (k .rest), all-step _ _ _ _ _ _ _ _ (omega arith) (c .before .before .word2 .ensures .0) (rw (c .before .before .before .word .ensures .0) at (c .before .chain .ensures)) (c .either .ensures) (c .before .before .before .before .before .loop .inv .1), omega (arith, k .lower, c .before .before .word2 .ensures .0))
+  loop-again c =
+      let k = branch-at _ _ _ (c .before .before .before .before .before .before .loop .inv .0 (omega arith)) in
+      (rw (c .before .before .before .word2 .ensures .0) (k .rest), all-step _ _ _ _ _ _ _ _ _ (omega arith) (c .before .before .before .word2 .ensures .0) (c .before .before .word3 .ensures .0) (rw (c .before .before .before .before .word .ensures .0) at (c .before .chain .ensures)) (c .either .ensures) (c .before .before .before .before .before .before .loop .inv .1), omega (arith, k .lower, c .before .before .before .word2 .ensures .0))
 
   pub returns : lts.Need-returns (calls t) (at t) Post Inv-loop μ-loop
   returns c = all-end _ _ _ _ _ (omega arith) (c .before .loop .inv .1)

@@ -28,7 +28,7 @@ module _ (t : ℕ) where
   inside-requires c κs = let k = bracket-at _ _ _ (subst Bracketed (c .before .before .before .word .ensures .0) (c .before .before .is-bracketed .ensures .0 (c .before .if1 .taken))) (c .before .before .before .before .before .pre .1) in (omega arith, rw (c .word2 .ensures .0) (k .inner))
 
   pub enclosed-requires : lts.Need-enclosed-requires (calls t) (at t) Post
-  enclosed-requires c κs = search needs
+  enclosed-requires c κs = let k = bracket-at _ _ _ (subst Bracketed (c .before .before .before .before .word .ensures .0) (c .before .before .before .is-bracketed .ensures .0 (c .before .before .if1 .taken))) (c .before .before .before .before .before .before .pre .1) in k .fits
 
   pub returns : lts.Need-returns (calls t) (at t) Post
   returns c = bracket-found _ _ _ _ (subst Bracketed (c .before .before .before .before .before .word .ensures .0) (c .before .before .before .before .is-bracketed .ensures .0 (c .before .before .before .if1 .taken))) (rw (c .before .before .word2 .ensures .0) at (c .before .inside .ensures)) (rw (c .before .before .before .before .before .word .ensures .0) at (c .enclosed .ensures))

@@ -58,6 +58,9 @@ cast-put-marked c = search needs
 cast-put-marked-2 : tie.Need-cast-put-marked-2
 cast-put-marked-2 c = search needs
 
+cast-put-marked-3 : tie.Need-cast-put-marked-3
+cast-put-marked-3 c = search needs
+
 put-marked-requires : tie.Need-put-marked-requires
 put-marked-requires c κs = search needs
 
@@ -70,11 +73,14 @@ behind-requires-3 c κs = search needs
 enum-told-3 : tie.Need-enum-told-3
 enum-told-3 c = search needs
 
-cast-put-marked-3 : tie.Need-cast-put-marked-3
-cast-put-marked-3 c = search needs
-
 cast-put-marked-4 : tie.Need-cast-put-marked-4
 cast-put-marked-4 c = search needs
+
+cast-put-marked-5 : tie.Need-cast-put-marked-5
+cast-put-marked-5 c = search needs
+
+cast-put-marked-6 : tie.Need-cast-put-marked-6
+cast-put-marked-6 c = search needs
 
 put-marked-requires-2 : tie.Need-put-marked-requires-2
 put-marked-requires-2 c κs = search needs
@@ -172,12 +178,14 @@ close-spec =
     enum-told-2
     cast-put-marked
     cast-put-marked-2
+    cast-put-marked-3
     put-marked-requires
     add-behind-3
     behind-requires-3
     enum-told-3
-    cast-put-marked-3
     cast-put-marked-4
+    cast-put-marked-5
+    cast-put-marked-6
     put-marked-requires-2
     add-behind-4
     behind-requires-4

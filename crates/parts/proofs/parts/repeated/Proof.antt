@@ -38,18 +38,20 @@ put-repeat-requires c κs = search needs
 add-around : tie.Need-add-around
 add-around c = search needs
 
+sub-own : tie.Need-sub-own
+sub-own c = search needs
+
+cast-own : tie.Need-cast-own
+cast-own c = search needs
+
 cast-put-marked : tie.Need-cast-put-marked
 cast-put-marked c = search needs
 
 put-marked-requires : tie.Need-put-marked-requires
-put-marked-requires c κs =
-    let l = c .before .before .before .before .before .before .before .before .before .before .pre .3 (c .before .before .before .before .before .if3 .taken) in
-    search needs
+put-marked-requires c κs = let l = c .before .before .before .before .before .before .before .before .before .before .pre .3 (c .before .before .before .before .before .if3 .taken) in search needs
 
 behind-requires : tie.Need-behind-requires
-behind-requires c κs =
-    let l = c .before .before .before .before .before .before .before .before .before .before .before .before .before .pre .3 (c .before .before .before .before .before .before .before .before .if3 .taken) in
-    search needs
+behind-requires c κs = let l = c .before .before .before .before .before .before .before .before .before .before .before .before .before .pre .3 (c .before .before .before .before .before .before .before .before .if3 .taken) in search needs
 
 same-length : tie.Need-same-length
 same-length c = search needs
@@ -91,6 +93,8 @@ repeated-spec =
     cast-put-repeat
     put-repeat-requires
     add-around
+    sub-own
+    cast-own
     cast-put-marked
     put-marked-requires
     behind-requires

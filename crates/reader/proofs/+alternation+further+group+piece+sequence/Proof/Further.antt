@@ -11,10 +11,10 @@ use Rattle.reader.proofs.+alternation+further+group+piece+sequence.Lts-
 use Rattle.reader.proofs.+alternation+further+group+piece+sequence.Proof.Shared.{further-calls as calls, further-at as at}
 
 abbrev pub Inv-loop : lts.InvT-loop
-Inv-loop rule flags area₀ table₀ first depth d₀ last₀ before₀ area table d last before = Branched rule flags depth area₀ area table₀ table d₀ first d before last
+Inv-loop rule flags area₀ table₀ first depth d₀ last₀ before₀ count₀ area table d last before count = Branched rule flags depth area₀ area table₀ table d₀ first d before last count
 
 abbrev pub μ-loop : lts.MeasureT-loop
-μ-loop rule flags area₀ table₀ first depth d₀ last₀ before₀ area table d last before = length rule - d .at
+μ-loop rule flags area₀ table₀ first depth d₀ last₀ before₀ count₀ area table d last before count = length rule - d .at
 
 module _ (t : ℕ) where
   pub loop-holds : lts.Need-loop-holds (calls t) (at t) Post Inv-loop μ-loop
@@ -71,20 +71,20 @@ module _ (t : ℕ) where
       let a = start .args in
       rw (c .behind .ensures) (further-last (a .flags) (a .depth) (start .pre .1 .0) (c .before .before .before .before .before .before .before .before .loop .inv) (c .before .before .before .before .before .before .before .peek .ensures) (c .before .before .before .before .before .before .if1 .taken) (c .before .before .before .before .before .if2 .left) (c .before .before .before .put-three .ensures))
 
-  pub cast-put-three-3 : lts.Need-cast-put-three-3 (calls t) (at t) Post Inv-loop μ-loop
-  cast-put-three-3 c =
+  pub cast-put-branch : lts.Need-cast-put-branch (calls t) (at t) Post Inv-loop μ-loop
+  cast-put-branch c =
       let inv = c .before .before .before .loop .inv in
       let y = branched-ready (c .before .before .before .before .before .before .before .pre .1 .0) inv in
       omega (arith, inv .moves .address)
 
-  pub cast-put-three-4 : lts.Need-cast-put-three-4 (calls t) (at t) Post Inv-loop μ-loop
-  cast-put-three-4 c =
+  pub cast-put-branch-2 : lts.Need-cast-put-branch-2 (calls t) (at t) Post Inv-loop μ-loop
+  cast-put-branch-2 c =
       let inv = c .before .before .before .loop .inv in
       let y = branched-ready (c .before .before .before .before .before .before .before .pre .1 .0) inv in
       omega (arith, inv .earlier)
 
-  pub put-three-requires-2 : lts.Need-put-three-requires-2 (calls t) (at t) Post Inv-loop μ-loop
-  put-three-requires-2 c κs =
+  pub put-branch-requires : lts.Need-put-branch-requires (calls t) (at t) Post Inv-loop μ-loop
+  put-branch-requires c κs =
       let inv = c .before .before .before .loop .inv in
       let y = branched-ready (c .before .before .before .before .before .before .before .pre .1 .0) inv in
       search needs
@@ -102,7 +102,7 @@ module _ (t : ℕ) where
   sequence-requires c κs =
       let start = c .before .before .before .before .before .before .before .before .before .before .before .before .before in
       let inv = c .before .before .before .before .before .before .before .before .before .loop .inv in
-      let y = bar-ready (c .before .before .before .before .before .put-three2 .last .0) (branched-ready (start .pre .1 .0) inv) (c .before .before .before .before .before .before .before .before .peek .ensures) (c .before .before .before .before .before .before .before .if1 .left) (c .before .before .before .before .before .put-three2 .kept .0) in
+      let y = bar-ready (c .before .before .before .before .before .put-branch .last .0) (branched-ready (start .pre .1 .0) inv) (c .before .before .before .before .before .before .before .before .peek .ensures) (c .before .before .before .before .before .before .before .if1 .left) (c .before .before .before .before .before .put-branch .kept .0) in
       let n = branched-naming (start .pre .1 .1) inv in
       let e = c .behind2 .ensures in
       rw e (omega (arith, start .pre .0, inv .moves .on, y .within), (y, naming-on _ n (n .fit) refl))
@@ -111,7 +111,7 @@ module _ (t : ℕ) where
   enum-known-r c = search needs
 
   pub same-length-5 : lts.Need-same-length-5 (calls t) (at t) Post Inv-loop μ-loop
-  same-length-5 c = c .before .before .before .before .before .before .before .sequence .kept .1 .1 .0 ∙ c .before .before .before .before .before .before .before .before .before .before .before .before .before .put-three2 .kept .0 ∙ c .before .before .before .before .before .before .before .before .before .before .before .before .before .before .before .before .before .loop .inv .long
+  same-length-5 c = c .before .before .before .before .before .before .before .sequence .kept .1 .1 .0 ∙ c .before .before .before .before .before .before .before .before .before .before .before .before .before .put-branch .kept .0 ∙ c .before .before .before .before .before .before .before .before .before .before .before .before .before .before .before .before .before .loop .inv .long
 
   pub same-length-6 : lts.Need-same-length-6 (calls t) (at t) Post Inv-loop μ-loop
   same-length-6 c = c .before .before .before .before .before .before .before .sequence .kept .1 .1 .1 .0 ∙ c .before .before .before .before .before .before .before .before .before .before .before .before .before .before .before .before .before .loop .inv .wide
@@ -121,10 +121,16 @@ module _ (t : ℕ) where
       let start = c .before .before .before .before .before .before .before .before .before .before .before .before .before .before .before .before .before .before .before .before .before in
       let a = start .args in
       let read = c .before .before .before .before .before .before .before .sequence in
-      further-refused (a .flags) (a .depth) (start .pre .1 .0) (c .before .before .before .before .before .before .before .before .before .before .before .before .before .before .before .before .before .loop .inv) (c .before .before .before .before .before .before .before .before .before .before .before .before .before .before .before .before .peek .ensures) (c .before .before .before .before .before .before .before .before .before .before .before .before .before .before .before .if1 .left) (c .before .before .before .before .before .before .before .before .before .before .before .before .before .put-three2 .ensures) (read .last .1 .1 .1 .0) (read .result) (rw (c .before .before .before .before .before .before .before .before .behind2 .ensures) at (read .ensures)) _ (c .before .r .given .1)
+      further-refused (a .flags) (a .depth) (start .pre .1 .0) (c .before .before .before .before .before .before .before .before .before .before .before .before .before .before .before .before .before .loop .inv) (c .before .before .before .before .before .before .before .before .before .before .before .before .before .before .before .before .peek .ensures) (c .before .before .before .before .before .before .before .before .before .before .before .before .before .before .before .if1 .left) (c .before .before .before .before .before .before .before .before .before .before .before .before .before .put-branch .ensures) (read .last .1 .1 .1 .0) (read .result) (rw (c .before .before .before .before .before .before .before .before .behind2 .ensures) at (read .ensures)) _ (c .before .r .given .1)
 
   pub enum-known-r-2 : lts.Need-enum-known-r-2 (calls t) (at t) Post Inv-loop μ-loop
   enum-known-r-2 c = search needs
+
+  pub add-count : lts.Need-add-count (calls t) (at t) Post Inv-loop μ-loop
+  add-count c =
+      let inv = c .before .before .before .before .before .before .before .before .before .before .before .before .before .before .before .before .before .loop .inv in
+      let y = branched-ready (c .before .before .before .before .before .before .before .before .before .before .before .before .before .before .before .before .before .before .before .before .before .pre .1 .0) inv in
+      omega (arith, inv .many, y .within, y .narrow)
 
   pub loop-less : lts.Need-loop-less (calls t) (at t) Post Inv-loop μ-loop
   loop-less c =
@@ -136,4 +142,4 @@ module _ (t : ℕ) where
       let start = c .before .before .before .before .before .before .before .before .before .before .before .before .before .before .before .before .before .before .before .before .before in
       let a = start .args in
       let read = c .before .before .before .before .before .before .before .sequence in
-      branched-more (a .flags) (a .depth) (start .pre .1 .0) (c .before .before .before .before .before .before .before .before .before .before .before .before .before .before .before .before .before .loop .inv) (c .before .before .before .before .before .before .before .before .before .before .before .before .before .before .before .before .peek .ensures) (c .before .before .before .before .before .before .before .before .before .before .before .before .before .before .before .if1 .left) (c .before .before .before .before .before .before .before .before .before .before .before .before .before .put-three2 .ensures) (read .last .1 .1 .1 .0) (read .result) (rw (c .before .before .before .before .before .before .before .before .behind2 .ensures) at (read .ensures)) _ _ (c .before .r2 .given .1) (read .kept .1 .1 .0 ∙ c .before .before .before .before .before .before .before .before .before .before .before .before .before .put-three2 .kept .0) (read .kept .1 .1 .1 .0)
+      branched-more (a .flags) (a .depth) (start .pre .1 .0) (c .before .before .before .before .before .before .before .before .before .before .before .before .before .before .before .before .before .loop .inv) (c .before .before .before .before .before .before .before .before .before .before .before .before .before .before .before .before .peek .ensures) (c .before .before .before .before .before .before .before .before .before .before .before .before .before .before .before .if1 .left) (c .before .before .before .before .before .before .before .before .before .before .before .before .before .put-branch .ensures) (read .last .1 .1 .1 .0) (read .result) (rw (c .before .before .before .before .before .before .before .before .behind2 .ensures) at (read .ensures)) _ _ (c .before .r2 .given .1) (read .kept .1 .1 .0 ∙ c .before .before .before .before .before .before .before .before .before .before .before .before .before .put-branch .kept .0) (read .kept .1 .1 .1 .0)

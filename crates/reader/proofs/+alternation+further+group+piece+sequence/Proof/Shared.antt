@@ -20,6 +20,7 @@ use Rattle.reader.proofs.+alternation+further+group+piece+sequence.Lts-
 use Rattle.lexemes.proofs.behind_blanks.Reads as behind-blanks-reads
 use Rattle.lexemes.proofs.peek.Reads as peek-reads
 use Rattle.parts.proofs.behind.Reads as behind-reads
+use Rattle.writer.proofs.put_branch.Reads as put-branch-reads
 use Rattle.writer.proofs.put_three.Reads as put-three-reads
 use Rattle.parts.proofs.opening_at.Reads as opening-at-reads
 use Rattle.parts.proofs.close.Reads as close-reads
@@ -79,7 +80,7 @@ abbrev pub alternation-calls : ℕ → alternation-lts.Claims
 alternation-calls t = (sequence-below t, sequence.Post, further-below t, further.Post)
 
 abbrev pub further-calls : ℕ → further-lts.Claims
-further-calls t = (peek-reads.Asked, peek-reads.Learnt, put-three-reads.Asked, put-three-reads.Learnt, behind-reads.Asked, behind-reads.Learnt, sequence-below t, sequence.Post)
+further-calls t = (peek-reads.Asked, peek-reads.Learnt, put-three-reads.Asked, put-three-reads.Learnt, behind-reads.Asked, behind-reads.Learnt, put-branch-reads.Asked, put-branch-reads.Learnt, sequence-below t, sequence.Post)
 
 abbrev pub group-calls : ℕ → group-lts.Claims
 group-calls t = (opening-at-reads.Asked, opening-at-reads.Learnt, alternation-below t, alternation.Post, close-reads.Asked, close-reads.Learnt)

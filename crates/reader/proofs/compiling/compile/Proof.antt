@@ -7,7 +7,7 @@ use lib.ListN.{length, length-take}
 use Rattle.syntax.specs.Limits.{groupLimit, ruleAreaNeed, spansLength}
 use Rattle.reader.specs.Areas.{tableStart}
 use Rattle.reader.specs.Compiles.{Compiles}
-use Rattle.reader.proofs.Compilations.{back-long, part-wide, wider, is-joined}
+use Rattle.reader.proofs.Compilations.{back-long, part-wide, wider, is-joined, back-joined}
 use borrow.Author.Needs.{needs}
 use Rattle.reader.proofs.compiling.compile.Statement.{statement}
 use Rattle.reader.proofs.compiling.compile.Tie as tie
@@ -39,8 +39,8 @@ part-put-table-end c =
     let start = c .before .before .before .before .before .before .before .before in
     let a = start .args in
     let into = c .before .before .before .compile-into in
-    let long : length (into .last .1 .1 .0) ≡ tableStart = into .kept .1 .1 .0 ∙ simp length-take (omega (arith, start .pre .1)) in
-    subst (λ (n : ℕ). ruleAreaNeed ≤ n) (sym (back-long (into .last .1 .1 .0) (a .area .now) long (start .pre .1))) (start .pre .1)
+    let long : length (into .last .1 .1 .1 .0) ≡ tableStart = into .kept .1 .1 .1 .0 ∙ simp length-take (omega (arith, start .pre .1)) in
+    subst (λ (n : ℕ). ruleAreaNeed ≤ n) (sym (back-long (into .last .1 .1 .1 .0) (a .area .now) long (start .pre .1))) (start .pre .1)
 
 put-table-requires : tie.Need-put-table-requires
 unfolding tableStart ruleAreaNeed spansLength groupLimit
@@ -48,11 +48,19 @@ put-table-requires c κs =
     let start = c .before .before .before .before .before .before .before .before .before in
     let a = start .args in
     let into = c .before .before .before .before .compile-into in
-    let long : length (into .last .1 .1 .0) ≡ tableStart = into .kept .1 .1 .0 ∙ simp length-take (omega (arith, start .pre .1)) in
-    subst (λ (n : ℕ). spansLength ≤ n) (sym (part-wide (into .last .1 .1 .0) (a .area .now) long (start .pre .1))) (omega arith)
+    let long : length (into .last .1 .1 .1 .0) ≡ tableStart = into .kept .1 .1 .1 .0 ∙ simp length-take (omega (arith, start .pre .1)) in
+    subst (λ (n : ℕ). spansLength ≤ n) (sym (part-wide (into .last .1 .1 .1 .0) (a .area .now) long (start .pre .1))) (omega arith)
 
 same-length : tie.Need-same-length
-same-length c = search needs
+unfolding tableStart ruleAreaNeed spansLength groupLimit
+same-length c =
+    let start = c .before .before .before .before .before .before .before .before .before .before .before .before in
+    let a = start .args in
+    let into = c .before .before .before .before .before .before .before .compile-into in
+    let long : length (into .last .1 .1 .1 .0) ≡ tableStart = into .kept .1 .1 .1 .0 ∙ simp length-take (omega (arith, start .pre .1)) in
+    let copy = c .before .before .put-table in
+    let wide : length (copy .last .0) ≡ spansLength = copy .kept .0 ∙ part-wide (into .last .1 .1 .1 .0) (a .area .now) long (start .pre .1) in
+    back-joined (a .checked) (a .rule .now) (a .flags) (a .area .now) (into .last .1 .1 .1 .0) _ (copy .last .0) _ long wide (start .pre .1) (copy .ensures)
 
 returns : tie.Need-returns
 unfolding tableStart ruleAreaNeed spansLength groupLimit
@@ -60,11 +68,11 @@ returns c =
     let start = c .before .before .before .before .before .before .before .before .before .before .before .before in
     let a = start .args in
     let into = c .before .before .before .before .before .before .before .compile-into in
-    let long : length (into .last .1 .1 .0) ≡ tableStart = into .kept .1 .1 .0 ∙ simp length-take (omega (arith, start .pre .1)) in
+    let long : length (into .last .1 .1 .1 .0) ≡ tableStart = into .kept .1 .1 .1 .0 ∙ simp length-take (omega (arith, start .pre .1)) in
     let copy = c .before .before .put-table in
-    let wide : length (copy .last .0) ≡ spansLength = copy .kept .0 ∙ part-wide (into .last .1 .1 .0) (a .area .now) long (start .pre .1) in
-    subst (λ (l : List ℕ). Compiles (a .rule .now) (a .flags) (a .area .now) l (into .result)) (sym (is-joined (a .rule .now) (a .flags) (a .area .now) (into .last .1 .1 .0) _ (copy .last .0) _ long wide (start .pre .1) (copy .ensures)))
-    (wider (a .rule .now) (a .flags) (a .area .now) (into .last .1 .1 .0) _ (copy .last .0) _ long wide (start .pre .1) (copy .ensures) (into .result) (into .ensures))
+    let wide : length (copy .last .0) ≡ spansLength = copy .kept .0 ∙ part-wide (into .last .1 .1 .1 .0) (a .area .now) long (start .pre .1) in
+    subst (λ (l : List ℕ). Compiles (a .checked) (a .rule .now) (a .flags) (a .area .now) l (into .result)) (sym (is-joined (a .checked) (a .rule .now) (a .flags) (a .area .now) (into .last .1 .1 .1 .0) _ (copy .last .0) _ long wide (start .pre .1) (copy .ensures)))
+    (wider (a .checked) (a .rule .now) (a .flags) (a .area .now) (into .last .1 .1 .1 .0) _ (copy .last .0) _ long wide (start .pre .1) (copy .ensures) (into .result) (into .ensures))
 
 pub compile-spec : {M : Type 1} → statement M
 compile-spec =
