@@ -51,7 +51,17 @@ pub fn match_lines(
     let lines = count_lines(buffer);
     let short = results.len() / PART_LENGTH < lines;
     // no line counts for the call itself: one that is too long is told in its own part
-    match prepare(rule, flags, 0, budget, rule_area, work_area, short, names) {
+    match prepare(
+        rule,
+        flags,
+        false,
+        0,
+        budget,
+        rule_area,
+        work_area,
+        short,
+        names,
+    ) {
         Preparation::Refused(f) => Batch::Refused(f),
         Preparation::Ready(entry, groups) => {
             match_lines_held(

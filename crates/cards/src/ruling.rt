@@ -51,7 +51,7 @@ pub fn count_groups(rule: &[u8], flags: u32, rule_area: &mut [u32]) -> Counting
     ensures { λ r. ⌜ Counts (now (rule .entry)) flags r ⌝ }
     ensures { λ _. ⌜ now («rule_area» .exit) ≡ cleared ruleAreaNeed (now («rule_area» .entry)) ⌝ }
 {
-    let compiled = compile(rule, flags, rule_area);
+    let compiled = compile(rule, flags, false, rule_area);
     clear(rule_area, RULE_AREA_NEED);
     match compiled {
         Compilation::Sound(_, groups) => Counting::Groups(groups),

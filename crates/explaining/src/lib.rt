@@ -125,6 +125,7 @@ pub fn explain(
     match prepare(
         rule,
         flags,
+        false,
         subject.len(),
         budget,
         rule_area,

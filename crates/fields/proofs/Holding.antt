@@ -1,5 +1,6 @@
 -- A rule that is ready is held over all lines, and whoever holds it can ask about a line.
 use mathlib.Core.Path.{_≡_}
+use mathlib.Core.Bool.{Bool}
 use mathlib.Core.List.{List}
 use Prim.Native.Nat.{ℕ, _*_, _≤_}
 use native.Mathlib.Omega.{arith}
@@ -13,8 +14,8 @@ use Rattle.fields_line.specs.Promises.{Lent}
 use Rattle.fields.specs.Rules.{Holds}
 
 -- the area is no longer than the rule needs
-pub readied-holds : {need : ℕ} {c : Call} {entry groups : ℕ} {area work names : List ℕ} → Readied need c entry groups area work names → length area ≤ ruleAreaNeed → Holds area entry (c .budget)
-readied-holds {need} {c} {area = area} h long = record { tree = h .tree; stands = rw (take-all ruleAreaNeed area long) at (h .stands); budget-fits = accepted need c (h .accepted) .budget-fits }
+pub readied-holds : {checked : Bool} {need : ℕ} {c : Call} {entry groups : ℕ} {area work names : List ℕ} → Readied checked need c entry groups area work names → length area ≤ ruleAreaNeed → Holds area entry (c .budget)
+readied-holds {need = need} {c} {area = area} h long = record { tree = h .tree; stands = rw (take-all ruleAreaNeed area long) at (h .stands); budget-fits = accepted need c (h .accepted) .budget-fits }
 
 -- the work area is long enough for the largest budget
 pub holds-lent : {area : List ℕ} {entry budget : ℕ} (work : List ℕ) → Holds area entry budget → length area ≡ ruleAreaNeed → workPerStep * budgetLimit ≤ length work → Lent area entry budget work

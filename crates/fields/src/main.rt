@@ -139,7 +139,17 @@ fn run(
     let mut text = io::buffer();
     let n = read_text(o.text, &mut text);
     let mut names = [0u8; NAME_INDEX_NEED];
-    match prepare(rule, o.flags, 0, o.budget, area, work, false, &mut names) {
+    match prepare(
+        rule,
+        o.flags,
+        false,
+        0,
+        o.budget,
+        area,
+        work,
+        false,
+        &mut names,
+    ) {
         Preparation::Refused(f) => say_refusal(b"fields", f, rule),
         Preparation::Ready(entry, groups) => {
             look_on(

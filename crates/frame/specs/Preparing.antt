@@ -1,6 +1,7 @@
 -- Preparing a call: what it tells, and what it leaves in the rule area, the work area and the name index.
--- docs/REFERENCE.md, 15.3, 18.4
+-- docs/REFERENCE.md, 10.6, 15.3, 18.4
 use mathlib.Core.Path.{_≡_}
+use mathlib.Core.Bool.{Bool, true}
 use mathlib.Core.List.{List}
 use mathlib.Core.Option.{none, some}
 use Prim.Native.Nat.{ℕ, _≤_}
@@ -10,6 +11,7 @@ use Rattle.syntax.specs.Limits.{ruleLimit, ruleAreaNeed, nameIndexNeed}
 use Rattle.syntax.specs.Read.{sound, refused}
 use Rattle.syntax.specs.Tree.{Rule}
 use Rattle.syntax.specs.Reading.{namesOf, reading}
+use Rattle.syntax.specs.Checkable.{uncheckable}
 use Rattle.semantics.specs.Calls.{Call, workAreaNeed, unacceptable, over, cleared}
 use Rattle.semantics.specs.NameIndex.{nameIndex}
 use Rattle.machine.specs.Theorem.{Stands}
@@ -24,14 +26,17 @@ pub record Lends (rule : List ℕ) (budget : ℕ) (ruleArea workArea names : Lis
   pub names-fit : nameIndexNeed ≤ length names
 
 -- a refused call, and its areas. "After refusals 1 to 7 both areas are unchanged; after any other return their needed first part is zero and the
--- rest unchanged." 02: "a refused call leaves the index unchanged"
-pub data Denied (need : ℕ) (c : Call) (f : Refusal) (ruleArea workArea names : List ℕ) : Type 0 where
-  unread : f .place ≡ 0 → some (f .reason) ≡ unacceptable need c → ruleArea ≡ c .ruleArea → workArea ≡ c .workArea → names ≡ c .names → Denied need c f ruleArea workArea names
+-- rest unchanged." 02: "a refused call leaves the index unchanged". Only a check refuses a rule that is sound.
+pub data Denied (checked : Bool) (need : ℕ) (c : Call) (f : Refusal) (ruleArea workArea names : List ℕ) : Type 0 where
+  unread : f .place ≡ 0 → some (f .reason) ≡ unacceptable need c → ruleArea ≡ c .ruleArea → workArea ≡ c .workArea → names ≡ c .names → Denied checked need c f ruleArea workArea names
   unsound : none ≡ unacceptable need c → reading (c .rule) (c .flags) ≡ refused (f .place) (f .reason)
-      → ruleArea ≡ cleared ruleAreaNeed (c .ruleArea) → workArea ≡ cleared (workAreaNeed (c .budget)) (c .workArea) → names ≡ c .names → Denied need c f ruleArea workArea names
+      → ruleArea ≡ cleared ruleAreaNeed (c .ruleArea) → workArea ≡ cleared (workAreaNeed (c .budget)) (c .workArea) → names ≡ c .names → Denied checked need c f ruleArea workArea names
+  unfollowed : {tree : Rule} {groups stop : ℕ} → checked ≡ true → none ≡ unacceptable need c → reading (c .rule) (c .flags) ≡ sound (tree, groups) stop → uncheckable tree ≡ some (f .place, f .reason)
+      → ruleArea ≡ cleared ruleAreaNeed (c .ruleArea) → workArea ≡ cleared (workAreaNeed (c .budget)) (c .workArea) → names ≡ c .names → Denied checked need c f ruleArea workArea names
 
--- a call that is answered: its rule stands compiled in the needed part of the rule area, the index is filled, and nothing else has changed
-pub record Readied (need : ℕ) (c : Call) (entry groups : ℕ) (ruleArea workArea names : List ℕ) : Type 0 where
+-- a call that is answered: its rule stands compiled in the needed part of the rule area, the index is filled, and nothing else has changed; a check can
+-- follow its rule
+pub record Readied (checked : Bool) (need : ℕ) (c : Call) (entry groups : ℕ) (ruleArea workArea names : List ℕ) : Type 0 where
   pub accepted : none ≡ unacceptable need c
   pub tree : Rule
   pub stop : ℕ
@@ -41,7 +46,8 @@ pub record Readied (need : ℕ) (c : Call) (entry groups : ℕ) (ruleArea workAr
   pub rest : drop ruleAreaNeed ruleArea ≡ drop ruleAreaNeed (c .ruleArea)
   pub untouched : workArea ≡ c .workArea
   pub filled : names ≡ over (nameIndex (namesOf (c .rule) (c .flags))) (c .names)
+  pub followed : checked ≡ true → uncheckable tree ≡ none
 
-abbrev pub Prepares : (need : ℕ) → Call → Preparation → (ruleArea workArea names : List ℕ) → Type 0
-Prepares need c (Ready entry groups) ruleArea workArea names = Readied need c entry groups ruleArea workArea names
-Prepares need c (Refused f) ruleArea workArea names = Denied need c f ruleArea workArea names
+abbrev pub Prepares : (checked : Bool) (need : ℕ) → Call → Preparation → (ruleArea workArea names : List ℕ) → Type 0
+Prepares checked need c (Ready entry groups) ruleArea workArea names = Readied checked need c entry groups ruleArea workArea names
+Prepares checked need c (Refused f) ruleArea workArea names = Denied checked need c f ruleArea workArea names

@@ -29,6 +29,7 @@ pub enum Preparation {
 fn compile_or_clear(
     rule: &[u8],
     flags: u32,
+    checked: bool,
     budget: u32,
     rule_area: &mut [u32],
     work_area: &mut [u32],
@@ -36,9 +37,9 @@ fn compile_or_clear(
 ) -> Preparation
     requires { ⌜ Lends (now rule) budget (now «rule_area») (now «work_area») (now names) ⌝ }
     ensures { λ r. ⌜ ((need : ℕ) (line results : List ℕ) → none ≡ unacceptable need (callOf (now (rule .entry)) flags line budget (now («rule_area» .entry)) (now («work_area» .entry)) results (now (names .entry)))
-        → Prepares need (callOf (now (rule .entry)) flags line budget (now («rule_area» .entry)) (now («work_area» .entry)) results (now (names .entry))) r (now («rule_area» .exit)) (now («work_area» .exit)) (now (names .exit))) ⌝ }
+        → Prepares checked need (callOf (now (rule .entry)) flags line budget (now («rule_area» .entry)) (now («work_area» .entry)) results (now (names .entry))) r (now («rule_area» .exit)) (now («work_area» .exit)) (now (names .exit))) ⌝ }
 {
-    let compiled = compile(rule, flags, rule_area);
+    let compiled = compile(rule, flags, checked, rule_area);
     match compiled {
         Compilation::Sound(pc, groups) => {
             let entry = pc as u32;
@@ -52,10 +53,11 @@ fn compile_or_clear(
     }
 }
 
-// Prepares a call. Of the subject its length is enough, and of the result area whether it is too short for what the call writes.
+// Prepares a call, which may be a check. Of the subject its length is enough, and of the result area whether it is too short for what the call writes.
 pub fn prepare(
     rule: &[u8],
     flags: u32,
+    checked: bool,
     subject: usize,
     budget: u32,
     rule_area: &mut [u32],
@@ -64,7 +66,7 @@ pub fn prepare(
     names: &mut [u8],
 ) -> Preparation
     ensures { λ r. ⌜ ((need : ℕ) (line results : List ℕ) → length line ≡ subject → ltb (length results) need ≡ short
-        → Prepares need (callOf (now (rule .entry)) flags line budget (now («rule_area» .entry)) (now («work_area» .entry)) results (now (names .entry))) r (now («rule_area» .exit)) (now («work_area» .exit)) (now (names .exit))) ⌝ }
+        → Prepares checked need (callOf (now (rule .entry)) flags line budget (now («rule_area» .entry)) (now («work_area» .entry)) results (now (names .entry))) r (now («rule_area» .exit)) (now («work_area» .exit)) (now (names .exit))) ⌝ }
 {
     match unfit(
         rule.len(),
@@ -77,6 +79,14 @@ pub fn prepare(
         names.len(),
     ) {
         Fitness::Unfit(reason) => Preparation::Refused(Refusal { place: 0, reason }),
-        Fitness::Fits => compile_or_clear(rule, flags, budget, rule_area, work_area, names),
+        Fitness::Fits => compile_or_clear(
+            rule,
+            flags,
+            checked,
+            budget,
+            rule_area,
+            work_area,
+            names,
+        ),
     }
 }

@@ -28,7 +28,7 @@ pub fn prepare(rule: &[u8], rule_area: &mut [u32]) -> Readiness
             reason: Reason::RuleTooLong,
         });
     }
-    let compiled = compile(rule, FLAGS, rule_area);
+    let compiled = compile(rule, FLAGS, false, rule_area);
     match compiled {
         Compilation::Refused(f) => Readiness::Refused(f),
         Compilation::Sound(pc, groups) => {

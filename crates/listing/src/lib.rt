@@ -79,6 +79,7 @@ pub fn list_readings(
     match prepare(
         rule,
         flags,
+        false,
         subject.len(),
         budget,
         rule_area,

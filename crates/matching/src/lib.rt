@@ -177,6 +177,7 @@ pub fn match_line(
     match prepare(
         rule,
         flags,
+        false,
         subject.len(),
         budget,
         rule_area,

@@ -111,7 +111,7 @@ fn run(
     requires { ⌜ length (now rule) ≤ 1001 ⌝ }
 {
     let mut names = [0u8; NAME_INDEX_NEED];
-    match prepare(rule, flags, 0, budget, area, work, false, &mut names) {
+    match prepare(rule, flags, false, 0, budget, area, work, false, &mut names) {
         Preparation::Refused(f) => say_refusal(b"readings", f, rule),
         Preparation::Ready(entry, groups) => {
             let fd = open(b"readings", LINES_FILE);

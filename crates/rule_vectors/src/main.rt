@@ -14,7 +14,7 @@ const FLAGS_MOST: u32 = 1000;
 fn tell(rule: &[u8], flags: u32, area: &mut [u32])
     requires { ⌜ (length (now rule) ≤ ruleLimit) × (ruleAreaNeed ≤ length (now area)) ⌝ }
 {
-    match reader::compile(rule, flags, area) {
+    match reader::compile(rule, flags, false, area) {
         Compilation::Sound(_, groups) => {
             io::write_all(STDOUT_FILENO, b"sound ");
             io::print_decimal(STDOUT_FILENO, groups as u64);

@@ -75,6 +75,7 @@ pub fn match_all(
     match prepare(
         rule,
         flags,
+        false,
         subject.len(),
         budget,
         rule_area,

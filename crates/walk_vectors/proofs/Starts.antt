@@ -1,5 +1,6 @@
 -- A rule that the reader compiled is one that the machine can walk, with the registers clear.
 use mathlib.Core.Path.{_≡_}
+use mathlib.Core.Bool.{false}
 use mathlib.Core.List.{List, []}
 use Prim.Native.Nat.{ℕ, _*_, _≤_, _<_, _^_}
 use native.Mathlib.Omega.{arith}
@@ -15,10 +16,10 @@ use Rattle.machine.specs.Ready.{Ready}
 use Rattle.machine.specs.Theorem.{Stands, clear-all, begins}
 use Rattle.reader.specs.Compiles.{Stands as Compiled}
 
-pub walkable : (s : List ℕ) (flags : ℕ) (area : List ℕ) (pc groups : ℕ) → Compiled s flags area pc groups → length area ≡ ruleAreaNeed → (x : Rule) × Stands area x pc
+pub walkable : (s : List ℕ) (flags : ℕ) (area : List ℕ) (pc groups : ℕ) → Compiled false s flags area pc groups → length area ≡ ruleAreaNeed → (x : Rule) × Stands area x pc
 walkable s flags area pc groups c n = (c .tree, record { low = 1; high = ruleAreaNeed; within = omega arith; end = c .end; compiled = c .compiled })
 
-pub few-groups : (s : List ℕ) (flags : ℕ) (area : List ℕ) (pc groups : ℕ) → Compiled s flags area pc groups → groups ≤ groupLimit
+pub few-groups : (s : List ℕ) (flags : ℕ) (area : List ℕ) (pc groups : ℕ) → Compiled false s flags area pc groups → groups ≤ groupLimit
 few-groups s flags area pc groups c = (rw (c .reads) at (well-formed s flags)) .few
 
 -- the machine at a start, with fresh registers, is ready for the rule's walk from there

@@ -140,7 +140,7 @@ fn tell(
         put(b"no such start\n");
         return;
     }
-    match reader::compile(rule, flags, area) {
+    match reader::compile(rule, flags, false, area) {
         Compilation::Sound(pc, groups) => walk_from(area, sub, work, pc, groups, start, budget),
         Compilation::Refused(f) => {
             let reason = f.reason;

@@ -1,5 +1,6 @@
 -- What a day's lines tell is what their call returns.
 use mathlib.Core.Path.{_≡_, refl, ap, sym, _∙_}
+use mathlib.Core.Bool.{Bool}
 use mathlib.Core.List.{List}
 use mathlib.Core.Logic.{inl, inr}
 use Prim.Native.Nat.{ℕ, _/_}
@@ -37,7 +38,7 @@ unfolding batchRule leaving
 batch-clears lines c x = (refl, refl, refl)
 
 -- the parts that are written are those of the call
-pub batch-told : (lines : List (List ℕ)) (c : Call) {entry groups : ℕ} {ruleArea workArea names : List ℕ} (h : Readied (partsNeed lines) (lineless c) entry groups ruleArea workArea names)
+pub batch-told : (lines : List (List ℕ)) (c : Call) {checked : Bool} {entry groups : ℕ} {ruleArea workArea names : List ℕ} (h : Readied checked (partsNeed lines) (lineless c) entry groups ruleArea workArea names)
     → (many : ℕ) → many ≡ length lines → (new : List ℕ) → new ≡ filled (h .tree) (c .budget) lines (c .resultArea) → Told (batchRule lines (lineless c) (h .tree)) (Done many) new
 unfolding batchRule leaving
 batch-told lines c {groups = groups} h many m new e =

@@ -1,5 +1,6 @@
 -- What the code answers and leaves is what the calls define, for each way in which they end.
 use mathlib.Core.Path.{_≡_, refl, sym, ap, subst, _∙_}
+use mathlib.Core.Bool.{false}
 use mathlib.Core.List.{List, []}
 use mathlib.Core.Option.{Option, some}
 use Prim.Native.Nat.{ℕ, _+_, _*_, _/_, _≤_, _<_}
@@ -35,9 +36,9 @@ use Rattle.card_format.specs.Laws.Ruling.{fitting-faultless, none-fitting, rule
 -- The rule ----------------------------------------------------------------------------------
 
 -- what compiling counts is what reading the rule gives
-pub counted : {s : List ℕ} {flags : ℕ} {old new : List ℕ} {r : Compilation} → Compiles s flags old new r → (pc groups : ℕ) → r ≡ Compiled pc groups → Counted s flags groups
+pub counted : {s : List ℕ} {flags : ℕ} {old new : List ℕ} {r : Compilation} → Compiles false s flags old new r → (pc groups : ℕ) → r ≡ Compiled pc groups → Counted s flags groups
 counted {s} {flags} {old} {new} h pc groups e =
-    let z : Stands s flags new pc groups = subst (λ (x : Compilation). Says s flags new x) e (h .says) in
+    let z : Stands false s flags new pc groups = subst (λ (x : Compilation). Says false s flags new x) e (h .says) in
     record { tree = z .tree; stop = z .stop; reads = z .reads; few = omega (arith, z .many, namesOf-few s flags) }
 
 pub is-unfit : (f : Fitness) (x : Option Reason) → fitnessOf f ≡ x → (why : Reason) → f ≡ Unfit why → x ≡ some why

@@ -53,7 +53,7 @@ module _ (s : List ℕ) where
     fewGroups = let w : WellFormed groups tree = rw soundReads at (well-formed s gatewayFlags) in w .few
 
   -- what compiling tells of a rule that is not too long
-  module _ (short : length s ≤ ruleLimit) {old new : List ℕ} {x : Compilation} (done : Compiles s 0 old new x) where
+  module _ (short : length s ≤ ruleLimit) {old new : List ℕ} {x : Compilation} (done : Compiles false s 0 old new x) where
     pub compiledRefused : (f : Refusal) → x ≡ Refused f → gatewayRule s ≡ refused (f .place) (f .reason)
     unfolding gatewayFlags
     compiledRefused f e = shortRule short ∙ rw e at (done .says)

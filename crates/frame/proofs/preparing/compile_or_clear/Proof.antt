@@ -8,9 +8,9 @@ use Rattle.syntax.specs.Laws.Names.{Short, namesOf-short}
 use Rattle.reader.specs.Areas.{tableStart}
 use Rattle.semantics.specs.NameIndex.{nameIndex}
 use Rattle.semantics.specs.Calls.{workAreaNeed, over}
-use Rattle.frame.specs.Preparing.{unsound}
 use Rattle.frame.specs.Laws.Areas.{cleared-alike}
-use Rattle.frame.specs.Laws.Compiled.{compile-refused, compile-near, compile-sound, compile-named}
+use Rattle.frame.specs.Laws.Compiled.{compile-failed, compile-near, compile-sound, compile-named}
+use Rattle.frame.specs.Laws.Preparing.{failed-denied}
 use denote.Ref.{now}
 use borrow.Author.Needs.{needs}
 use Rattle.frame.proofs.preparing.compile_or_clear.Statement.{statement}
@@ -63,7 +63,7 @@ returns c =
     (let m = c .before .before .before .before .before .before .before .before .before .before .before .compile .ensures in
     let z = compile-sound m _ _ (c .before .before .before .before .before .before .before .compiled .given .1) (omega (arith, m .long, c .before .before .before .before .before .before .before .before .before .before .before .before .before .before .before .before .before .pre .rule-area-fits)) in
     let w = compile-named m _ _ (c .before .before .before .before .before .before .before .compiled .given .1) (omega (arith, m .long, c .before .before .before .before .before .before .before .before .before .before .before .before .before .before .before .before .before .pre .rule-area-fits)) in
-    record { accepted = e; tree = z .0; stop = z .1; reads = z .2; stands = z .3; long = m .long; rest = m .rest; untouched = refl; filled = c .before .before .fill .ensures ∙ ap (λ (ns : Names). over (nameIndex ns) (now (c .before .before .before .before .before .before .before .before .before .before .before .before .before .before .before .before .before .args .names))) (w .1) })
+    record { accepted = e; tree = z .0; stop = z .1; reads = z .2; stands = z .3; long = m .long; rest = m .rest; untouched = refl; filled = c .before .before .fill .ensures ∙ ap (λ (ns : Names). over (nameIndex ns) (now (c .before .before .before .before .before .before .before .before .before .before .before .before .before .before .before .before .before .args .names))) (w .1); followed = z .4 })
 
 same-length-3 : tie.Need-same-length-3
 same-length-3 c = search needs
@@ -75,7 +75,7 @@ returns-2 : tie.Need-returns-2
 returns-2 c =
     λ need line results e.
     (let m = c .before .before .before .before .before .before .before .before .before .before .before .before .compile .ensures in
-    unsound e (compile-refused m _ (c .before .before .before .before .before .before .before .before .compiled2 .given .1)) (c .before .before .before .before .finish .ensures .0 ∙ cleared-alike ruleAreaNeed _ _ (m .rest)) (c .before .before .before .before .finish .ensures .1) refl)
+    failed-denied _ (compile-failed m _ (c .before .before .before .before .before .before .before .before .compiled2 .given .1)) e (c .before .before .before .before .finish .ensures .0 ∙ cleared-alike ruleAreaNeed _ _ (m .rest)) (c .before .before .before .before .finish .ensures .1) refl)
 
 pub compile-or-clear-spec : {M : Type 1} → statement M
 compile-or-clear-spec =
