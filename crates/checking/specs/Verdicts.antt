@@ -7,11 +7,19 @@ use Rattle.syntax.specs.Limits.{rowLength}
 use Rattle.syntax.specs.Tree.{Rule}
 use Rattle.semantics.specs.States.{State, row}
 use Rattle.semantics.specs.Calls.{over}
+use Rattle.semantics.specs.Checks.{CheckOutcome, AReading, NoReading, CheckExhausted, CheckRefused}
 use Rattle.semantics.specs.Proposals.{aReading, noReading, exhausts, Check, check}
 use Rattle.machine.specs.Theorem.{Stands}
 use Rattle.checking.specs.declared.Verdict.{Verdict}
 use Rattle.checking.specs.declared.Verdict.the-variants.{Reading, Nothing, Exhausted, Refused}
 use Rattle.checking.specs.Paths.{told}
+
+-- what the code's answer means
+unfoldable pub verdictOf : Verdict → CheckOutcome
+verdictOf (Reading steps) = AReading steps
+verdictOf (Nothing steps) = NoReading steps
+verdictOf (Exhausted start steps) = CheckExhausted start steps
+verdictOf (Refused why) = CheckRefused (why .place) (why .reason)
 
 -- the code's answer is this one, and the result area, which was `old`, has the reading's row
 abbrev pub Reports : (old new : List ℕ) → Verdict → Check → Type 0
