@@ -1,10 +1,11 @@
 #!/usr/bin/env python3
 """Writes the calls that crates/call_vectors is run on, and what it must say of them: outcomes, steps, rows and names, and refusals 1 to
-8. Matches, listings and explanations come first, then successive matches and a day's lines.
+8. Matches, listings and explanations come first, then successive matches, a day's lines, and proposals that are checked.
 
 What must be said comes from reference.py, an independent reading of documents 01 and 02: no line of it is shared with the library.
 Usage: harness/call_vectors.py (in the repository's root)
 """
+import itertools
 import re
 import sys
 from pathlib import Path
@@ -18,8 +19,8 @@ RESULTS = 100 * ROW  # the numbers of the largest result area that the program l
 PARTS = RESULTS // PART
 MOST = 100000  # the largest budget
 ROOM = 262144  # what the program reads of its input
-MATCH, LIST, EXPLAIN, SCAN, BATCH = range(5)
-ENDINGS = {"M": "matched", "N": "not matched", "C": "complete", "F": "full"}
+MATCH, LIST, EXPLAIN, SCAN, BATCH, CHECK = range(6)
+ENDINGS = {"M": "matched", "N": "not matched", "C": "complete", "F": "full", "Y": "a reading", "O": "no reading"}
 # Classes of every kind of member, complemented and not.
 CLASSES = [b"[k]", b"[^k]", b"[W-c]", b"[^A-Y]", b"[[:upper:]]", b"[^[:^upper:]b]", b"[[:^lower:]0-9]", b"[\\x00\\x1F-!\\x7e-\\x81\\xFE\\xff]", b"[^\\W_[:digit:]]", b"[^\\d\\D]"]
 
@@ -59,21 +60,21 @@ def refusal(kind, rule, flags, subject, budget, areas):
     return tests.index(True) + 1 if True in tests else 0
 
 
-def told(kind, rule, flags, subject, budget, areas):
+def told(kind, rule, flags, subject, budget, areas, proposal=b""):
     """The lines of one call: its outcome, its rows or the parts of its lines, its names if it has some, and, if it was to explain, why the line is
     not matched. The last of an explanation's areas are the marks."""
     number = refusal(kind, rule, flags, subject, budget, areas)
     if number:
         return ["refused %d at 0" % number]
-    call = {MATCH: reference.match, LIST: reference.listing, EXPLAIN: reference.explain, SCAN: reference.scan, BATCH: reference.batch}[kind]
+    call = {MATCH: reference.match, LIST: reference.listing, EXPLAIN: reference.explain, SCAN: reference.scan, BATCH: reference.batch, CHECK: reference.check}[kind]
     try:
-        got = call(rule, flags, subject, budget, *([areas[2] // ROW] if kind in (LIST, SCAN) else []))
+        got = call(rule, flags, subject, budget, *([areas[2] // ROW] if kind in (LIST, SCAN) else [proposal] if kind == CHECK else []))
     except reference.Refuse as refused:
         return ["refused %d at %d" % (refused.n, refused.p)]
     if kind == BATCH:
         return ["done %d lines" % len(got)] + [part_line(part) for part in got] + names_line(reference.index(rule, flags))
     head = "exhausted at %d %d steps" % got[1:3] if got[0] == "X" else "%s %d steps" % (ENDINGS[got[0]], got[1])
-    rows = got[-1] if kind in (LIST, SCAN) else [got[2]] if kind == MATCH and got[0] == "M" else []
+    rows = got[-1] if kind in (LIST, SCAN) else [got[2]] if (kind, got[0]) in ((MATCH, "M"), (CHECK, "Y")) else []
     why = why_lines(*got[2:], min(areas[-1], len(rule))) if kind == EXPLAIN and got[0] == "N" else []
     return [head] + [row_line(row) for row in rows] + names_line(reference.index(rule, flags)) + why
 
@@ -86,7 +87,7 @@ def sound(rule, flags):
 
 
 def cases():
-    """kind, rule, flags, subject, budget, lengths of the areas, and of the name index where it is not just enough."""
+    """kind, rule, flags, subject, budget, lengths of the areas, and of the name index where it is not just enough; for a check its proposal."""
     for rule, flags, subject in READINGS + HELD_READINGS:
         for kind in (0, 1):
             yield kind, rule, flags, subject, 1000, (RULE_AREA, 16000, RESULTS)
@@ -131,6 +132,7 @@ def cases():
     yield from explanations()
     yield from scans()
     yield from batches()
+    yield from checks()
 
 
 def profile():
@@ -230,6 +232,45 @@ def batches():
     yield from refusals(BATCH, b"\n", PART)
 
 
+# What m)'s open points turn on: rule, flags, line, and the most choices that are tried with each other.
+PROPOSED = [(b"", 0, b"", 1), (b"|", 0, b"a", 2), (b"a", 0, b"b", 1), (b"a{2}", 0, b"aa", 1), (b"a?", 0, b"a", 2), (b"()*", 0, b"", 2), (b"a*", 0, b"aa", 4), (b"a*?", 0, b"a", 3),
+            (b"(){2,}", 0, b"", 1), (b"a{1,2}", 0, b"aa", 2), (b"(a|b)*", 0, b"ab", 5), (b"(?:a|b)|c", 0, b"b", 3), (b"a|ab|", 0, b"ab", 2), (b"(a*)\\1", 0, b"aa", 3), (b"(a)?\\1", 0, b"aa", 2),
+            (b"(?<n>A)|(?<m>b )", I | X, b"aB", 2), (b"^a*$", M, b"a\na", 3), (b".*\\b", S, b"a\n", 3), (b"(?:a?b)*", 0, b"bab", 5), (b"(?:(a|)b?){2}", DEPOT, b"ab", 4), (b"((a)|b)+\\2", 0, b"aba", 6)]
+BARS = b"|" * 256
+
+
+def checks():
+    """Of all proposals of so many choices, from every start and from behind the line, those that are a reading and some of the others; budgets up to what a path
+    needs; refusals 35 and 36 with their places, and those before them; as many branches as there can be."""
+    for rule, flags, subject, most in PROPOSED:
+        every = [bytes([start, 0, *chosen]) for start in range(len(subject) + 2) for n in range(most + 1) for chosen in itertools.product(range(3 if n < 4 else 2), repeat=n)]
+        for number, proposal in enumerate(every):
+            if number % 7 == 0 or reference.check(rule, flags, subject, 99, proposal)[0] == "Y":
+                yield CHECK, rule, flags, subject, 99, (RULE_AREA, 1584, ROW, INDEX), proposal
+    for rule, subject, proposal in ((b"(a*)\\1", b"aa", "00000100"), (b"|", b"", "000001"), (b"|", b"", "000002"), (b"|", b"", "0000"), (b"a*", b"a", "0000"), (b"a*", b"a", "000002"), (b"", b"", "000000"),
+                                    (b"", b"", "0000"), (b"a", b"b", "0000"), (b"a", b"a", ""), (b"a", b"a", "00"), (b"a", b"a", "0200"), (b"a", b"a", "0001"), (b"a", b"a", "ffff01"), (b"(?<n>a)+", b"aa", "00000100")):
+        for budget in range(10):
+            yield CHECK, rule, 0, subject, budget, (RULE_AREA, 16 * budget, ROW, INDEX), bytes.fromhex(proposal)
+    # the start's second byte counts 256
+    for start in (255, 256, 299, 300, 301, 65535):
+        yield CHECK, b"a?", 0, b"a" * 300, 9, (RULE_AREA, 144, ROW, INDEX), start.to_bytes(2, "little") + b"\1"
+    for rule in (BARS[1:], BARS, BARS + b"a|b", b"(?:" + BARS + b")" + BARS, BARS + b"(?:" + BARS + b")", b"a|(?:" + BARS + b")" + BARS, b"(?:" + BARS[1:] + b")" + BARS[1:], BARS + b"a*+", b"\\R" + BARS,
+                 BARS + b"\\1", BARS + b"(", BARS + b"()*"):
+        yield CHECK, rule, DEPOT if rule.endswith(b"*") else 0, b"a", 9, (RULE_AREA, 144, ROW, INDEX), b"\0\0\xff"
+    for proposal in (b"\0\0\xfe\0", b"\0\0\xff\0", b"\1\0\xff\xff"):
+        yield CHECK, b"(?:" + BARS[1:] + b"){1,2}?", 0, b"a", 9, (RULE_AREA, 144, ROW, INDEX), proposal
+    for rule in (b"b(?=a)", b"b(?!a)", b"(?>a)", b"a\\R", b"a*+", b"a{1,2}+", b"(?=a*+)", b"(a\\R)*+", b"(a)(?:b|c++)\\R", b"(?=a)(", b"(?=a)\\1", b"(?=(a))\\1", b"(?=a)*", b"(?=[A-z])", b"(?=[a-z])", b"[(?=a)]"):
+        for flags in (0, DEPOT, X):
+            yield CHECK, rule, flags, b"a", 9, (RULE_AREA, 144, ROW, INDEX), b"\0\0"
+    for areas in ((RULE_AREA, 144, ROW - 1, INDEX), (RULE_AREA, 144, ROW, INDEX - 1), (RULE_AREA, 143, ROW, INDEX), (RULE_AREA, 144, 3 * ROW, INDEX + 9)):
+        for rule in (b"(?<n>a)", b"(?=a)", BARS):
+            yield CHECK, rule, 0, b"a", 9, areas, b"\0\0"
+    # a path of as many steps as there can be, and of one more
+    for rule in (b"(?:a{248}){200}a{198}a", b"(?:a{248}){200}a{198}a\\z"):
+        yield CHECK, rule, 0, b"a" * 49799, MOST, (RULE_AREA, 16 * MOST, ROW, INDEX), b"\0\0"
+    yield from refusals(CHECK, b"", ROW)
+
+
 def refusals(kind, subject, need):
     """Each of the refusals 1 to 8 at its last good and its first bad value, then faults together: the lower number."""
     for size in (1000, 1001):
@@ -302,14 +343,15 @@ def given(text, most):
 
 def main():
     asked, answers = [], []
-    for kind, rule, flags, subject, budget, areas in cases():
+    for kind, rule, flags, subject, budget, areas, *proposal in cases():
         areas += (INDEX,) * (4 - len(areas))
-        # a rule is one word: in hex, or as so many letters
+        proposal = b"".join(proposal)
+        # a rule is one word: in hex, or as so many letters; and so is what is proposed, in hex
         written = given(rule, 999)
-        # call, flags, budget, the lengths of the areas and of the name index, rule, subject
-        asked.append("%d %d %d %d %d %d %d %s %s\n" % (kind, flags, budget, *areas, written, given(subject, 1000)))
+        # call, flags, budget, the lengths of the areas and of the name index, rule, proposal, subject
+        asked.append("%d %d %d %d %d %d %d %s %s %s\n" % (kind, flags, budget, *areas, written, proposal.hex(), given(subject, 1000)))
         # in these calls an explanation has as many marks as another call has numbers in its result area
-        answers += told(kind, rule, flags, subject, budget, areas + areas[2:3])
+        answers += told(kind, rule, flags, subject, budget, areas + areas[2:3], proposal)
     if sum(map(len, asked)) > ROOM:
         sys.exit("more than the %d bytes that the program reads" % ROOM)
     TARGET.joinpath("stdin").write_text("".join(asked))

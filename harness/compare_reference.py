@@ -1,10 +1,10 @@
 #!/usr/bin/env python3
 """Compares reference.py with the independent matcher in src/independent on random calls: outcomes, steps, rows, names, refusals with
-their places, what explanations tell and mark, and the parts of a batch's lines.
+their places, what explanations tell and mark, the parts of a batch's lines, and what is said of proposals.
 
 Neither is the library, and they share no line: where they differ, one of the two reads the documents wrongly.
 Usage: harness/compare_reference.py [ARGUMENTS OF print_calls] (after `cargo build --release` in harness/), such as --explanations,
-       --scans or --batches
+       --scans, --batches or --checks
        harness/compare_reference.py --lookups [ARGUMENTS OF print_lookups], for the field lookup
        harness/compare_reference.py --cards [ARGUMENTS OF print_cards], for rule cards
 """
@@ -37,9 +37,9 @@ def shown(lines):
 
 def call(fields):
     """What reference.py says of a line of print_calls."""
-    *numbers, rule, subject = fields
+    *numbers, rule, subject, proposal = fields
     kind, flags, budget, *areas = map(int, numbers)
-    return shown(call_vectors.told(kind, bytes.fromhex(rule), flags, bytes.fromhex(subject), budget, areas))
+    return shown(call_vectors.told(kind, bytes.fromhex(rule), flags, bytes.fromhex(subject), budget, areas, bytes.fromhex(proposal)))
 
 
 def lookup(fields):

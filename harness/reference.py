@@ -1,5 +1,5 @@
 #!/usr/bin/env python3
-"""An independent matcher written from documents 01 and 02: parse, walk, match, list, explain, scan, batch, rule cards."""
+"""An independent matcher written from documents 01 and 02: parse, walk, match, list, explain, scan, batch, check, rule cards."""
 import sys
 sys.setrecursionlimit(1000000)
 U=4294967295
@@ -23,7 +23,7 @@ LET={'d':D,'w':SETS['word'],'s':SETS['space'],'h':H,'v':V}
 def line_break(at):
     """\\R as 02 writes it: (?>\\x0D\\x0A|[\\x0A-\\x0D\\x85]), all of it at its place"""
     def one(*bs): return ('set',at,frozenset(bs))
-    return ('held',at,('alt',[('seq',[one(13),one(10)]),('seq',[one(10,11,12,13,0x85)])]))
+    return ('held',at,('alt',[('seq',[one(13),one(10)]),('seq',[one(10,11,12,13,0x85)])],[]))
 class Parser:
     def __init__(s,r,flags): s.r=r; s.flags=flags; s.i=0; s.opened=0; s.refs=[]; s.names={}
     def fold(s,t): return fold(t) if s.flags&I else frozenset(t)
@@ -61,10 +61,10 @@ class Parser:
         if not 1<=len(n)<=NAME or n[0] in '0123456789' or s.ch(j)!=close: raise Refuse(25,at)
         return n.encode(),j+1
     def alt(s,depth,opening):
-        bs=[s.seq(depth)]
+        bs=[s.seq(depth)]; bars=[]
         while s.ch(s.i)=='|':
-            s.i+=1; bs.append(s.seq(depth))
-        return ('alt',bs) if len(bs)>1 else bs[0]
+            bars.append(s.i); s.i+=1; bs.append(s.seq(depth))
+        return ('alt',bs,bars) if bars else bs[0]
     def quant(s):
         """None | 'stray' | (lo,hi,ok,end)"""
         c=s.ch(s.i)
@@ -231,6 +231,11 @@ def repeats(t):
     if isinstance(t,list): return [r for x in t for r in repeats(x)]
     if not isinstance(t,tuple): return []
     return ([t] if t[0]=='rep' else [])+[r for x in t[1:] for r in repeats(x)]
+def places(t,of):
+    """all places in a tree that `of` finds at its nodes"""
+    if isinstance(t,list): return [p for x in t for p in places(x,of)]
+    if not isinstance(t,tuple): return []
+    return of(t)+[p for x in t[1:] for p in places(x,of)]
 def least(t):
     """the least length of a part"""
     y=t[0]
@@ -396,6 +401,47 @@ def scan(rule,flags,sub,budget,room):
         if len(rows)==room: return ('F',total,rows)
         rows.append(hit[0]); bar=hit[0][1]==st; st=hit[0][1]
     return ('C',total,rows)
+class NoReading(Exception): pass
+class Path(Walk):
+    """one path of the walk, by its choices"""
+    def __init__(s,sub,tree,budget,choices): super().__init__(sub,tree,budget); s.choices=iter(choices); s.caps={}
+    def choice(s,n):
+        c=next(s.choices,n)
+        if c>=n: raise NoReading
+        return c
+    def follow(s,t,i):
+        """where a part leads from i"""
+        y=t[0]
+        if y=='seq':
+            for x in t[1]: i=s.follow(x,i)
+            return i
+        if y=='alt':
+            b=t[1][s.choice(len(t[1]))]; s.step(); return s.follow(b,i)
+        if y=='group':
+            s.step(); j=s.follow(t[2],i); s.step(); s.caps[t[1]]=(i,j); return j
+        if y=='rep':
+            _,p,lo,hi,lazy,body=t; n=0; idle=False
+            while True:
+                s.step()
+                if n>=lo and (n==hi or idle or s.choice(2)==0): return i
+                j=s.follow(body,i); idle=j==i; i=j; n+=1
+        s.step(); j=s.tried(t,i,s.caps)
+        if j is None: raise NoReading
+        return j
+def check(rule,flags,sub,budget,proposal):
+    """('Y',steps,row) for a reading, ('O',steps) for none, ('X',start,steps)"""
+    t,g=read(rule,flags)
+    for n,of in ((35,lambda x: [x[1]] if x[0] in('held','look') else []),(36,lambda x: x[2][255:256] if x[0]=='alt' else [])):
+        if places(t,of): raise Refuse(n,min(places(t,of)))
+    start=int.from_bytes(proposal[:2],'little')
+    if len(proposal)<2 or start>len(sub): return ('O',0)
+    p=Path(sub,t,budget,proposal[2:])
+    try:
+        i=p.follow(t,start); p.step()
+        if next(p.choices,None) is not None: raise NoReading
+    except NoReading: return ('O',p.steps)
+    except Done: return ('X',start,p.steps)
+    return ('Y',p.steps,row(start,i,p.caps))
 def lines(buf):
     """the lines of a buffer: a last piece without 0A counts if not empty"""
     ls=buf.split(b'\n')

@@ -10,12 +10,13 @@ const VARIABLE: &str = "TERRAVISCO_ARCHIVE";
 const FILE: &str = "libterravisco.a";
 
 /// What a program is told of an archive from before a function: such a one can still be timed. With the field lookup came calls that fill a name index.
-const AGES: [(&str, &str); 5] = [
+const AGES: [(&str, &str); 6] = [
     ("before_names", "terravisco_field"),
     ("before_explanations", "terravisco_explain"),
     ("before_scans", "terravisco_match_all"),
     ("before_batches", "terravisco_match_lines"),
     ("before_cards", "terravisco_card_read"),
+    ("before_checks", "terravisco_check"),
 ];
 
 fn main() {

@@ -24,6 +24,8 @@ pub struct Case {
     pub name_index: usize,
     /// In bytes; lent to an explanation alone.
     pub marks: usize,
+    /// What is checked; given to a check alone.
+    pub proposal: Vec<u8>,
 }
 
 impl Case {
@@ -40,7 +42,13 @@ impl Case {
             result_area: rows * if call == Call::Batch { PART_LENGTH } else { ROW_LENGTH },
             name_index: INDEX_LENGTH,
             marks: rule.len(),
+            proposal: Vec::new(),
         }
+    }
+
+    /// The check of a proposal, with areas that are exactly enough.
+    pub fn check(rule: &[u8], flags: u32, subject: &[u8], budget: u32, proposal: &[u8]) -> Case {
+        Case { proposal: proposal.to_vec(), ..Case::new(Call::Check, rule, flags, subject, budget, 1) }
     }
 
     /// What the independent matcher answers.
@@ -55,6 +63,7 @@ impl Case {
             result_area: self.result_area,
             name_index: self.name_index,
             marks: self.marks,
+            proposal: &self.proposal,
         };
         independent::answer(self.call, &inputs)
     }
@@ -67,9 +76,11 @@ impl Case {
             Call::Explain => "explain",
             Call::Scan => "scan",
             Call::Batch => "batch",
+            Call::Check => "check",
         };
+        let proposal = if self.call == Call::Check { format!(" proposal {}", text::hex(&self.proposal)) } else { String::new() };
         format!(
-            "{call} rule `{}` (hex {}) flags {} subject \"{}\" (hex {}) budget {} areas {} {} {} {} {}",
+            "{call} rule `{}` (hex {}) flags {} subject \"{}\" (hex {}) budget {}{proposal} areas {} {} {} {} {}",
             text::escaped(&self.rule),
             text::hex(&self.rule),
             self.flags,
@@ -92,6 +103,8 @@ pub fn shown(answer: &Answer) -> String {
         Ending::NotMatched => "not matched".to_string(),
         Ending::Complete => "complete".to_string(),
         Ending::Full => "full".to_string(),
+        Ending::Reading => "a reading".to_string(),
+        Ending::NoReading => "no reading".to_string(),
         Ending::Exhausted(start) => format!("exhausted at {start}"),
         Ending::Done => return shown_batch(answer),
         Ending::Refused(refusal) => return format!("refused {} at {}", refusal.number, refusal.place),

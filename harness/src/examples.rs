@@ -22,8 +22,9 @@ pub struct Example {
     /// The groups' names, as `shown_names` writes them.
     names: Option<String>,
     told: Told,
-    /// How many letters `a` stand for each `~` of the subject.
+    /// How many letters `a` stand for each `~` of the subject, and how many bars for each of the rule.
     long: Option<usize>,
+    bars: Option<usize>,
 }
 
 /// What an explanation is to tell, as far as it is written down.
@@ -62,7 +63,7 @@ impl Example {
     fn new(line: usize) -> Example {
         let case = Case { marks: 1_000, ..Case::new(Call::Match, b"", 0, b"", 10_000, 10) };
         let (from, rows, told) = (String::new(), Vec::new(), Told::default());
-        Example { from, line, case, same: None, rows, ending: None, steps: None, names: None, told, long: None }
+        Example { from, line, case, same: None, rows, ending: None, steps: None, names: None, told, long: None, bars: None }
     }
 
     fn set(&mut self, field: &str, value: &str) -> Option<()> {
@@ -81,6 +82,8 @@ impl Example {
             "numbers" => self.case.result_area = length(value)?,
             "index" => self.case.name_index = length(value)?,
             "marks" => self.case.marks = value.parse().ok()?,
+            "proposal" => self.case.proposal = text::from_hex(value)?,
+            "bars" => self.bars = Some(value.parse().ok()?),
             "names" => self.names = Some(value.to_string()),
             "furthest" | "closest" | "marked" => self.told.set(field, &numbers(value)?)?,
             "line" => self.rows.push(value.to_string()),
@@ -93,7 +96,9 @@ impl Example {
 
     fn expect(&mut self, value: &str) -> Option<()> {
         let words: Vec<&str> = value.split(' ').collect();
+        let checks = self.case.call == Call::Check;
         self.ending = Some(match words[..] {
+            ["none"] if checks => Ending::NoReading,
             ["none"] => Ending::NotMatched,
             ["matched"] if self.case.call == Call::Explain => Ending::Matched,
             ["done"] => Ending::Done,
@@ -103,7 +108,11 @@ impl Example {
             ["refused", number, "at", place] => Ending::Refused(independent::Refusal { number: number.parse().ok()?, place: place.parse().ok()? }),
             _ => {
                 self.rows.push(value.to_string());
-                Ending::Matched
+                if checks {
+                    Ending::Reading
+                } else {
+                    Ending::Matched
+                }
             }
         });
         Some(())
@@ -111,8 +120,10 @@ impl Example {
 
     /// The work area follows from the budget. An example expects something.
     fn finish(&mut self) -> Result<(), String> {
-        if let Some(letters) = self.long {
-            self.case.subject = self.case.subject.split(|&byte| byte == b'~').collect::<Vec<_>>().join(&vec![b'a'; letters][..]);
+        for (text, byte, count) in [(&mut self.case.subject, b'a', self.long), (&mut self.case.rule, b'|', self.bars)] {
+            if let Some(count) = count {
+                *text = text.split(|&byte| byte == b'~').collect::<Vec<_>>().join(&vec![byte; count][..]);
+            }
         }
         self.case.work_area = if self.case.budget > 100_000 { 0 } else { 16 * self.case.budget as usize };
         let call = self.case.call;
@@ -123,6 +134,7 @@ impl Example {
             Some(Ending::NotMatched) => for_one && self.rows.is_empty() && self.told.explanation(&self.case).is_some() == explains,
             Some(Ending::Complete | Ending::Full) => matches!(call, Call::List | Call::Scan),
             Some(Ending::Done) => call == Call::Batch,
+            Some(Ending::Reading | Ending::NoReading) => call == Call::Check,
             Some(Ending::Exhausted(_)) => call != Call::Batch,
             Some(Ending::Refused(_)) => self.rows.is_empty(),
         };
@@ -189,7 +201,7 @@ fn shown_names(index: &independent::Index) -> String {
 
 /// A call other than a match by its name.
 fn call(value: &str) -> Option<Call> {
-    let calls = [("list", Call::List), ("explain", Call::Explain), ("scan", Call::Scan), ("batch", Call::Batch)];
+    let calls = [("list", Call::List), ("explain", Call::Explain), ("scan", Call::Scan), ("batch", Call::Batch), ("check", Call::Check)];
     calls.into_iter().find(|(name, _)| *name == value).map(|(_, call)| call)
 }
 

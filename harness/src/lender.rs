@@ -9,7 +9,7 @@ use crate::independent::{
 };
 use crate::raw::{self, Areas, Call, Question, ANSWER_LENGTH};
 
-/// Lends areas to the library and looks at every number of them, and of some around them, after the call. The rule and the subject end at a
+/// Lends areas to the library and looks at every number of them, and of some around them, after the call. The rule, the subject and the proposal end at a
 /// fence, so that a byte read behind them would end the program.
 pub struct Lender {
     /// What areas hold before a call: no number is 0, and neighbours differ.
@@ -19,9 +19,10 @@ pub struct Lender {
     result: Vec<u32>,
     names: Vec<u8>,
     marks: Vec<u8>,
-    /// Where the rule and the subject stand for the library, each up to a fence.
+    /// Where the rule, the subject and the proposal stand for the library, each up to a fence.
     rule_text: Fenced,
     subject_text: Fenced,
+    proposal_text: Fenced,
 }
 
 /// Numbers before and behind each area, and bytes around the name index and the marks, that no call may touch.
@@ -39,9 +40,9 @@ pub struct Run {
 
 impl Default for Lender {
     fn default() -> Lender {
-        let (rule_text, subject_text) = (Fenced::new(4_096), Fenced::new(70_000));
+        let [rule_text, subject_text, proposal_text] = [4_096, 70_000, 4_096].map(Fenced::new);
         let [pattern, rule, work, result] = [(); 4].map(|()| Vec::new());
-        Lender { pattern, rule, work, result, names: Vec::new(), marks: Vec::new(), rule_text, subject_text }
+        Lender { pattern, rule, work, result, names: Vec::new(), marks: Vec::new(), rule_text, subject_text, proposal_text }
     }
 }
 
@@ -60,8 +61,9 @@ impl Lender {
         self.fill(case);
         let mut numbers: Numbers = [UNWRITTEN; ANSWER_LENGTH + 5];
         self.subject_text.make_room(case.subject.len());
+        self.proposal_text.make_room(case.proposal.len());
         let (rule, subject) = (self.rule_text.hold(&case.rule), self.subject_text.hold(&case.subject));
-        let question = Question { rule, flags: case.flags, subject, budget: case.budget };
+        let question = Question { rule, flags: case.flags, subject, budget: case.budget, proposal: self.proposal_text.hold(&case.proposal) };
         let areas = Areas {
             rule: &mut self.rule[GUARD..][..case.rule_area],
             work: &mut self.work[GUARD..][..case.work_area],
@@ -99,7 +101,7 @@ impl Lender {
         let refused = matches!(ending, Ending::Refused(_));
         let no_detail = !refused && !matches!(ending, Ending::Exhausted(_));
         let room = match case.call {
-            Call::Match | Call::List | Call::Scan => case.result_area / ROW_LENGTH,
+            Call::Match | Call::List | Call::Scan | Call::Check => case.result_area / ROW_LENGTH,
             Call::Explain => 0,
             Call::Batch => case.result_area / PART_LENGTH,
         };
@@ -197,7 +199,9 @@ fn ending(call: Call, kind: u32, detail: u32, place: u32) -> Ending {
         (Call::Match | Call::Explain, 1) => Ending::NotMatched,
         (Call::List | Call::Scan, 0) => Ending::Complete,
         (Call::List | Call::Scan, 1) => Ending::Full,
-        (Call::Match | Call::Explain | Call::List | Call::Scan, 2) => Ending::Exhausted(detail as usize),
+        (Call::Check, 0) => Ending::Reading,
+        (Call::Check, 1) => Ending::NoReading,
+        (Call::Match | Call::Explain | Call::List | Call::Scan | Call::Check, 2) => Ending::Exhausted(detail as usize),
         (Call::Batch, 0) => Ending::Done,
         _ => Ending::Refused(independent::Refusal { number: detail, place: place as usize }),
     }

@@ -34,20 +34,23 @@ fn told(lender: &mut Lender, seed: u64, number: u64, case: &Case, faults: &[Stri
     format!("case {number} of seed {seed}\n{}\n{}\nsmaller: {}\n{}", case.shown(), faults.join("\n"), small.shown(), small_faults.join("\n"))
 }
 
-/// The last number by which a call that walks is refused; later ones are those of rule cards.
-const LAST_REFUSAL: usize = 29;
+const LAST_REFUSAL: usize = 36;
+/// What a call that walks is never refused by: numbers of rule cards.
+const OF_CARDS: [usize; 6] = [9, 30, 31, 32, 33, 34];
+/// What a check alone is refused by.
+pub const OF_CHECKS: [usize; 2] = [35, 36];
 
 /// How many cases had which answer: a test that meets only some of them shows little.
 pub struct Kinds {
-    endings: [u64; 6],
+    endings: [u64; 8],
     refusals: [u64; LAST_REFUSAL + 1],
-    /// Numbers that are not given.
+    /// Numbers that are not given, beside those of cards.
     never: &'static [usize],
 }
 
 impl Kinds {
     pub fn new(never: &'static [usize]) -> Kinds {
-        Kinds { endings: [0; 6], refusals: [0; LAST_REFUSAL + 1], never }
+        Kinds { endings: [0; 8], refusals: [0; LAST_REFUSAL + 1], never }
     }
 
     pub fn count(&mut self, answer: &Answer) {
@@ -58,15 +61,17 @@ impl Kinds {
             Ending::Full => self.endings[3] += 1,
             Ending::Exhausted(_) => self.endings[4] += 1,
             Ending::Done => self.endings[5] += 1,
+            Ending::Reading => self.endings[6] += 1,
+            Ending::NoReading => self.endings[7] += 1,
             Ending::Refused(refusal) => self.refusals[refusal.number as usize] += 1,
         }
     }
 
     pub fn told(&self) -> String {
-        let words = ["matched", "not", "complete", "full", "exhausted", "done"];
+        let words = ["matched", "not", "complete", "full", "exhausted", "done", "a reading", "no reading"];
         let walked = self.endings.iter().zip(words).filter(|(count, _)| **count > 0).map(|(count, word)| format!("{count} {word}"));
         let walked = walked.collect::<Vec<_>>().join(", ");
-        let rarest = (1..=LAST_REFUSAL).filter(|number| !self.never.contains(number)).map(|number| self.refusals[number]).min().unwrap_or(0);
+        let rarest = (1..=LAST_REFUSAL).filter(|number| !self.never.contains(number) && !OF_CARDS.contains(number)).map(|number| self.refusals[number]).min().unwrap_or(0);
         match self.refusals.iter().sum::<u64>() {
             0 => walked,
             refused => format!("{walked}, {refused} refused, each refusal at least {rarest} times"),

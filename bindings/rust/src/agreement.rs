@@ -38,7 +38,7 @@ fn asked(call: Call, [rule, work, result, names]: [usize; 4]) -> u32 {
     let (mut rule, mut work, mut result, mut names) = (vec![0; rule], vec![0; work], vec![0; result], vec![0; names]);
     let areas = Areas { rule: &mut rule, work: &mut work, result: &mut result, names: &mut names, marks: &mut [] };
     let mut answer = [0; ANSWER_LENGTH];
-    raw::call(call, Question { rule: b"", flags: 0, subject: b"\n", budget: 1 }, areas, &mut answer);
+    raw::call(call, Question { rule: b"", flags: 0, subject: b"\n", budget: 1, proposal: b"" }, areas, &mut answer);
     refusal(&answer)
 }
 

@@ -11,6 +11,8 @@ pub(crate) const EXHAUSTED: u32 = 2;
 pub(crate) const REFUSED: u32 = 3;
 pub(crate) const COMPLETE: u32 = 0;
 pub(crate) const FULL: u32 = 1;
+pub(crate) const READING: u32 = 0;
+pub(crate) const NO_READING: u32 = 1;
 
 /// What the calls of one rule work in: 64 KiB, and 64 bytes for each step of the budget. They are made once, and lent to one call at a time.
 pub(crate) struct Areas {
@@ -35,6 +37,12 @@ pub(crate) struct Answer {
 impl Areas {
     pub fn new(budget: u32) -> Areas {
         Areas { rule: vec![0; RULE_AREA], work: vec![0; WORK_PER_STEP * budget.min(MOST_BUDGET) as usize], names: vec![0; NAME_INDEX] }
+    }
+
+    /// Makes room for this budget, if there is less.
+    pub fn suffice(&mut self, budget: u32) {
+        let needed = WORK_PER_STEP * budget.min(MOST_BUDGET) as usize;
+        self.work.resize(needed.max(self.work.len()), 0);
     }
 
     pub fn ask(&mut self, call: Call, question: Question, result: &mut [u32], marks: &mut [u8]) -> Answer {

@@ -7,6 +7,7 @@ mod agreement;
 mod areas;
 mod captures;
 mod cards;
+mod checked;
 mod errors;
 mod explanation;
 mod flags;
@@ -23,6 +24,7 @@ mod source;
 
 pub use captures::{Captures, Match};
 pub use cards::{read_card, write_card, Card};
+pub use checked::Checked;
 pub use errors::{CardError, RuleError, Unknown};
 pub use explanation::{Attempt, Explanation, Failure, Misfit};
 pub use flags::{Flags, UnknownLetter};

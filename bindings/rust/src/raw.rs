@@ -8,7 +8,7 @@
 //! const BUDGET: usize = 100;
 //! let (mut rule, mut work, mut row, mut names) = ([0; RULE_AREA], [0; WORK_PER_STEP * BUDGET], [0; ROW], [0; NAME_INDEX]);
 //! let mut answer = [0; ANSWER_LENGTH];
-//! let question = Question { rule: br"\d+", flags: 0, subject: b"tank 7", budget: BUDGET as u32 };
+//! let question = Question { rule: br"\d+", flags: 0, subject: b"tank 7", budget: BUDGET as u32, proposal: b"" };
 //! let areas = Areas { rule: &mut rule, work: &mut work, result: &mut row, names: &mut names, marks: &mut [] };
 //! call(Call::Match, question, areas, &mut answer);
 //! // Matched, from 5 to 6.
@@ -37,6 +37,8 @@ pub enum Call {
     Scan,
     /// A day's lines: the subject is a buffer of them.
     Batch,
+    /// Whether a proposal is a reading.
+    Check,
 }
 
 /// The most numbers that an answer has: those of an explanation. The other calls have the first six.
@@ -46,9 +48,10 @@ pub const WRITE_ANSWER_LENGTH: usize = ANSWER;
 /// The numbers of the answer when a card is read.
 pub const READ_ANSWER_LENGTH: usize = CARD_ANSWER;
 
-/// Declares calls: all are given a question and two areas, and have an answer; what else they are lent stands in brackets.
+/// Declares calls: all are given a question and two areas, and have an answer; what else they are lent stands in brackets, and before that what else
+/// they are asked.
 macro_rules! calls {
-    ($($(#[$when:meta])* $name:ident($($(#[$since:meta])* $lent:ident: $number:ty),*);)*) => {
+    ($($(#[$when:meta])* $name:ident$([$asked:ident])?($($(#[$since:meta])* $lent:ident: $number:ty),*);)*) => {
         extern "C" {
             $($(#[$when])* fn $name(
                 rule: *const u8,
@@ -57,6 +60,7 @@ macro_rules! calls {
                 subject: *const u8,
                 subject_len: usize,
                 budget: u32,
+                $($asked: *const u8, _: usize,)?
                 rule_area: *mut u32,
                 rule_area_len: usize,
                 work_area: *mut u32,
@@ -77,6 +81,8 @@ calls! {
     terravisco_match_all(result: u32, names: u8);
     #[cfg(not(before_batches))]
     terravisco_match_lines(result: u32, names: u8);
+    #[cfg(not(before_checks))]
+    terravisco_check[proposal](result: u32, names: u8);
 }
 
 extern "C" {
@@ -119,7 +125,7 @@ extern "C" {
     );
 }
 
-/// What a call is asked: the rule, its flags, the line and the budget of steps for each start.
+/// What a call is asked: the rule, its flags, the line, the budget of steps for each start, and for a check what is proposed.
 #[derive(Clone, Copy)]
 pub struct Question<'a> {
     /// A Perl regular expression, in bytes.
@@ -128,8 +134,10 @@ pub struct Question<'a> {
     pub flags: u32,
     /// The line, or a buffer of lines.
     pub subject: &'a [u8],
-    /// The steps for each start.
+    /// The steps for each start; those of a check along its one path.
     pub budget: u32,
+    /// What is checked. No other call is given it.
+    pub proposal: &'a [u8],
 }
 
 /// The areas that a call works in, and those that it writes rows, names and marks to.
@@ -148,7 +156,7 @@ pub struct Areas<'a> {
 
 /// Calls a function of the library, with these of the areas beside the two that every call is lent.
 macro_rules! ask {
-    ($function:ident($question:ident, $areas:ident: $($lent:ident),*) -> $answer:ident) => {
+    ($function:ident($question:ident$([$asked:ident])?, $areas:ident: $($lent:ident),*) -> $answer:ident) => {
         // Safety: every pointer leads to as many elements as the length beside it says, and the borrows keep the areas apart.
         unsafe {
             $function(
@@ -158,6 +166,7 @@ macro_rules! ask {
                 $question.subject.as_ptr(),
                 $question.subject.len(),
                 $question.budget,
+                $($question.$asked.as_ptr(), $question.$asked.len(),)?
                 $areas.rule.as_mut_ptr(),
                 $areas.rule.len(),
                 $areas.work.as_mut_ptr(),
@@ -186,7 +195,9 @@ pub fn call(call: Call, question: Question, areas: Areas, answer: &mut [u32; ANS
         Call::Scan => ask!(terravisco_match_all(question, areas: result, names) -> answer),
         #[cfg(not(before_batches))]
         Call::Batch => ask!(terravisco_match_lines(question, areas: result, names) -> answer),
-        #[cfg(any(before_explanations, before_scans, before_batches))]
+        #[cfg(not(before_checks))]
+        Call::Check => ask!(terravisco_check(question[proposal], areas: result, names) -> answer),
+        #[cfg(any(before_explanations, before_scans, before_batches, before_checks))]
         _ => panic!("this library is from before that call: {call:?}"),
     }
 }

@@ -7,7 +7,7 @@ use std::fmt;
 pub struct Refusal {
     /// What is wrong.
     pub reason: Reason,
-    /// Counted in bytes from 0; 0 for what is not about a place in the rule: reasons 1 to 9, and those of a rule card, from 30 on.
+    /// Counted in bytes from 0; 0 for what is not about a place in the rule: reasons 1 to 9, and those of a rule card, 30 to 34.
     pub place: usize,
 }
 
@@ -75,6 +75,8 @@ reasons! {
     RecordsOutOfOrder = 32, "its records are in the wrong order, or not as many as the rule's length needs";
     CardNotClean = 33, "a byte that pads the rule is not 00, or bytes stand behind the last record";
     OtherGroupNumber = 34, "the number of groups that it says is not the rule's";
+    NotFollowed = 35, "this looks ahead or holds on, which a check does not follow";
+    TooManyBranches = 36, "the 257th branch begins behind this bar; a check follows at most 256";
 }
 
 /// The first reason that is about a place in the rule; those before are about the call.

@@ -3,9 +3,10 @@
 use std::fmt;
 use std::sync::{Arc, Mutex, PoisonError};
 
-use crate::areas::{Answer, Areas, COMPLETE, EXHAUSTED, FULL, MATCHED, NOT_MATCHED};
+use crate::areas::{Answer, Areas, COMPLETE, EXHAUSTED, FULL, MATCHED, NOT_MATCHED, NO_READING, READING};
 use crate::captures::Captures;
 use crate::cards::{read_card, write_card};
+use crate::checked::Checked;
 use crate::errors::{CardError, RuleError, Unknown};
 use crate::explanation::{Attempt, Explanation, Failure, Misfit};
 use crate::flags::Flags;
@@ -26,7 +27,7 @@ const FIRST_ROWS: usize = 16;
 
 /// A Perl regular expression with its flags and its budget of steps for each start in a line.
 ///
-/// It owns the areas that the library works in: 64 KiB, and 64 bytes for each step of the budget. Threads may share a rule, and then take turns; a clone has
+/// It owns the areas that the library works in: 64 KiB, and 64 bytes for each step of the budget, or of the largest that a check was given. Threads may share a rule, and then take turns; a clone has
 /// areas of its own. Rules and lines are bytes: a `str` is those of its UTF-8, so that a sign beyond ASCII is several bytes, each for itself in a class.
 ///
 /// ```
@@ -67,7 +68,7 @@ impl Rule {
         agreement::check();
         let (rule, mut areas) = (rule.as_ref(), Areas::new(budget));
         // A call on the empty line refuses what any call would refuse, and fills the index of names.
-        let question = Question { rule, flags: flags.bits(), subject: b"", budget };
+        let question = Question { rule, flags: flags.bits(), subject: b"", budget, proposal: b"" };
         if let Some(refusal) = areas.ask(Call::Match, question, &mut [0; limits::ROW], &mut []).refusal() {
             return Err(RuleError::new(refusal, rule));
         }
@@ -193,6 +194,45 @@ impl Rule {
         Lines::new(self, buffer.as_ref())
     }
 
+    /// Whether a proposal is a reading of the line, within a budget of its own: what another program found with more steps can be checked with few.
+    ///
+    /// A proposal is the start as two bytes, the low one first, and then a byte for each choice along the path, where there is one: 0 for going on behind a
+    /// repeat or 1 for another round, or the number of a branch from 0. Whoever sent it, and whatever its bytes, what is said of it is right.
+    ///
+    /// The rule is refused, by 35 and 36, if it looks ahead or holds on, or has an alternation of more than 256 branches; and the budget, by 4, if it is over
+    /// 100,000. That of the rule itself does not count here.
+    ///
+    /// ```
+    /// use terravisco::{Checked, Flags, Rule, Unknown};
+    ///
+    /// let rule = Rule::with_budget(r"(\d+)*x|.*", Flags::NONE, 1_000)?;
+    /// let line = "12345678901234567890";
+    /// assert_eq!(rule.is_match(line), Err(Unknown::Exhausted { start: 0, steps: 1_000 }));
+    /// // From 0 on, the second branch, and twenty rounds of its repeat.
+    /// let proposal = [&[0, 0, 1][..], &[1; 20], &[0]].concat();
+    /// match rule.check(line, &proposal, 1_000)? {
+    ///     Checked::Reading { captures, steps } => assert_eq!((captures.range(), steps), (0..20, 43)),
+    ///     Checked::NoReading { .. } => println!("that is no reading"),
+    ///     Checked::Exhausted { .. } => println!("not known: its path needs more steps"),
+    ///     Checked::TooLong => println!("not known: over 65,535 bytes"),
+    /// }
+    /// # Ok::<(), Box<dyn std::error::Error>>(())
+    /// ```
+    pub fn check<'t>(&self, line: &'t (impl AsRef<[u8]> + ?Sized), proposal: &[u8], budget: u32) -> Result<Checked<'t>, RuleError> {
+        let (line, mut row) = (line.as_ref(), [0; limits::ROW]);
+        let mut areas = self.areas.lock().unwrap_or_else(PoisonError::into_inner);
+        areas.suffice(budget);
+        let answer = areas.ask(Call::Check, Question { budget, proposal, ..self.question(line) }, &mut row, &mut []);
+        let steps = answer.steps;
+        match (answer.kind, answer.refusal()) {
+            (READING, _) => Ok(Checked::Reading { captures: Captures::new(&self.source, line, &row), steps }),
+            (NO_READING, _) => Ok(Checked::NoReading { steps }),
+            (EXHAUSTED, _) => Ok(Checked::Exhausted { start: answer.detail as usize, steps }),
+            (_, Some(refusal)) if refusal.reason != Reason::LineTooLong => Err(RuleError::new(refusal, self.as_bytes())),
+            _ => Ok(Checked::TooLong),
+        }
+    }
+
     // What it is -----------------------------------------------------------------
 
     /// The rule's bytes.
@@ -226,10 +266,13 @@ impl Rule {
         &self.source
     }
 
+    fn question<'a>(&'a self, subject: &'a [u8]) -> Question<'a> {
+        Question { rule: self.as_bytes(), flags: self.flags().bits(), subject, budget: self.budget(), proposal: b"" }
+    }
+
     /// One call at a time. Areas may hold anything before a call, so that a panic of another thread does no harm.
     pub(crate) fn ask(&self, call: Call, subject: &[u8], result: &mut [u32], marks: &mut [u8]) -> Answer {
-        let question = Question { rule: self.as_bytes(), flags: self.flags().bits(), subject, budget: self.budget() };
-        let answer = self.areas.lock().unwrap_or_else(PoisonError::into_inner).ask(call, question, result, marks);
+        let answer = self.areas.lock().unwrap_or_else(PoisonError::into_inner).ask(call, self.question(subject), result, marks);
         let refusal = answer.refusal();
         assert!(refusal.is_none_or(|refusal| refusal.reason == Reason::LineTooLong), "a sound rule is refused for a line alone: {refusal:?}");
         answer

@@ -148,10 +148,10 @@ fn each_refusal_of_a_card() {
 /// Each reason has a number and a sentence of its own, and the numbers have no gap.
 #[test]
 fn reasons_and_their_numbers() {
-    let reasons: Vec<Reason> = (1..=34).map(|number| Reason::from_number(number).expect("there is no gap")).collect();
+    let reasons: Vec<Reason> = (1..=36).map(|number| Reason::from_number(number).expect("there is no gap")).collect();
     assert!((1..).zip(&reasons).all(|(number, reason)| reason.number() == number));
-    assert_eq!(reasons.iter().map(|reason| reason.sentence()).collect::<BTreeSet<_>>().len(), 34);
-    assert_eq!([Reason::from_number(0), Reason::from_number(35)], [None, None]);
+    assert_eq!(reasons.iter().map(|reason| reason.sentence()).collect::<BTreeSet<_>>().len(), 36);
+    assert_eq!([Reason::from_number(0), Reason::from_number(37)], [None, None]);
 }
 
 /// A program hands them on by `?`, also between threads.

@@ -35,7 +35,7 @@ impl<'c> Library<'c> {
     /// The case's call, on this subject. It is the same areas for all subjects: what clearing them takes hangs on where they lie, and the time on
     /// the empty line is taken off that of the walk.
     pub fn call(&mut self, subject: &[u8]) {
-        let question = Question { rule: &self.case.rule, flags: self.case.flags, subject, budget: self.case.budget };
+        let question = Question { rule: &self.case.rule, flags: self.case.flags, subject, budget: self.case.budget, proposal: b"" };
         let areas = Areas { rule: &mut self.rule_area, work: &mut self.work_area, result: &mut self.result, names: &mut self.names, marks: &mut [] };
         raw::call(self.case.call, black_box(question), areas, &mut self.answer);
         black_box(&self.answer);
@@ -57,8 +57,8 @@ impl<'c> Library<'c> {
             (_, REFUSED) => panic!("a case of the benchmark is refused: {detail} at {place}"),
             (Call::List | Call::Scan, 1) => panic!("a case of the benchmark has too few rows"),
             (_, 2) => return (Reply::GaveUp, steps),
-            (Call::Match, 0) => 1,
-            (Call::Match | Call::Explain, _) => 0,
+            (Call::Match | Call::Check, 0) => 1,
+            (Call::Match | Call::Explain | Call::Check, _) => 0,
             (Call::List | Call::Scan, _) => rows as usize,
             (Call::Batch, _) => return (Reply::Rows(self.result[..PART_LENGTH * rows as usize].to_vec()), steps),
         };

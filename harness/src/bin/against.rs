@@ -4,7 +4,7 @@
 use harness::arguments::arguments_and_switch;
 use harness::case::Case;
 use harness::random::{calls, fast};
-use harness::trial::{run, Kinds};
+use harness::trial::{run, Kinds, OF_CHECKS};
 
 fn main() -> std::process::ExitCode {
     let (arguments, is_fast) = arguments_and_switch("--fast", 100_000, 1..4);
@@ -13,7 +13,7 @@ fn main() -> std::process::ExitCode {
     } else {
         ("random calls against the independent matcher", calls::case)
     };
-    let mut kinds = Kinds::new(&[9]);
+    let mut kinds = Kinds::new(&OF_CHECKS);
     let group = run(name, &arguments, make, |_, expected| kinds.count(expected));
     group.end(&format!("seeds {:?}: {}", arguments.seeds, kinds.told()))
 }

@@ -118,7 +118,7 @@ impl Tester {
         match answer.ending {
             Ending::Matched | Ending::NotMatched | Ending::Complete => return Some(answer),
             Ending::Full | Ending::Exhausted(_) => self.left_out += 1,
-            Ending::Refused(_) | Ending::Done => self.group.fail(&format!("{}\nis sound, and the library answers: {}", call.shown(), shown(&answer))),
+            _ => self.group.fail(&format!("{}\nis sound, and the library answers: {}", call.shown(), shown(&answer))),
         }
         None
     }

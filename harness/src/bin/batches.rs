@@ -9,7 +9,7 @@ use harness::trial::{run, Kinds};
 
 fn main() -> std::process::ExitCode {
     let arguments = arguments(60_000, 1..4);
-    let mut kinds = Kinds::new(&[2, 9]);
+    let mut kinds = Kinds::new(&[2, 35, 36]);
     let mut told = Told::default();
     let group = run("random batches against the independent matcher", &arguments, batches::case, |case, expected| {
         kinds.count(expected);

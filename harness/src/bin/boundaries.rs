@@ -2,18 +2,21 @@
 //! subjects of 65,535 bytes, the greatest budget, also within a reference and within what looks ahead or holds on, such parts as deep as they nest and one
 //! deeper, every flag setting, rules of 1,000 bytes that `x` mostly skips, the
 //! longest names and the most, least lengths beyond what is held, marks of every length around a rule's, as many successive matches as there can be,
-//! lines of every length around the limit and result areas around what they need, and lookups at the edges of an index and of a row.
+//! lines of every length around the limit and result areas around what they need, proposals with as many branches as a check follows and one more, as many
+//! choices as a budget allows, and every start around a line's length, and lookups at the edges of an index and of a row.
 
 use harness::case::{shown, Case};
+use harness::independent::check::{derivations, refused_by};
+use harness::independent::tree::Rule;
 use harness::independent::{
-    Ending, ALL_FLAGS, ENTRY_LENGTH, FLAG_D, FLAG_I, FLAG_X, INDEX_LENGTH, LONGEST_NAME, MOST_GROUPS, PART_LENGTH, ROW_LENGTH, UNSET,
+    read, Ending, ALL_FLAGS, ENTRY_LENGTH, FLAG_D, FLAG_I, FLAG_X, INDEX_LENGTH, LONGEST_NAME, MOST_GROUPS, PART_LENGTH, ROW_LENGTH, UNSET,
 };
 use harness::lender::Lender;
 use harness::looker::{self, Looker};
 use harness::raw::{Call, Lookup};
 use harness::report::Group;
 
-const CALLS: [Call; 5] = [Call::Match, Call::List, Call::Explain, Call::Scan, Call::Batch];
+const CALLS: [Call; 6] = [Call::Match, Call::List, Call::Explain, Call::Scan, Call::Batch, Call::Check];
 
 fn main() -> std::process::ExitCode {
     let mut group = Group::new("boundaries");
@@ -39,16 +42,35 @@ fn main() -> std::process::ExitCode {
     line_lengths(&mut group, &mut lender);
     parts(&mut group, &mut lender);
     many_lines(&mut group, &mut lender);
+    most_branches(&mut group, &mut lender);
+    refused_checks(&mut group, &mut lender);
+    starts(&mut group, &mut lender);
+    long_paths(&mut group, &mut lender);
     lookups_by_index(&mut group);
     lookups_by_row(&mut group);
     group.end("")
 }
 
 fn judge(group: &mut Group, lender: &mut Lender, case: &Case) {
+    let case = &with_proposal(case);
     let faults = lender.compare(case, &case.expected());
     let shown =
         if case.subject.len() + case.rule.len() > 500 { format!("a case with {} bytes of subject", case.subject.len()) } else { case.shown() };
     group.judge(&shown, &faults);
+}
+
+/// A check that is given no proposal gets the one of the first derivation that there is, within its budget, or else a start and a choice of each kind.
+fn with_proposal(case: &Case) -> Case {
+    if case.call != Call::Check || !case.proposal.is_empty() {
+        return case.clone();
+    }
+    let proposed = |rule: &Rule| {
+        let starts = if case.subject.len() > 1_000 { 0..=0 } else { 0..=case.subject.len() };
+        starts.flat_map(|start| derivations(rule, &case.subject, start, u64::from(case.budget)).0).next()
+    };
+    let rule = read(&case.rule, case.flags).ok().filter(|rule| case.budget <= 100_000 && refused_by(rule).is_none());
+    let proposal = rule.as_ref().and_then(proposed).map_or(vec![0, 0, 1, 0], |derivation| derivation.proposal);
+    Case { proposal, ..case.clone() }
 }
 
 /// All 256 ways to break some of the eight limits by one: the lowest number is given, and nothing is changed. An explanation is lent no result area
@@ -64,7 +86,12 @@ fn refusals_in_order(group: &mut Group, lender: &mut Lender, call: Call) {
             Ending::Refused(refusal) => Some(refusal.number),
             _ => None,
         };
-        let steps = if expected.is_some() || call == Call::Batch { 0 } else { 65_536 };
+        let steps = match call {
+            _ if expected.is_some() => 0,
+            Call::Batch => 0,
+            Call::Check => 1,
+            _ => 65_536,
+        };
         if told != expected || run.answer.steps != steps {
             faults.push(format!("expected refusal {expected:?} and {steps} steps, the library answers {}", shown(&run.answer)));
         }
@@ -92,6 +119,8 @@ fn with_limits_broken(call: Call, breaks: impl Fn(u32) -> usize) -> Case {
         result_area: room - breaks(7),
         name_index: INDEX_LENGTH - breaks(8),
         marks: 1_000 * (1 - breaks(7)),
+        // A start at the line's end, and nothing to choose.
+        proposal: vec![0xFF; 2],
     }
 }
 
@@ -414,6 +443,86 @@ fn many_lines(group: &mut Group, lender: &mut Lender) {
                 judge(group, lender, &Case::new(Call::Batch, rule.as_bytes(), 0, &buffer, 5, parts));
             }
         }
+    }
+}
+
+/// As many branches as a check follows, one less and one more, each proposed by its number, and the number behind the last; in brackets, in each other and
+/// beside each other.
+fn most_branches(group: &mut Group, lender: &mut Lender) {
+    for branches in [2, 3, 254, 255, 256, 257, 258, 400] {
+        let bars = "|".repeat(branches - 1);
+        for number in [0, 1, 2, 127, 128, 253, 254, 255] {
+            for rule in [bars.clone(), format!("a?({bars})"), format!("(?:{bars}){{2}}"), format!("(?:{bars})(?:{bars})"), format!("a|(?:{bars})|{bars}")] {
+                for choices in [&[][..], &[number], &[number; 2], &[1, number], &[number, 0, number], &[number; 3]] {
+                    judge(group, lender, &Case::check(rule.as_bytes(), 0, b"a", 20, &[&[0, 0], choices].concat()));
+                }
+            }
+            // Each branch takes as many letters as its number says.
+            let counted: Vec<String> = (0..branches.min(30)).map(|letters| "a".repeat(letters)).collect();
+            judge(group, lender, &Case::check(counted.join("|").as_bytes(), 0, &[b'a'; 30], 100, &[0, 0, number]));
+        }
+    }
+}
+
+/// What a check alone is refused for, behind, before and inside what every call is: 1 to 8 come first, then the rule's own, then 35, then 36. Nothing is
+/// written by one that is refused, however much room there is.
+fn refused_checks(group: &mut Group, lender: &mut Lender) {
+    let (many, most) = ("|".repeat(256), "|".repeat(255));
+    let forms = ["(?=a)", "(?!a)", "(?>a)", "\\R", "a*+", "a{2}+", "(?:b(?=a))*", "((?!))?+"];
+    let others = ["", "\\1", "(", "[z-a]", "a**", "()*", "[A-z]", "(a)\\1", "\\q"];
+    for flags in [0, FLAG_D, FLAG_X, FLAG_I] {
+        for bars in [&many, &most, ""] {
+            for form in forms.iter().chain(&[""]) {
+                for other in others {
+                    for rule in [format!("{bars}{form}{other}"), format!("{other}{form}(?:{bars})"), format!("(?:{form}{bars}){other}")] {
+                        let case = Case::check(rule.as_bytes(), flags, b"a", 30, &[0, 0, 0]);
+                        judge(group, lender, &case);
+                        judge(group, lender, &Case { result_area: 3 * ROW_LENGTH, name_index: INDEX_LENGTH + 5, ..case.clone() });
+                        judge(group, lender, &Case { result_area: ROW_LENGTH - 1, name_index: INDEX_LENGTH - 1, ..case.clone() });
+                        judge(group, lender, &Case { name_index: INDEX_LENGTH - 1, ..case.clone() });
+                        judge(group, lender, &Case { work_area: 16 * 30 - 1, ..case });
+                    }
+                }
+            }
+        }
+    }
+}
+
+/// Every start around a line's length, on lines of every length around a byte's and a number's limit, with no step, one, and enough.
+fn starts(group: &mut Group, lender: &mut Lender) {
+    for length in [0, 1, 2, 254, 255, 256, 257, 511, 512, 513, 32_767, 32_768, 65_279, 65_280, 65_534, 65_535] {
+        let subject = vec![b'a'; length];
+        for start in [0, 1, 255, 256, length.saturating_sub(1), length, length + 1, length + 256, 65_535].into_iter().filter(|&start| start <= 65_535) {
+            for rule in ["", "a", r"\z", "(a)"] {
+                for budget in [0, 1, 9] {
+                    judge(group, lender, &Case::check(rule.as_bytes(), 0, &subject, budget, &(start as u16).to_le_bytes()));
+                }
+            }
+        }
+    }
+}
+
+/// Paths as long as a budget allows and longer, choices left over by the thousand, and proposals longer than any path.
+fn long_paths(group: &mut Group, lender: &mut Lender) {
+    let choices = |rounds: usize, more: &[u8]| [&[0, 0][..], &vec![1; rounds], more].concat();
+    // `a*` takes 2n + 2 steps along n rounds.
+    for rounds in [49_998, 49_999, 50_000] {
+        for more in [&[0][..], &[], &[0, 0], &[1], &[2]] {
+            judge(group, lender, &Case::check(b"a*", 0, &[b'a'; 50_000], 100_000, &choices(rounds, more)));
+        }
+    }
+    for length in [65_535, 65_536, 100_000, 300_000] {
+        for rule in ["", "a*", "(?:a|b)*", "(?:)*", "a{3}"] {
+            judge(group, lender, &Case::check(rule.as_bytes(), 0, &[b'a'; 65_535], 100_000, &choices(length, &[])));
+            judge(group, lender, &Case::check(rule.as_bytes(), 0, b"aaa", 10, &choices(length, &[])));
+        }
+    }
+    // A reference of 26,662 bytes along the path, up to each of its edges.
+    let run = |length| vec![b'a'; length];
+    let subject = [run(10_001), run(26_662), run(26_662)].join(&b',');
+    let proposal = [&[0, 0][..], &vec![1; 10_001], &[0], &vec![1; 26_662], &[0]].concat();
+    for budget in [73_335, 73_336, 73_337, 90_000, 99_997, 99_998, 99_999, 100_000] {
+        judge(group, lender, &Case::check(br"^a*,(a*),\1$", 0, &subject, budget, &proposal));
     }
 }
 

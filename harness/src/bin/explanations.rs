@@ -9,7 +9,7 @@ use harness::trial::{run, Kinds};
 
 fn main() -> std::process::ExitCode {
     let arguments = arguments(100_000, 1..4);
-    let mut kinds = Kinds::new(&[7, 9]);
+    let mut kinds = Kinds::new(&[7, 35, 36]);
     let mut told = Told::default();
     let group = run("random explanations against the independent matcher", &arguments, explanations::case, |case, expected| {
         kinds.count(expected);

@@ -1,5 +1,5 @@
 //! Runs the examples of `data/`: Perl's documents, documents 01 and 02 with their open points, the guide, explanations, successive matches, a
-//! day's lines, lookups and rule cards. Both the library and the independent matcher have to give what was written down by hand. `--independent` leaves
+//! day's lines, proposals that are checked, lookups and rule cards. Both the library and the independent matcher have to give what was written down by hand. `--independent` leaves
 //! the library out.
 
 use std::path::Path;
@@ -25,6 +25,7 @@ fn main() -> std::process::ExitCode {
         ("explanations", "explanations.txt"),
         ("successive matches", "scans.txt"),
         ("a day's lines", "batches.txt"),
+        ("proposed readings", "checks.txt"),
     ];
     let (_, is_independent) = arguments_and_switch("--independent", 0, 0..0);
     let has_library = !is_independent;

@@ -4,11 +4,11 @@
 use harness::arguments::arguments;
 use harness::independent::{Answer, Ending};
 use harness::random::scans;
-use harness::trial::{run, Kinds};
+use harness::trial::{run, Kinds, OF_CHECKS};
 
 fn main() -> std::process::ExitCode {
     let arguments = arguments(100_000, 1..4);
-    let mut kinds = Kinds::new(&[9]);
+    let mut kinds = Kinds::new(&OF_CHECKS);
     let mut told = Told::default();
     let group = run("random scans against the independent matcher", &arguments, scans::case, |_, expected| {
         kinds.count(expected);

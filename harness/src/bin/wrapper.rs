@@ -4,11 +4,11 @@
 use harness::cards::{shown as shown_card, Asked, CardCase, Told};
 use harness::case::{shown, Case};
 use harness::independent::{self, Answer};
-use harness::random::{calls, cards as random_cards};
+use harness::random::{calls, cards as random_cards, checks};
 use harness::raw::Call;
 use harness::report::Group;
 use terravisco::{
-    read_card, write_card, Attempt, Card, Explanation, Failure, Flags, Listing, Matches, Misfit, Outcome, Readings, Refusal, Rule, Unknown,
+    read_card, write_card, Attempt, Card, Checked, Explanation, Failure, Flags, Listing, Matches, Misfit, Outcome, Readings, Refusal, Rule, Unknown,
 };
 
 const BUDGET: u32 = 1_000;
@@ -41,10 +41,25 @@ fn random_calls(seed: u64) -> Vec<(String, Vec<String>)> {
             // The words have no names: fields are looked up on the examples.
             let expected = shown(&Answer { names: None, ..case.expected() });
             let ours = rule.as_ref().map_or_else(|error| refused(error.refusal()), |rule| told(rule, &case));
-            judged.push((case.shown(), if ours == expected { Vec::new() } else { vec![format!("rule: {ours}\nexpected: {expected}")] }));
+            judged.push(judged_by(&case, &ours, &expected));
         }
     }
+    (0..2_000).filter_map(|number| check(seed, number)).for_each(|each| judged.push(each));
     judged
+}
+
+fn judged_by(case: &Case, ours: &str, expected: &str) -> (String, Vec<String>) {
+    (case.shown(), if ours == expected { Vec::new() } else { vec![format!("rule: {ours}\nexpected: {expected}")] })
+}
+
+/// A random check, with a budget of its own: that of the rule is another. None where a rule is refused before there is a line.
+fn check(seed: u64, number: u64) -> Option<(String, Vec<String>)> {
+    let random = checks::case(seed, number);
+    let flags = random.flags & independent::ALL_FLAGS;
+    let rule = Rule::with_budget(&random.rule, Flags::from_bits(flags), BUDGET / 2).ok()?;
+    let case = Case::check(&random.rule, flags, &random.subject, random.budget, &random.proposal);
+    let expected = shown(&Answer { names: None, ..case.expected() });
+    Some(judged_by(&case, &told(&rule, &case), &expected))
 }
 
 /// How many rows or lines there is room for: a rule has it for every line of a buffer, and for all successive matches.
@@ -91,6 +106,16 @@ fn told(rule: &Rule, case: &Case) -> String {
         Call::Scan => told_matches(rule.captures_iter(&case.subject)),
         Call::Batch => told_lines(rule.match_lines(&case.subject).map(|(_, outcome)| outcome)),
         Call::Explain => told_explanation(rule.explain(&case.subject), case.rule.len()),
+        Call::Check => rule.check(&case.subject, &case.proposal, case.budget).map_or_else(|error| refused(error.refusal()), told_check),
+    }
+}
+
+fn told_check(checked: Checked) -> String {
+    match checked {
+        Checked::Reading { captures, steps } => format!("a reading, {steps} steps [{captures:?}]"),
+        Checked::NoReading { steps } => format!("no reading, {steps} steps []"),
+        Checked::Exhausted { start, steps } => format!("exhausted at {start}, {steps} steps []"),
+        Checked::TooLong => TOO_LONG.to_string(),
     }
 }
 

@@ -1,11 +1,12 @@
-//! The calls: refusals 1 to 8, the starts one after another, rows, what failed, the name index, and how a call ends. Successive matches and a day's
-//! lines have files of their own.
+//! The calls: refusals 1 to 8, the starts one after another, rows, what failed, the name index, and how a call ends. Successive matches, a day's
+//! lines and the check of a proposal have files of their own.
 
 use std::collections::HashSet;
 
 use crate::raw::Call;
 
 use super::batch::{self, Part, PART_LENGTH};
+use super::check;
 use super::explain::{Explanation, Log};
 use super::names::{self, Index, INDEX_LENGTH};
 use super::reader::{self, Refusal, ALL_FLAGS, MOST_GROUPS};
@@ -38,6 +39,8 @@ pub struct Inputs<'a> {
     pub name_index: usize,
     /// The marks' length in bytes; lent to an explanation alone.
     pub marks: usize,
+    /// Given to a check alone.
+    pub proposal: &'a [u8],
 }
 
 #[derive(Clone, Copy, PartialEq, Eq, Debug)]
@@ -48,6 +51,9 @@ pub enum Ending {
     Full,
     /// A day's lines, each with its own outcome.
     Done,
+    /// What is proposed is a reading.
+    Reading,
+    NoReading,
     /// Exhausted at this start.
     Exhausted(usize),
     Refused(Refusal),
@@ -69,7 +75,7 @@ pub struct Answer {
 
 impl Answer {
     /// An answer with nothing beside its ending.
-    fn bare(ending: Ending) -> Answer {
+    pub fn bare(ending: Ending) -> Answer {
         Answer { ending, steps: 0, rows: Vec::new(), names: None, explanation: None, parts: Vec::new() }
     }
 
@@ -85,13 +91,22 @@ pub fn answer(call: Call, inputs: &Inputs) -> Answer {
     if let Some(number) = unacceptable(call, inputs) {
         return Answer::bare(Ending::Refused(Refusal { number, place: 0 }));
     }
-    match reader::read(inputs.rule, inputs.flags) {
+    match accepted(call, inputs) {
         Err(refusal) => Answer::bare(Ending::Refused(refusal)),
         Ok(rule) => Answer { names: Some(Box::new(names::index(&rule))), ..walked_answer(call, &rule, inputs) },
     }
 }
 
-/// The same for a sound rule, its names left out.
+/// The rule, or why it is refused. 02 m): "After the rule's own refusals, 35 is given .., then 36".
+fn accepted(call: Call, inputs: &Inputs) -> Result<Rule, Refusal> {
+    let rule = reader::read(inputs.rule, inputs.flags)?;
+    match check::refused_by(&rule) {
+        Some(refusal) if call == Call::Check => Err(refusal),
+        _ => Ok(rule),
+    }
+}
+
+/// The same for a rule that is accepted, its names left out.
 fn walked_answer(call: Call, rule: &Rule, inputs: &Inputs) -> Answer {
     let mut log = Log::default();
     let walks = Walks { rule, subject: inputs.subject, budget: u64::from(inputs.budget) };
@@ -100,6 +115,7 @@ fn walked_answer(call: Call, rule: &Rule, inputs: &Inputs) -> Answer {
         Call::List => all_readings(walks, inputs.result_area / ROW_LENGTH),
         Call::Scan => scan::all_matches(walks, inputs.result_area / ROW_LENGTH),
         Call::Batch => return Answer { parts: batch::parts(walks), ..Answer::bare(Ending::Done) },
+        Call::Check => return check::checked(rule, inputs.subject, u64::from(inputs.budget), inputs.proposal),
     };
     let mut explanation = None;
     if call == Call::Explain {
@@ -145,7 +161,7 @@ fn walked<'r>(call: Call, rule: &'r Rule, subject: &'r [u8], start: usize, budge
 /// gets refusal 2 in its own outcome", "7 is given here only if lines outnumber parts".
 fn unacceptable(call: Call, inputs: &Inputs) -> Option<u32> {
     let is_short = match call {
-        Call::Match | Call::List | Call::Scan => inputs.result_area < ROW_LENGTH,
+        Call::Match | Call::List | Call::Scan | Call::Check => inputs.result_area < ROW_LENGTH,
         Call::Explain => false,
         Call::Batch => batch::lines(inputs.subject).len() > inputs.result_area / PART_LENGTH,
     };

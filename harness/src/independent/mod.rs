@@ -4,6 +4,7 @@
 mod batch;
 mod calls;
 pub mod cards;
+pub mod check;
 mod classes;
 mod escapes;
 mod explain;

@@ -173,11 +173,12 @@ impl<'r> Reader<'r> {
 
     /// Reads branches up to a `)` or the rule's end; `depth` groups are open around them.
     fn alternation(&mut self, depth: usize) -> Result<Alternation, Refusal> {
-        let mut branches = vec![self.branch(depth)?];
+        let (mut branches, mut bars) = (vec![self.branch(depth)?], Vec::new());
         while self.skip(b'|') {
+            bars.push(self.at - 1);
             branches.push(self.branch(depth)?);
         }
-        Ok(Alternation { branches })
+        Ok(Alternation { branches, bars })
     }
 
     fn branch(&mut self, depth: usize) -> Result<Vec<Part>, Refusal> {
@@ -342,7 +343,7 @@ impl<'r> Reader<'r> {
 }
 
 fn held(at: usize, branches: Vec<Vec<Part>>) -> Part {
-    Part::Inner(Inner { at, form: Form::Held, inside: Alternation { branches } })
+    Part::Inner(Inner { at, form: Form::Held, inside: Alternation { branches, bars: Vec::new() } })
 }
 
 /// 02 l): "`\R` as `(?>\x0D\x0A|[\x0A-\x0D\x85])`", and for f) its items are "at its place".

@@ -15,6 +15,8 @@ pub struct Rule {
 /// Branches in the rule's order; there is always one, which may be empty.
 pub struct Alternation {
     pub branches: Vec<Vec<Part>>,
+    /// Where the bars between them stand in the rule; none inside a `\R`, where they are not written.
+    pub bars: Vec<usize>,
 }
 
 pub enum Part {

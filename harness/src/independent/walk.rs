@@ -33,6 +33,14 @@ pub struct Miss {
     pub item: usize,
 }
 
+/// The choices that lead from the start to where a walk stands, and the steps along them: without those of tries that were given up. Choices are written as
+/// 02 m) has them, so that those at an end are what is proposed for it. Of a rule that looks ahead or holds on they mean nothing.
+#[derive(Default)]
+pub struct Trail {
+    pub choices: Vec<u8>,
+    pub steps: u64,
+}
+
 pub struct Walk<'r> {
     subject: &'r [u8],
     /// References compare letters without their case.
@@ -43,6 +51,8 @@ pub struct Walk<'r> {
     pub stretches: Vec<(u64, u64)>,
     /// The items that failed so far, in the order in which they were tried.
     pub misses: Vec<Miss>,
+    /// How the walk got to where it stands.
+    pub trail: Trail,
     /// Tries put off, the next one last; inside what looks ahead or holds on, those of its inside alone.
     pending: Vec<State<'r>>,
 }
@@ -52,6 +62,17 @@ struct State<'r> {
     at: usize,
     spans: Rc<Spans>,
     todo: Todo<'r>,
+    /// Of a try that is put off, what its trail is when it is begun.
+    begin: Begin,
+}
+
+#[derive(Clone, Copy, Default)]
+struct Begin {
+    /// How many choices the trail had.
+    choices: usize,
+    /// The choice that leads here, unless it is a branch, which writes its own.
+    choice: Option<u8>,
+    steps: u64,
 }
 
 type Todo<'r> = Option<Rc<Tasks<'r>>>;
@@ -88,8 +109,9 @@ fn push<'r>(first: Task<'r>, rest: &Todo<'r>) -> Todo<'r> {
 impl<'r> Walk<'r> {
     pub fn new(rule: &'r Rule, subject: &'r [u8], start: usize, budget: u64) -> Walk<'r> {
         let todo = push(Task::Branch(&rule.whole, 0), &None);
-        let begin = State { at: start, spans: Rc::new(vec![None; rule.groups + 1]), todo };
-        Walk { subject, folds: rule.folds, budget, steps: 0, stretches: Vec::new(), misses: Vec::new(), pending: vec![begin] }
+        let begin = State { at: start, spans: Rc::new(vec![None; rule.groups + 1]), todo, begin: Begin::default() };
+        let (stretches, misses, trail) = (Vec::new(), Vec::new(), Trail::default());
+        Walk { subject, folds: rule.folds, budget, steps: 0, stretches, misses, trail, pending: vec![begin] }
     }
 
     /// Goes on until the rule's end is reached, the budget is used or nothing is left.
@@ -105,6 +127,7 @@ impl<'r> Walk<'r> {
     /// step: "the rule's end reached", and of what looks ahead or holds on "its inner end 1".
     fn next_end(&mut self) -> Result<Option<End>, NoStepLeft> {
         while let Some(mut state) = self.pending.pop() {
+            self.trail.resume(state.begin);
             loop {
                 let Some(tasks) = state.todo.clone() else {
                     self.step()?;
@@ -125,6 +148,7 @@ impl<'r> Walk<'r> {
             return Err(NoStepLeft);
         }
         self.steps += 1;
+        self.trail.steps += 1;
         Ok(())
     }
 
@@ -149,12 +173,13 @@ impl<'r> Walk<'r> {
 
     /// "a branch begun (two or more branches)": the later ones are tried on falling back, and each costs its step then.
     fn begin_branch(&mut self, alternation: &'r Alternation, index: usize, mut state: State<'r>) -> Result<Tried<'r>, NoStepLeft> {
-        if alternation.branches.len() > 1 {
-            self.step()?;
-        }
         if index + 1 < alternation.branches.len() {
             let todo = push(Task::Branch(alternation, index + 1), &state.todo);
-            self.pending.push(State { at: state.at, spans: state.spans.clone(), todo });
+            self.pending.push(State { at: state.at, spans: state.spans.clone(), todo, begin: self.trail.put_off(None) });
+        }
+        if alternation.branches.len() > 1 {
+            self.trail.choices.push(index as u8);
+            self.step()?;
         }
         state.todo = push(Task::Parts(&alternation.branches[index]), &state.todo);
         Ok(Tried::On(state))
@@ -214,7 +239,7 @@ impl<'r> Walk<'r> {
 
     /// The first end of a walk through these branches alone.
     fn first_end(&mut self, inside: &'r Alternation, state: &State<'r>) -> Result<Option<End>, NoStepLeft> {
-        let begin = State { at: state.at, spans: state.spans.clone(), todo: push(Task::Branch(inside, 0), &None) };
+        let begin = State { todo: push(Task::Branch(inside, 0), &None), begin: self.trail.put_off(None), ..state.clone() };
         let outside = std::mem::replace(&mut self.pending, vec![begin]);
         let end = self.next_end()?;
         self.pending = outside;
@@ -265,7 +290,7 @@ impl<'r> Walk<'r> {
     fn decide(&mut self, repeat: &'r Repeat, rounds: u64, last_from: Option<usize>, state: State<'r>) -> Result<Tried<'r>, NoStepLeft> {
         self.step()?;
         let again = push(Task::Decide { repeat, rounds: rounds + 1, last_from: Some(state.at) }, &state.todo);
-        let round = State { at: state.at, spans: state.spans.clone(), todo: push(Task::Parts(std::slice::from_ref(&repeat.body)), &again) };
+        let round = State { todo: push(Task::Parts(std::slice::from_ref(&repeat.body)), &again), ..state.clone() };
         if rounds < repeat.least {
             return Ok(Tried::On(round));
         }
@@ -273,13 +298,27 @@ impl<'r> Walk<'r> {
             return Ok(Tried::On(state));
         }
         let (first, second) = if repeat.greedy { (round, state) } else { (state, round) };
-        self.pending.push(second);
+        self.pending.push(State { begin: self.trail.put_off(Some(u8::from(!repeat.greedy))), ..second });
+        self.trail.choices.push(u8::from(repeat.greedy));
         Ok(Tried::On(first))
     }
 }
 
+impl Trail {
+    /// What is kept with a try that is put off here, to be begun with this choice.
+    fn put_off(&self, choice: Option<u8>) -> Begin {
+        Begin { choices: self.choices.len(), choice, steps: self.steps }
+    }
+
+    fn resume(&mut self, begin: Begin) {
+        self.choices.truncate(begin.choices);
+        self.choices.extend(begin.choice);
+        self.steps = begin.steps;
+    }
+}
+
 /// Document 01, "Places".
-fn holds(place: Place, subject: &[u8], at: usize) -> bool {
+pub fn holds(place: Place, subject: &[u8], at: usize) -> bool {
     let end = subject.len();
     let last_newline = at + 1 == end && subject[at] == 0x0A;
     let word = |index: Option<usize>| index.and_then(|index| subject.get(index)).is_some_and(|&byte| sets::is_word(byte));

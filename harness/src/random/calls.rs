@@ -37,7 +37,7 @@ pub fn case(seed: u64, number: u64) -> Case {
     let (rule_area, work_area, result_area) = areas(rng, budget);
     let name_index = if rng.percent(2) { *rng.pick(&[0, 1, 16, 17, 544, INDEX_LENGTH - 1]) } else { length(rng, INDEX_LENGTH) };
     let marks = rule.len();
-    Case { call, rule, flags, subject, budget, rule_area, work_area, result_area, name_index, marks }
+    Case { call, rule, flags, subject, budget, rule_area, work_area, result_area, name_index, marks, proposal: Vec::new() }
 }
 
 /// The steps up to a reference that the call tries, or to one of the bytes that it compares, or up to a part that looks ahead or holds on, or into it; none

@@ -3,6 +3,7 @@
 pub mod batches;
 pub mod calls;
 pub mod cards;
+pub mod checks;
 pub mod damage;
 pub mod explanations;
 pub mod fast;
