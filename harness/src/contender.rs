@@ -1,9 +1,9 @@
-//! Whose answers are compared with those of Perl or PCRE2: the library's, or those of the independent matcher in its place.
+//! Whose answers are tried: the library's, or those of the independent matcher in its place, where it is held to something else than itself.
 
 use crate::case::Case;
 use crate::independent::lookup;
 use crate::independent::Answer;
-use crate::lender::Lender;
+use crate::lender::{Lender, Run};
 use crate::raw::{self, Lookup};
 
 pub enum Contender {
@@ -21,9 +21,14 @@ impl Contender {
     }
 
     pub fn answer(&mut self, case: &Case) -> Answer {
+        self.run(case).answer
+    }
+
+    /// The answer, and what is wrong with what the library left behind.
+    pub fn run(&mut self, case: &Case) -> Run {
         match self {
-            Contender::Library(lender) => lender.run(case).answer,
-            Contender::Independent => case.expected(),
+            Contender::Library(lender) => lender.run(case),
+            Contender::Independent => Run { answer: case.expected(), faults: Vec::new() },
         }
     }
 

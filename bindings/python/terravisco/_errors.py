@@ -9,7 +9,7 @@ from ._picture import marked
 if TYPE_CHECKING:
     from ._rule import Match
 
-# The sentences are those of the programs. Those of 30 on are about a card.
+# The sentences are those of the programs. Those of 30 to 34 are about a card.
 SENTENCES = {
     1: f"the rule has more than {_limits.LONGEST_RULE} bytes",
     2: f"the line has more than {_limits.LONGEST_LINE} bytes",
@@ -45,6 +45,8 @@ SENTENCES = {
     32: "its records are in the wrong order, or not as many as the rule's length needs",
     33: "a byte that pads the rule is not 00, or bytes stand behind the last record",
     34: "the number of groups that it says is not the rule's",
+    35: "this looks ahead or holds on, which a check does not follow",
+    36: "the 257th branch begins behind this bar; a check follows at most 256",
 }
 FIRST_IN_RULE = 10
 

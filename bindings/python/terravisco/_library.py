@@ -15,6 +15,7 @@ SONAME = "libterravisco.so.0"
 
 MATCHED, NOT_MATCHED, EXHAUSTED, REFUSED = range(4)
 COMPLETE, FULL = MATCHED, NOT_MATCHED
+NO_READING = NOT_MATCHED
 
 Row = c_uint32 * _limits.ROW
 
@@ -34,7 +35,8 @@ _TEXT = [c_char_p, c_size_t]
 _NUMBERS = [POINTER(c_uint32), c_size_t]
 _BYTES = [POINTER(c_uint8), c_size_t]
 _ANSWER = [POINTER(c_uint32)]
-_QUESTION = [*_TEXT, c_uint32, *_TEXT, c_uint32, *_NUMBERS, *_NUMBERS]
+_ASKED = [*_TEXT, c_uint32, *_TEXT, c_uint32]
+_QUESTION = [*_ASKED, *_NUMBERS, *_NUMBERS]
 _WITH_ROWS = [*_QUESTION, *_NUMBERS, *_BYTES, *_ANSWER]
 
 _CALLS = {
@@ -42,6 +44,7 @@ _CALLS = {
     "terravisco_list": _WITH_ROWS,
     "terravisco_match_all": _WITH_ROWS,
     "terravisco_match_lines": _WITH_ROWS,
+    "terravisco_check": [*_ASKED, *_TEXT, *_NUMBERS, *_NUMBERS, *_NUMBERS, *_BYTES, *_ANSWER],
     "terravisco_explain": [*_QUESTION, *_BYTES, *_BYTES, *_ANSWER],
     "terravisco_field": [*_TEXT, *_TEXT, *_TEXT, c_uint32, *_NUMBERS, *_TEXT, POINTER(c_uint64)],
     "terravisco_card_write": [*_TEXT, c_uint32, c_uint32, *_NUMBERS, *_BYTES, *_ANSWER],

@@ -11,7 +11,7 @@ from typing import Any, AnyStr, Generic, Iterator, Mapping, NamedTuple, Optional
 from . import _limits
 from ._errors import Exhausted, Full, LineError, Refused, RuleError
 from ._flags import Flag, Flags, flags_of
-from ._library import COMPLETE, EXHAUSTED, FULL, MATCHED, NOT_MATCHED, REFUSED, Row, lent, library, numbers, octets, text
+from ._library import COMPLETE, EXHAUSTED, FULL, MATCHED, NO_READING, NOT_MATCHED, REFUSED, Row, lent, library, numbers, octets, text
 from ._picture import marked
 
 # A call clears 64 bytes for each step of its budget: at the most that a budget can be, that takes longer than most matches. And what a budget does not
@@ -68,10 +68,15 @@ class Areas:
 
     def __init__(self, budget: int) -> None:
         self.rule = numbers(_limits.RULE_AREA)
-        self.work = numbers(_limits.WORK_PER_STEP * min(budget, _limits.MOST_BUDGET))
+        self.work = self.for_steps(budget)
         self.names = octets(_limits.NAME_INDEX)
         # The library runs without the interpreter's lock, and two calls in the same areas would write over each other's compiled rule.
         self.lock = threading.Lock()
+
+    @staticmethod
+    def for_steps(budget: int) -> Any:
+        """A work area for so many steps."""
+        return numbers(_limits.WORK_PER_STEP * min(budget, _limits.MOST_BUDGET))
 
 
 class Match(Generic[AnyStr]):
@@ -262,6 +267,21 @@ class Rule(Generic[AnyStr]):
         wanted = tuple(place for place, mark in enumerate(marks) if mark)
         return Explanation(self, line, steps, Attempt(*answer[8:11]), wanted, Failure(*answer[6:8]))
 
+    def check(self, line: AnyStr, proposal: bytes, budget: Optional[int] = None) -> Optional[Match[AnyStr]]:
+        """The reading that a proposal makes of the line, whoever sent it; `None` if it makes none, which says nothing of the line. `Exhausted` is raised if
+        its path needs more steps than the budget: the rule's, unless one is given. It is a reading, and need not be the match.
+
+        A proposal is the start as two bytes, the low one first, and a byte for each choice along the path: 0 for going on behind a repeat or 1 for another
+        round, or the number of a branch from 0. A rule that looks ahead or holds on, or has over 256 branches side by side, is a `RuleError`."""
+        line, data = self._line(line)
+        row = Row()
+        answer = self._ask(library.terravisco_check, data, row, self._areas.names, proposal=memoryview(proposal).tobytes(), budget=budget)
+        if answer[0] == EXHAUSTED:
+            raise Exhausted(answer[1], steps_of(answer[3], answer[4]))
+        if answer[0] == NO_READING:
+            return None
+        return Match(self, line, bytes(row), steps_of(answer[3], answer[4]))
+
     def fields(self, line: AnyStr, standing: Optional[AnyStr] = None) -> Optional[dict[str, AnyStr]]:
         """The field of each name: what its group took of the line, or the standing text if it is not set. `None` if the line is not matched."""
         match = self.search(line)
@@ -280,12 +300,17 @@ class Rule(Generic[AnyStr]):
         data = bytes_of(line, self.pattern, "the line")
         return (line if isinstance(line, str) else data), data
 
-    def _ask(self, call: Any, subject: bytes, first: Any, second: Any, length: int = _limits.ANSWER) -> Any:
-        """The answer of a call, of so many numbers. It is lent two more areas behind those that every call works in."""
+    def _ask(
+        self, call: Any, subject: bytes, first: Any, second: Any, length: int = _limits.ANSWER, proposal: Optional[bytes] = None, budget: Optional[int] = None
+    ) -> Any:
+        """The answer of a call, of so many numbers. It is lent two more areas behind those that every call works in. A check is given a proposal, and may have
+        a budget of its own."""
         areas, answer = self._areas, numbers(length)
-        question = [*text(self._bytes), self.flags, *text(subject), self.budget]
+        steps = self.budget if budget is None else number_of(budget, "a budget")
+        work = areas.work if steps <= self.budget else Areas.for_steps(steps)
+        question = [*text(self._bytes), self.flags, *text(subject), steps, *(text(proposal) if proposal is not None else ())]
         with areas.lock:
-            call(*question, *lent(areas.rule), *lent(areas.work), *lent(first), *lent(second), answer)
+            call(*question, *lent(areas.rule), *lent(work), *lent(first), *lent(second), answer)
         if answer[0] == REFUSED:
             raise self._refusal(answer[1], answer[2])
         return answer

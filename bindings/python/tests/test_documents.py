@@ -10,7 +10,7 @@ from pathlib import Path
 import terravisco
 
 DATA = Path(__file__).resolve().parents[3] / "harness" / "data"
-FILES = ("source-examples.txt", "checked-readings.txt", "guide-examples.txt", "explanations.txt", "scans.txt", "batches.txt")
+FILES = ("source-examples.txt", "checked-readings.txt", "guide-examples.txt", "explanations.txt", "scans.txt", "batches.txt", "checks.txt")
 OTHER_AREAS = {"numbers", "index", "parts", "marks"}
 # a word that stands for what a line is told
 WORDS = {"matched": "matched", "not matched": "not matched", "exhausted": "exhausted", "too long": "refused 2"}
@@ -39,6 +39,9 @@ class Example:
         self.subject = unescaped(self.fields.get("subject", ""))
         if "long" in self.fields:
             self.subject = self.subject.replace(b"~", b"a" * int(self.fields["long"]))
+        if "bars" in self.fields:
+            self.rule = self.rule.replace(b"~", b"|" * int(self.fields["bars"]))
+        self.proposal = bytes.fromhex(self.fields.get("proposal", ""))
         flags = self.fields.get("flags", "")
         self.flags = int(flags) if flags.isdigit() else flags
         self.budget = int(self.fields.get("budget", 10_000))
@@ -106,7 +109,11 @@ class Documents(unittest.TestCase):
 
     def hold_refusal(self, example, text):
         with self.assertRaises(terravisco.Refused) as raised:
-            terravisco.compile(text(example.rule), example.flags, example.budget).search(text(example.subject))
+            rule = terravisco.compile(text(example.rule), example.flags, example.budget)
+            if example.call == "check":
+                rule.check(text(example.subject), example.proposal)
+            else:
+                rule.search(text(example.subject))
         self.assertEqual("refused %d at %d" % (raised.exception.number, raised.exception.place), example.expected[-1])
 
     def steps(self, example, steps):
@@ -121,6 +128,15 @@ class Documents(unittest.TestCase):
             return self.steps(example, error.steps)
         self.assertEqual(["none" if match is None else row(match)], example.expected)
         self.steps(example, match and match.steps)
+
+    def hold_check(self, example, rule, line):
+        try:
+            reading = rule.check(line, example.proposal)
+        except terravisco.Exhausted as error:
+            self.assertEqual([f"exhausted {error.start}"], example.expected)
+            return self.steps(example, error.steps)
+        self.assertEqual(["none" if reading is None else row(reading)], example.expected)
+        self.steps(example, reading and reading.steps)
 
     def hold_list(self, example, rule, line):
         told, steps = rows_and_ending([], lambda: rule.readings(line, most=int(example.fields.get("rows", 10))))

@@ -60,5 +60,5 @@ class Header(unittest.TestCase):
     def test_each_sentence_is_of_a_refusal_of_the_guide(self):
         guide = (ROOT / "docs" / "GUIDE.md").read_text().split("## When a rule is refused")[1].split("\n## ")[0]
         numbers = {int(number) for number in re.findall(r"^\| (\d+) \|", guide, re.M)}
-        self.assertEqual(list(_errors.SENTENCES), list(range(1, 35)))
+        self.assertEqual(list(_errors.SENTENCES), list(range(1, 37)))
         self.assertLessEqual(set(_errors.SENTENCES), numbers)

@@ -1,6 +1,8 @@
 //! What each call answers, on the examples that it was made for and at its edges.
 
-use terravisco::{limits, read_card, write_card, Attempt, Captures, Card, Explanation, Failure, Flags, Listing, Outcome, Rule, Unknown};
+use terravisco::{
+    limits, read_card, write_card, Attempt, Captures, Card, Checked, Explanation, Failure, Flags, Listing, Outcome, Rule, Unknown,
+};
 
 const TANK: &str = r"^tank (?<tank>\w+):(?: (?<litres>\d+) L)?$";
 
@@ -249,6 +251,55 @@ fn many_lines() {
 }
 
 /// Threads share a rule and take turns, or have a clone each.
+#[test]
+fn the_four_answers_to_a_proposal() {
+    let rule = rule("(a|ab)*");
+    // Two rounds, `a` and `ab`.
+    let proposal = [0, 0, 1, 0, 1, 1, 0];
+    let Checked::Reading { captures, steps } = rule.check("aab", &proposal, 100).unwrap() else { panic!("it is a reading") };
+    assert_eq!((format!("{captures:?}"), steps), ("0-3 1:1-3".to_string(), 13));
+    // It is a reading, and not the match.
+    assert_eq!(format!("{:?}", rule.captures("aab").unwrap().unwrap()), "0-2 1:1-2");
+    assert!(matches!(rule.check("aab", &proposal[..6], 100), Ok(Checked::NoReading { steps: 12 })));
+    assert!(matches!(rule.check("aab", &[0], 100), Ok(Checked::NoReading { steps: 0 })));
+    assert!(matches!(rule.check("xaab", &[&[1], &proposal[1..]].concat(), 12), Ok(Checked::Exhausted { start: 1, steps: 12 })));
+    assert!(matches!(rule.check(&[b'a'; 65_536], &proposal, 100), Ok(Checked::TooLong)));
+}
+
+#[test]
+fn checks_as_results() {
+    let rule = rule("a*");
+    assert_eq!(rule.check("aa", &[0, 0, 1, 0], 9).unwrap().known().unwrap().map(|reading| reading.range()), Some(0..1));
+    assert!(rule.check("aa", &[0, 0, 2], 9).unwrap().known().unwrap().is_none());
+    assert_eq!(rule.check("aa", &[0, 0, 1, 0], 3).unwrap().known().unwrap_err(), Unknown::Exhausted { start: 0, steps: 3 });
+    assert_eq!(rule.check(&[b'a'; 65_536], &[], 3).unwrap().known().unwrap_err(), Unknown::TooLong);
+}
+
+/// A check may have a smaller budget than its rule, or a larger one, and the rule's own stays.
+#[test]
+fn a_check_has_a_budget_of_its_own() {
+    for own in [0, 5, 6, 100_000] {
+        let rule = with_budget("a*", own);
+        for budget in [6, 7, 1_000, 100_000] {
+            assert!(matches!(rule.check("aa", &[0, 0, 1, 1, 0], budget), Ok(Checked::Reading { steps: 6, .. })));
+        }
+        assert!(matches!(rule.check("aa", &[0, 0, 1, 1, 0], 5), Ok(Checked::Exhausted { start: 0, steps: 5 })));
+        assert_eq!((rule.budget(), rule.is_match("").is_ok()), (own, own > 0));
+    }
+    let error = rule("a*").check("aa", &[0, 0, 0], 100_001).unwrap_err();
+    assert_eq!(error.to_string(), "the rule is refused, 4 at 0: the budget is over 100000, or over 65535 for a card");
+}
+
+/// Every choice that there can be at an alternation of as many branches as a check follows.
+#[test]
+fn the_most_branches() {
+    let rule = rule(&(0..256).map(|number| "a".repeat(number % 3)).collect::<Vec<_>>().join("|"));
+    for number in 0..=255 {
+        let reading = rule.check("aa", &[0, 0, number], 9).unwrap().known().unwrap().expect("each is a reading");
+        assert_eq!(reading.range(), 0..usize::from(number) % 3);
+    }
+}
+
 #[test]
 fn threads() {
     let rule = rule(r"^(\d+)$");

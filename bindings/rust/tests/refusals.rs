@@ -1,4 +1,4 @@
-//! Every refusal that a rule, a line or a card can have, with the picture that its error shows.
+//! Every refusal that a rule, a line, a check or a card can have, with the picture that its error shows.
 
 use std::collections::BTreeSet;
 use std::error::Error;
@@ -109,6 +109,30 @@ fn refusals_of_the_call() {
         assert_eq!(numbered(&Rule::with_budget("(", flags, u32::MAX).unwrap_err()), (number, 0));
     }
     assert!(Rule::with_budget("a", Flags::NONE, 100_000).is_ok());
+}
+
+/// What a check does not follow: the rule itself is sound, and can be matched.
+#[test]
+fn rules_that_are_not_checked() {
+    let (many, most) = ("|".repeat(256), "|".repeat(255));
+    for (rule, number, place) in [
+        ("ab(?=c)", 35, 2),
+        ("(?!a)", 35, 0),
+        ("b(?>a)", 35, 1),
+        (r"a\R", 35, 1),
+        ("ab*+", 35, 3),
+        (&many, 36, 255),
+        (&format!("{many}a++"), 35, 258),
+        (&format!("(?:{many})"), 36, 258),
+    ] {
+        let made = Rule::new(rule, Flags::NONE).unwrap();
+        let error = made.check("ab", &[0, 0], 99).unwrap_err();
+        assert_eq!((numbered(&error), error.rule()), ((number, place), rule.as_bytes()));
+        assert!(made.is_match("ab").is_ok());
+    }
+    let error = Rule::new("ab(?=c)", Flags::NONE).unwrap().check("ab", &[0, 0], 99).unwrap_err();
+    assert_eq!(error.to_string(), "the rule is refused, 35 at 2: this looks ahead or holds on, which a check does not follow\n  ab(?=c)\n    ^");
+    assert!(Rule::new(most, Flags::NONE).unwrap().check("", &[0, 0, 255], 2).unwrap().known().unwrap().is_some());
 }
 
 #[test]

@@ -1,15 +1,16 @@
 //! Proposals of derivations, on random rules with the library. Every reading of a listing is proposed and accepted, with its row, within a budget of the
 //! steps along its path, and with one step less it is exhausted; and proposals are damaged in every byte and cut at every length, with the independent
-//! follower. `--cases N --seeds A..B` runs others.
+//! follower. `--cases N --seeds A..B` runs others, `--independent` puts the follower in the library's place: it is held to the walk.
 
 use std::collections::HashSet;
 use std::process::ExitCode;
 
-use harness::arguments::arguments;
+use harness::arguments::arguments_and_switch;
 use harness::case::{shown, Case};
+use harness::contender::Contender;
 use harness::independent::check::{derivations, Derivation};
 use harness::independent::{Answer, Ending, Row};
-use harness::lender::Lender;
+use harness::lender::Run;
 use harness::random::{checks, Rng};
 use harness::raw::Call;
 use harness::report::Group;
@@ -23,17 +24,17 @@ const MORE_OF_A_ROW: usize = 6;
 const LONGEST_DAMAGED: usize = 40;
 
 fn main() -> ExitCode {
-    let arguments = arguments(3_000, 1..3);
+    let (arguments, is_independent) = arguments_and_switch("--independent", 3_000, 1..3);
     let mut readings = Group::new("readings of listings, proposed and checked");
     let mut damaged = Group::new("proposals damaged in every byte and cut at every length");
-    let (mut lender, mut counts) = (Lender::default(), Counts::default());
+    let (mut contender, mut counts) = (Contender::new(is_independent), Counts::default());
     for seed in arguments.seeds.clone() {
         for number in 0..arguments.cases {
             let rng = &mut Rng::new(seed ^ 0x9809, number);
             let line = Line::random(rng);
             counts.rules += 1;
-            if let Some(found) = line.proposed(&mut lender, &mut readings, &mut counts) {
-                line.damaged(rng, &found, &mut lender, &mut damaged, &mut counts);
+            if let Some(found) = line.proposed(&mut contender, &mut readings, &mut counts) {
+                line.damaged(rng, &found, &mut contender, &mut damaged, &mut counts);
             }
         }
     }
@@ -79,9 +80,9 @@ impl Line {
     }
 
     /// Proposes each row of the library's own listing; gives the derivations if the listing came to its end.
-    fn proposed(&self, lender: &mut Lender, group: &mut Group, counts: &mut Counts) -> Option<Vec<Derivation>> {
+    fn proposed(&self, contender: &mut Contender, group: &mut Group, counts: &mut Counts) -> Option<Vec<Derivation>> {
         let case = Case::new(Call::List, &self.rule, self.flags, &self.subject, MOST_STEPS, MOST_ROWS);
-        let listing = lender.run(&case).answer;
+        let listing = contender.run(&case).answer;
         let derivations = self.derivations.clone().filter(|_| listing.ending == Ending::Complete)?;
         counts.listed += 1;
         counts.rows += listing.rows.len();
@@ -93,19 +94,19 @@ impl Line {
         group.judge(&case.shown(), &same.into_iter().collect::<Vec<_>>());
         counts.other_derivations += others.len().min(MORE_OF_A_ROW) as u64;
         for derivation in firsts.into_iter().chain(others.into_iter().take(MORE_OF_A_ROW)) {
-            self.round_trip(derivation, lender, group);
+            self.round_trip(derivation, contender, group);
         }
         Some(derivations)
     }
 
     /// Accepted within just its steps, with its row, and exhausted with one less.
-    fn round_trip(&self, derivation: &Derivation, lender: &mut Lender, group: &mut Group) {
+    fn round_trip(&self, derivation: &Derivation, contender: &mut Contender, group: &mut Group) {
         let Derivation { proposal, steps, row } = derivation;
         let accepted = Answer { steps: *steps, rows: vec![*row], ..Answer::bare(Ending::Reading) };
         let spent = Answer { steps: steps - 1, ..Answer::bare(Ending::Exhausted(row[0] as usize)) };
         for (budget, wanted) in [(*steps, accepted), (*steps - 1, spent)] {
             let case = self.check(budget, proposal);
-            let run = lender.run(&case);
+            let run = contender.run(&case);
             let mut faults = run.faults;
             let told = Answer { names: None, ..run.answer };
             if told != wanted {
@@ -121,7 +122,7 @@ impl Line {
     }
 
     /// One of the proposals with each of its bytes changed, cut at each length, and added to.
-    fn damaged(&self, rng: &mut Rng, derivations: &[Derivation], lender: &mut Lender, group: &mut Group, counts: &mut Counts) {
+    fn damaged(&self, rng: &mut Rng, derivations: &[Derivation], contender: &mut Contender, group: &mut Group, counts: &mut Counts) {
         let short: Vec<&Derivation> = derivations.iter().filter(|derivation| derivation.proposal.len() <= LONGEST_DAMAGED).collect();
         if short.is_empty() {
             return;
@@ -133,22 +134,22 @@ impl Line {
             for value in values.iter().copied().chain([proposal[at].wrapping_add(1), proposal[at].wrapping_sub(1)]) {
                 let mut changed = proposal.clone();
                 changed[at] = value;
-                self.held_to_follower(rng, &changed, *steps, lender, group, counts);
+                self.held_to_follower(rng, &changed, *steps, contender, group, counts);
             }
             let (before, behind) = proposal.split_at(at);
-            self.held_to_follower(rng, before, *steps, lender, group, counts);
-            self.held_to_follower(rng, &[before, &behind[1..]].concat(), *steps, lender, group, counts);
+            self.held_to_follower(rng, before, *steps, contender, group, counts);
+            self.held_to_follower(rng, &[before, &behind[1..]].concat(), *steps, contender, group, counts);
             for more in [0, 1, proposal[at]] {
-                self.held_to_follower(rng, &[before, &[more], behind].concat(), *steps, lender, group, counts);
+                self.held_to_follower(rng, &[before, &[more], behind].concat(), *steps, contender, group, counts);
             }
         }
         for more in [&[0][..], &[1], &[255], &[0, 0]] {
-            self.held_to_follower(rng, &[proposal, more].concat(), *steps, lender, group, counts);
+            self.held_to_follower(rng, &[proposal, more].concat(), *steps, contender, group, counts);
         }
     }
 
     /// Within more steps than it can need here, within those of the path that was damaged, or within fewer.
-    fn held_to_follower(&self, rng: &mut Rng, proposal: &[u8], steps: u64, lender: &mut Lender, group: &mut Group, counts: &mut Counts) {
+    fn held_to_follower(&self, rng: &mut Rng, proposal: &[u8], steps: u64, contender: &mut Contender, group: &mut Group, counts: &mut Counts) {
         let budget = match rng.weighted(&[50, 25, 25]) {
             0 => steps + 200,
             1 => steps,
@@ -162,7 +163,10 @@ impl Line {
             _ => 2,
         };
         counts.kinds[kind] += 1;
-        let faults = lender.compare(&case, &expected);
+        let Run { answer, mut faults } = contender.run(&case);
+        if answer != expected {
+            faults.push(format!("library:  {}\nfollower: {}", shown(&answer), shown(&expected)));
+        }
         if faults.is_empty() {
             group.pass();
         } else {
