@@ -1,5 +1,5 @@
 /* A worked example of the C interface: every reading of one line, fields by their names, why a line does not match, all the quantities in one message,
- * a day's lines at once, and a rule card.
+ * a day's lines at once, a reading that someone else proposes, and a rule card.
  *
  * `1,500 L` is one thousand five hundred litres where the comma stands between thousands, and one and a half litres where it is a decimal
  * comma. The rule allows both, so the listing has two rows, and whoever gets two rows knows that the line has to be asked about.
@@ -130,6 +130,29 @@ static void print_day(const char *rule, const char *day)
     }
 }
 
+/* What is said of the choices that someone found, from this start on. */
+static void check(const char *rule, const char *line, uint16_t start, const char *choices)
+{
+    static const char *const findings[] = {"a reading", "no reading", "exhausted", "refused"};
+    uint8_t proposal[64] = {(uint8_t)(start % 256), (uint8_t)(start / 256)};
+    uint32_t answer[TERRAVISCO_ANSWER];
+    size_t length = strlen(choices);
+
+    for (size_t choice = 0; choice < length && choice < sizeof proposal - 2; choice++)
+        proposal[2 + choice] = (uint8_t)(choices[choice] - '0');
+    terravisco_check((const uint8_t *)rule, strlen(rule), 0, (const uint8_t *)line, strlen(line), BUDGET, proposal, 2 + length,
+                     rule_area, sizeof rule_area / sizeof *rule_area, work_area, sizeof work_area / sizeof *work_area,
+                     rows, TERRAVISCO_ROW, names, sizeof names, answer);
+    printf("%s from %u by %s on `%s`: %s", rule, (unsigned)start, choices, line, findings[answer[0]]);
+    if (answer[0] == 3) {
+        printf(", number %u at %u\n", (unsigned)answer[1], (unsigned)answer[2]);
+        return;
+    }
+    printf(", %u steps\n", (unsigned)answer[3]);
+    if (answer[5] == 1)
+        print_row(rows, line);
+}
+
 /* Reads a card and prints what it says. */
 static void print_card(size_t length)
 {
@@ -177,6 +200,10 @@ int main(void)
     print_quantities("no delivery");
     print_day("^tank \\d+:(?: (?<litres>\\d+) L)?$", "tank 7: 820 L\ntank 8:\n\nhall 3\ntank 9: 5 L");
     print_day("^tank (", "tank 7: 820 L\n");
+    check("(\\d+)(L?)", "15L", 0, "101");
+    check("(\\d+)(L?)", "15L", 1, "00");
+    check("(\\d+)(L?)", "15L", 0, "10");
+    check("(\\d+)(?=L)", "15L", 0, "10");
     send_card("^tank (\\d+): (\\d+) L$", FLAG_I);
     send_card("^tank (", 0);
     return 0;
