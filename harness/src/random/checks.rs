@@ -5,7 +5,7 @@ use super::rules::{self, Style};
 use super::{calls, fast, scans, sound, Rng};
 use crate::case::Case;
 use crate::independent::check::{checked, derivations, refused_by};
-use crate::independent::{self, tree::Rule, LONGEST_RULE};
+use crate::independent::{self, tree::Rule, LONGEST_RULE, LONGEST_SUBJECT};
 use crate::raw::Call;
 
 /// Walks that are longer are not looked at to their end, and paths that are longer are not followed.
@@ -53,12 +53,15 @@ pub fn followed(rng: &mut Rng) -> (Vec<u8>, u32, Rule, Vec<u8>) {
 
 /// Mostly that of a derivation from a random start, as it is or damaged.
 fn proposal(rng: &mut Rng, rule: &Rule, subject: &[u8]) -> Vec<u8> {
-    let start = if rng.percent(50) { 0 } else { rng.below(subject.len().min(65_535) + 1) };
-    let (derivations, _) = derivations(rule, subject, start, MOST_STEPS);
-    let mut proposal = match derivations.len() {
-        0 => return noise(rng),
-        several => derivations[if rng.percent(40) { rng.below(several) } else { 0 }].proposal.clone(),
-    };
+    if rng.percent(3) {
+        return noise(rng);
+    }
+    // Some starts are tried, since many have no derivation.
+    let starts: Vec<usize> = (0..5).map(|_| if rng.percent(30) { 0 } else { rng.below(subject.len().min(LONGEST_SUBJECT) + 1) }).collect();
+    let found = starts.iter().map(|&start| derivations(rule, subject, start, MOST_STEPS).0).find(|found| !found.is_empty());
+    let Some(found) = found else { return wandering(rng, subject) };
+    let among = if rng.percent(40) { found.len() } else { 1 };
+    let mut proposal = found[rng.below(among)].proposal.clone();
     if rng.percent(60) {
         let times = 1 + rng.weighted(&[75, 20, 5]);
         (0..times).for_each(|_| damage(rng, &mut proposal));
@@ -97,13 +100,16 @@ fn other(rng: &mut Rng, byte: u8) -> u8 {
     }
 }
 
-/// Choices of no path that is known: from a start near the line's beginning, or any bytes.
-fn noise(rng: &mut Rng) -> Vec<u8> {
+/// Choices of no path that is known, from a start in the line.
+fn wandering(rng: &mut Rng, subject: &[u8]) -> Vec<u8> {
+    let start = rng.below(subject.len().min(LONGEST_SUBJECT) + 1) as u16;
     let choices = rng.below(12);
-    if rng.percent(20) {
-        return (0..choices).map(|_| rng.byte()).collect();
-    }
-    [rng.below(4) as u8, 0].into_iter().chain((0..choices).map(|_| *rng.pick(&[0, 0, 1, 1, 1, 2]))).collect()
+    start.to_le_bytes().into_iter().chain((0..choices).map(|_| *rng.pick(&[0, 0, 1, 1, 1, 2]))).collect()
+}
+
+/// Any bytes.
+fn noise(rng: &mut Rng) -> Vec<u8> {
+    (0..rng.below(12)).map(|_| rng.byte()).collect()
 }
 
 /// An alternation of about as many branches as a check follows, alone or beside another, in brackets or under a repeat, with things before and behind it
