@@ -122,6 +122,8 @@ pub fn explain(
 ) -> Explanation
     ensures { λ r. ⌜ Returned (explainCall (callOf (now (rule .entry)) flags (now (subject .entry)) budget (now («rule_area» .entry)) (now («work_area» .entry)) (now (marks .entry)) (now (names .entry)))) (explanationOf r) (now («rule_area» .exit)) (now («work_area» .exit)) (now (marks .exit)) (now (names .exit)) ⌝ }
 {
+    // No result area is lent, so that none is too short.
+    let short = false;
     match prepare(
         rule,
         flags,
@@ -130,7 +132,7 @@ pub fn explain(
         budget,
         rule_area,
         work_area,
-        false,
+        short,
         names,
     ) {
         Preparation::Refused(f) => Explanation::Refused(f),
