@@ -75,7 +75,9 @@ a record begins with a byte that is none of the kinds 1, 2 and 3\n\
 it ends before its last record does\n\
 its records are in the wrong order, or not as many as the rule's length needs\n\
 a byte that pads the rule is not 00, or bytes stand behind the last record\n\
-the number of groups that it says is not the rule's\n",
+the number of groups that it says is not the rule's\n\
+this looks ahead or holds on, which a check does not follow\n\
+the 257th branch begins behind this bar; a check follows at most 256\n",
         number,
     );
     if number == TOO_MANY_GROUPS {
