@@ -71,7 +71,8 @@ impl Kinds {
         let words = ["matched", "not", "complete", "full", "exhausted", "done", "a reading", "no reading"];
         let walked = self.endings.iter().zip(words).filter(|(count, _)| **count > 0).map(|(count, word)| format!("{count} {word}"));
         let walked = walked.collect::<Vec<_>>().join(", ");
-        let rarest = (1..=LAST_REFUSAL).filter(|number| !self.never.contains(number) && !OF_CARDS.contains(number)).map(|number| self.refusals[number]).min().unwrap_or(0);
+        let is_given = |number: &usize| !self.never.contains(number) && !OF_CARDS.contains(number);
+        let rarest = (1..=LAST_REFUSAL).filter(is_given).map(|number| self.refusals[number]).min().unwrap_or(0);
         match self.refusals.iter().sum::<u64>() {
             0 => walked,
             refused => format!("{walked}, {refused} refused, each refusal at least {rarest} times"),

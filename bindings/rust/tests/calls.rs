@@ -1,8 +1,6 @@
 //! What each call answers, on the examples that it was made for and at its edges.
 
-use terravisco::{
-    limits, read_card, write_card, Attempt, Captures, Card, Checked, Explanation, Failure, Flags, Listing, Outcome, Rule, Unknown,
-};
+use terravisco::{limits, read_card, write_card, Attempt, Captures, Card, Checked, Explanation, Failure, Flags, Listing, Outcome, Rule, Unknown};
 
 const TANK: &str = r"^tank (?<tank>\w+):(?: (?<litres>\d+) L)?$";
 

@@ -452,7 +452,9 @@ fn most_branches(group: &mut Group, lender: &mut Lender) {
     for branches in [2, 3, 254, 255, 256, 257, 258, 400] {
         let bars = "|".repeat(branches - 1);
         for number in [0, 1, 2, 127, 128, 253, 254, 255] {
-            for rule in [bars.clone(), format!("a?({bars})"), format!("(?:{bars}){{2}}"), format!("(?:{bars})(?:{bars})"), format!("a|(?:{bars})|{bars}")] {
+            for rule in
+                [bars.clone(), format!("a?({bars})"), format!("(?:{bars}){{2}}"), format!("(?:{bars})(?:{bars})"), format!("a|(?:{bars})|{bars}")]
+            {
                 for choices in [&[][..], &[number], &[number; 2], &[1, number], &[number, 0, number], &[number; 3]] {
                     judge(group, lender, &Case::check(rule.as_bytes(), 0, b"a", 20, &[&[0, 0], choices].concat()));
                 }
@@ -492,7 +494,8 @@ fn refused_checks(group: &mut Group, lender: &mut Lender) {
 fn starts(group: &mut Group, lender: &mut Lender) {
     for length in [0, 1, 2, 254, 255, 256, 257, 511, 512, 513, 32_767, 32_768, 65_279, 65_280, 65_534, 65_535] {
         let subject = vec![b'a'; length];
-        for start in [0, 1, 255, 256, length.saturating_sub(1), length, length + 1, length + 256, 65_535].into_iter().filter(|&start| start <= 65_535) {
+        for start in [0, 1, 255, 256, length.saturating_sub(1), length, length + 1, length + 256, 65_535].into_iter().filter(|&start| start <= 65_535)
+        {
             for rule in ["", "a", r"\z", "(a)"] {
                 for budget in [0, 1, 9] {
                     judge(group, lender, &Case::check(rule.as_bytes(), 0, &subject, budget, &(start as u16).to_le_bytes()));

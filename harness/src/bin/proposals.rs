@@ -40,7 +40,10 @@ fn main() -> ExitCode {
     }
     let Counts { rules, listed, rows, other_derivations, kinds: [accepted, not, exhausted] } = counts;
     let told = format!("{rules} rules, {listed} listed to their end, {rows} rows, {other_derivations} other derivations of one of them");
-    let ends = [readings.end(&format!("seeds {:?}: {told}", arguments.seeds)), damaged.end(&format!("{accepted} a reading, {not} no reading, {exhausted} exhausted"))];
+    let ends = [
+        readings.end(&format!("seeds {:?}: {told}", arguments.seeds)),
+        damaged.end(&format!("{accepted} a reading, {not} no reading, {exhausted} exhausted")),
+    ];
     if ends.iter().all(|end| *end == ExitCode::SUCCESS) {
         ExitCode::SUCCESS
     } else {
