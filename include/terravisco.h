@@ -1,11 +1,12 @@
-/* Terravisco: matching a Perl regular expression against a line or a day's lines, within a budget of steps, telling why a line does not match, and rule cards.
+/* Terravisco: matching a Perl regular expression against a line or a day's lines, within a budget of steps, telling why a line does not match, checking a
+ * proposed reading, and rule cards.
  *
  * Link with libterravisco.a, which `rt staticlib terravisco` writes to target/staticlib/.
  *
  * Nothing is required of what is handed in: any bytes, any flags, any budget and areas of any length give an answer or a refusal.
  * What a caller owes is only what C cannot tell: each pointer leads to as many bytes or numbers as the length beside it says, and the three
- * areas, the names, the marks, a card, a card's rule bytes and the answer overlap neither each other nor the rule and the subject or buffer. A pointer is
- * never null, even beside a length of 0.
+ * areas, the names, the marks, a card, a card's rule bytes and the answer overlap neither each other nor the rule, the subject or buffer and a proposal. A
+ * pointer is never null, even beside a length of 0.
  *
  * flags         bit 0 is `s`, bit 1 is `m`, bit 2 is `i`, bit 3 is `x`; bit 4, TERRAVISCO_DEPOT, asks for the depot profile: a rule is refused for 27 if it
  *               has a reference, for 28 if it has a repeat without upper bound over a body that may take no bytes, for 29 if it has a range whose ends
@@ -114,11 +115,28 @@ void terravisco_explain(const uint8_t *rule, size_t rule_len, uint32_t flags,
                         uint32_t *rule_area, size_t rule_area_len, uint32_t *work_area, size_t work_area_len,
                         uint8_t *names, size_t names_len, uint8_t *marks, size_t marks_len, uint32_t answer[TERRAVISCO_EXPLAIN_ANSWER]);
 
+/* Checks a reading that someone else proposes: follows the one path that its choices tell, and accepts it exactly when these choices, all used, make a
+   reading of that rule on that line. It says "a reading", never "the match": whether another one comes before it is not looked for.
+   proposal  of any bytes and any length: the start as two bytes, the low one first, then one byte for each choice in their order. A choice is written only
+             where two or more ways are allowed: the number of the branch, from 0, in an alternation; 0 for going on and 1 for another round where a
+             repeat may do either, whether greedy or lazy. Where a round is owed, where the repeat is full, and after a round that took no bytes, none is.
+   answer    [0] 0 a reading, 1 no reading, 2 exhausted, 3 refused; [1] the exhausted start or the refusal's number, else 0; [2] the refusal's place, else 0;
+             [3] and [4] the steps along the path, of "no reading" those up to where it was seen, 0 if refused; [5] 1 with a reading, else 0.
+             A start that the line does not have, a proposal too short for one, a choice that is missing or not allowed, choices left over at the
+             rule's end: all of these are "no reading".
+   A reading has its row written, nothing else writes one. What is handed in, refusals, and what is left behind are those of a match; and a rule that is sound
+   is refused for 35 if it has `(?>`, `(?=`, `(?!`, `\R` or a possessive repeat, at the first (a possessive repeat's place is its `+`), and then for 36 if
+   it has an alternation of more than 256 branches, at the lowest bar before a 257th; with both areas zero, and the name index as it was. */
+void terravisco_check(const uint8_t *rule, size_t rule_len, uint32_t flags,
+                      const uint8_t *subject, size_t subject_len, uint32_t budget, const uint8_t *proposal, size_t proposal_len,
+                      uint32_t *rule_area, size_t rule_area_len, uint32_t *work_area, size_t work_area_len,
+                      uint32_t *result, size_t result_len, uint8_t *names, size_t names_len, uint32_t answer[TERRAVISCO_ANSWER]);
+
 /* Looks a field up: what the group of that name took of a line.
    names     a name index: for each group TERRAVISCO_NAME_ENTRY bytes, the length of its name (0 if none) and the name, whatever follows it. Of the
              first entries, as many as a rule can have groups, the first of that name counts that lies whole in the index.
-   kind      of the answer: 0 matched; every other number is not. For a row of a listing or of successive matches hand in 0, for a line of a buffer
-             the first of its four numbers.
+   kind      of the answer: 0 matched; every other number is not. For a row of a listing, of successive matches or of a check hand in 0, for a line
+             of a buffer the first of its four numbers.
    row       the answer's row, TERRAVISCO_ROW numbers; what follows them is not looked at. Fewer, or numbers that are no row for that line (start <= end
              <= line_len; each pair TERRAVISCO_UNSET twice or a span within the line), count as not matched.
    standing  the text that stands for a group that is not set

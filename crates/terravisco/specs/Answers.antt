@@ -8,6 +8,7 @@ use Rattle.syntax.specs.Refusals.{numberOf}
 use Rattle.semantics.specs.Explanations.{Failure, nowhere}
 use Rattle.semantics.specs.Calls.{Return, MatchOutcome, Matched, NotMatched, Exhausted, Refused, ListOutcome, Complete, Full, ListExhausted, ListRefused, ExplainOutcome, Fits, Unfit, ExplainExhausted, ExplainRefused}
 use Rattle.semantics.specs.Batches.{low, high, BatchOutcome, Done, BatchRefused}
+use Rattle.semantics.specs.Checks.{CheckOutcome, AReading, NoReading, CheckExhausted, CheckRefused}
 use Rattle.lookup.specs.declared.Found.{Found}
 use Rattle.lookup.specs.declared.Found.the-variants.{Taken, Standing, Nothing}
 
@@ -38,6 +39,13 @@ listNumbers (ListRefused place why) = refusalNumbers place why
 unfoldable pub batchNumbers : BatchOutcome → List ℕ
 batchNumbers (Done lines) = numbers 0 0 0 0 lines
 batchNumbers (BatchRefused place why) = refusalNumbers place why
+
+-- "Kind of a check: 0 a reading, 1 no reading, 2 exhausted, 3 refused."
+unfoldable pub checkNumbers : CheckOutcome → List ℕ
+checkNumbers (AReading steps) = numbers 0 0 0 steps 1
+checkNumbers (NoReading steps) = numbers 1 0 0 steps 0
+checkNumbers (CheckExhausted start steps) = numbers 2 start 0 steps 0
+checkNumbers (CheckRefused place why) = refusalNumbers place why
 
 -- "[6] place in the line, [7] place in the rule; [8] to [10] the closest attempt: its start, its place in the line, its place in the rule"
 unfoldable pub failureNumbers : (far near : Failure) → List ℕ

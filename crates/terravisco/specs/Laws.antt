@@ -1,6 +1,6 @@
 -- What the numbers of an outcome are, by the code's own cases.
 use mathlib.Core.Path.{_≡_, refl}
-use mathlib.Core.List.{_++_}
+use mathlib.Core.List.{List, _++_}
 use Prim.Native.Nat.{ℕ, _≤_, _<_}
 use native.Mathlib.Omega.{arith}
 use native.Mathlib.Decide.{decLt}
@@ -16,6 +16,9 @@ use Rattle.syntax.specs.Laws.Places.{Placed, reading-placed}
 use Rattle.semantics.specs.Explanations.{nowhere}
 use Rattle.semantics.specs.Calls.{Call, matchCall, listCall, scanCall, MatchOutcome, Matched as Answer·Matched, NotMatched as Answer·NotMatched, Exhausted as Answer·Exhausted, Refused as Answer·Refused, ListOutcome, Complete as Answer·Complete, Full as Answer·Full, ListExhausted, ListRefused, explainCall, ExplainOutcome, Fits, Unfit, ExplainExhausted, ExplainRefused}
 use Rattle.semantics.specs.Batches.{BatchOutcome, Done, BatchRefused, linesOf, lineless, partsNeed, batchCall}
+use Rattle.semantics.specs.Checks.{CheckOutcome, AReading, NoReading, CheckExhausted, CheckRefused, checkCall}
+use Rattle.semantics.specs.CheckDemands.{CheckRefuses, likeMatch, heldOrLook, tooManyBranches}
+use Rattle.semantics.specs.CheckDemandsHold.{check-meets-demands, form-within, crowd-within}
 use Rattle.semantics.specs.Demands.{Faultless, ruleTooLong, Refuses, itself, itsRule}
 use Rattle.semantics.specs.DemandsHold.{match-meets-demands, list-meets-demands, scan-meets-demands, explain-meets-demands}
 use Rattle.semantics.specs.Laws.Batches.{batch-demand-1}
@@ -33,7 +36,10 @@ use Rattle.explaining.specs.Explanations.{explanationOf}
 use Rattle.batching.specs.declared.Batch.{Batch}
 use Rattle.batching.specs.declared.Batch.the-variants.{Done as All, Refused as Unmade}
 use Rattle.batching.specs.Batches.{batchOf}
-use Rattle.terravisco.specs.Answers.{numbers, refusalNumbers, matchNumbers, listNumbers, batchNumbers, failureNumbers, explainNumbers}
+use Rattle.checking.specs.declared.Verdict.{Verdict}
+use Rattle.checking.specs.declared.Verdict.the-variants.{Reading, Nothing, Exhausted as Overdrawn, Refused as Unchecked}
+use Rattle.checking.specs.Verdicts.{verdictOf}
+use Rattle.terravisco.specs.Answers.{numbers, refusalNumbers, matchNumbers, listNumbers, batchNumbers, checkNumbers, failureNumbers, explainNumbers}
 
 -- Places ------------------------------------------------------------------------
 
@@ -59,6 +65,12 @@ ExplainPlaced (ExplainRefused place why) = place ≤ ruleLimit
 abbrev pub BatchPlaced : BatchOutcome → Type 0
 BatchPlaced (Done lines) = Unit
 BatchPlaced (BatchRefused place why) = place ≤ ruleLimit
+
+abbrev pub CheckPlaced : CheckOutcome → Type 0
+CheckPlaced (AReading steps) = Unit
+CheckPlaced (NoReading steps) = Unit
+CheckPlaced (CheckExhausted start steps) = Unit
+CheckPlaced (CheckRefused place why) = place ≤ ruleLimit
 
 of-reading : {A : Type 0} (n : ℕ) (x : Read A) (place : ℕ) (why : Reason) → x ≡ refused place why → Placed n x → place ≤ n
 of-reading n x place why e h = rw e at h
@@ -105,6 +117,20 @@ batch-placed c = of (batchCall c .outcome) refl
     of (Done lines) e = tt
     of (BatchRefused place why) e = refuses-placed (partsNeed (linesOf (c .subject))) (lineless c) place why (batch-demand-1 c .refused-exactly place why .0 e)
 
+check-refuses-placed : (c : Call) (place : ℕ) (why : Reason) → CheckRefuses c place why → place ≤ ruleLimit
+check-refuses-placed c place why (likeMatch h) = refuses-placed rowLength c place why h
+check-refuses-placed c place why (heldOrLook {r = r} {groups = groups} a e) = omega (arith, form-within c r groups place a e, short rowLength c (a .faultless) (decLt ruleLimit (length (c .rule))))
+check-refuses-placed c place why (tooManyBranches {r = r} {groups = groups} a f e) = omega (arith, crowd-within c r groups place a e, short rowLength c (a .faultless) (decLt ruleLimit (length (c .rule))))
+
+check-placed : (proposal : List ℕ) (c : Call) → CheckPlaced (checkCall proposal c .outcome)
+check-placed proposal c = of (checkCall proposal c .outcome) refl
+  where
+    of : (o : CheckOutcome) → checkCall proposal c .outcome ≡ o → CheckPlaced o
+    of (AReading steps) e = tt
+    of (NoReading steps) e = tt
+    of (CheckExhausted start steps) e = tt
+    of (CheckRefused place why) e = check-refuses-placed c place why (check-meets-demands proposal c .demand-1 .refused-exactly place why .0 e)
+
 -- what the code's outcome is, a place in it fits
 pub match-told : (o : Outcome) (c : Call) → outcomeOf o ≡ matchCall c .outcome → MatchPlaced (outcomeOf o)
 match-told o c e = rw e (match-placed c)
@@ -121,6 +147,9 @@ explain-told o c e = rw e (explain-placed c)
 pub batch-told : (o : Batch) (c : Call) → batchOf o ≡ batchCall c .outcome → BatchPlaced (batchOf o)
 batch-told o c e = rw e (batch-placed c)
 
+pub check-told : (o : Verdict) (proposal : List ℕ) (c : Call) → verdictOf o ≡ checkCall proposal c .outcome → CheckPlaced (verdictOf o)
+check-told o proposal c e = rw e (check-placed proposal c)
+
 pub match-place : (o : Outcome) (f : Refusal) → o ≡ Refused f → MatchPlaced (outcomeOf o) → f .place ≤ ruleLimit
 unfolding outcomeOf
 match-place o f e h = rw e at h
@@ -136,6 +165,10 @@ explain-place o f e h = rw e at h
 pub batch-place : (o : Batch) (f : Refusal) → o ≡ Unmade f → BatchPlaced (batchOf o) → f .place ≤ ruleLimit
 unfolding batchOf
 batch-place o f e h = rw e at h
+
+pub check-place : (o : Verdict) (f : Refusal) → o ≡ Unchecked f → CheckPlaced (verdictOf o) → f .place ≤ ruleLimit
+unfolding verdictOf
+check-place o f e h = rw e at h
 
 -- A match -----------------------------------------------------------------------
 
@@ -182,6 +215,24 @@ of-all o lines e = rw e refl
 pub of-unmade : (o : Batch) (f : Refusal) → o ≡ Unmade f → refusalNumbers (f .place) (f .reason) ≡ batchNumbers (batchOf o)
 unfolding batchNumbers batchOf
 of-unmade o f e = rw e refl
+
+-- A check -----------------------------------------------------------------------
+
+pub of-a-reading : (o : Verdict) (steps : ℕ) → o ≡ Reading steps → numbers 0 0 0 steps 1 ≡ checkNumbers (verdictOf o)
+unfolding checkNumbers verdictOf
+of-a-reading o steps e = rw e refl
+
+pub of-no-reading : (o : Verdict) (steps : ℕ) → o ≡ Nothing steps → numbers 1 0 0 steps 0 ≡ checkNumbers (verdictOf o)
+unfolding checkNumbers verdictOf
+of-no-reading o steps e = rw e refl
+
+pub of-overdrawn : (o : Verdict) (start steps : ℕ) → o ≡ Overdrawn start steps → numbers 2 start 0 steps 0 ≡ checkNumbers (verdictOf o)
+unfolding checkNumbers verdictOf
+of-overdrawn o start steps e = rw e refl
+
+pub of-unchecked : (o : Verdict) (f : Refusal) → o ≡ Unchecked f → refusalNumbers (f .place) (f .reason) ≡ checkNumbers (verdictOf o)
+unfolding checkNumbers verdictOf
+of-unchecked o f e = rw e refl
 
 -- An explanation ------------------------------------------------------------------
 

@@ -5,6 +5,7 @@ use batching::high_half;
 use batching::low_half;
 use cards::ReadAnswer;
 use cards::WriteAnswer;
+use checking::Verdict;
 use explaining::Explanation;
 use failures::Failed;
 use listing::Listing;
@@ -19,17 +20,19 @@ ghost use Rattle.syntax.specs.Limits.{ruleLimit};
 ghost use Rattle.semantics.specs.Explanations.{nowhere as nothing};
 ghost use Rattle.semantics.specs.Calls.{matchCall, listCall, scanCall, explainCall};
 ghost use Rattle.semantics.specs.Batches.{batchCall};
+ghost use Rattle.semantics.specs.Checks.{checkCall};
 ghost use Rattle.frame.specs.Inputs.{callOf};
 ghost use Rattle.matching.specs.Outcomes.{outcomeOf};
 ghost use Rattle.listing.specs.Listing.{listingOf};
 ghost use Rattle.batching.specs.Batches.{batchOf};
 ghost use Rattle.failures.specs.Best.{failureOf};
 ghost use Rattle.explaining.specs.Explanations.{explanationOf};
+ghost use Rattle.checking.specs.Verdicts.{verdictOf};
 ghost use Rattle.lookup.specs.Lookup.{lookup};
 ghost use Rattle.card_format.specs.Cards.{writeCall, readCall};
 ghost use Rattle.cards.specs.Answers.{writtenOf, readOf};
-ghost use Rattle.terravisco.specs.Answers.{numbers, refusalNumbers, matchNumbers, listNumbers, batchNumbers, failureNumbers, explainNumbers, fieldNumbers, Answered};
-ghost use Rattle.terravisco.specs.Laws.{MatchPlaced, ListPlaced, BatchPlaced, ExplainPlaced};
+ghost use Rattle.terravisco.specs.Answers.{numbers, refusalNumbers, matchNumbers, listNumbers, batchNumbers, checkNumbers, failureNumbers, explainNumbers, fieldNumbers, Answered};
+ghost use Rattle.terravisco.specs.Laws.{MatchPlaced, ListPlaced, BatchPlaced, CheckPlaced, ExplainPlaced};
 ghost use Rattle.terravisco.specs.Cards.{writeNumbers, readNumbers, CardAnswered};
 ghost use Rattle.terravisco.specs.CardLaws.{WritePlaced, ReadPlaced};
 
@@ -47,7 +50,7 @@ fn tell(answer: &mut [u32; 6], kind: u32, which: u32, place: u32, steps: u64, ro
     ];
 }
 
-// A refusal has the same numbers from a match, a listing and a day's lines.
+// A refusal has the same numbers from a match, a listing, a check and a day's lines.
 fn tell_refusal(answer: &mut [u32; 6], f: Refusal)
     requires { ⌜ f .place ≤ ruleLimit ⌝ }
     ensures { λ _. ⌜ now (answer .exit) ≡ refusalNumbers (f .place) (f .reason) ⌝ }
@@ -87,6 +90,18 @@ fn tell_batch(answer: &mut [u32; 6], outcome: Batch)
     match outcome {
         Batch::Done(lines) => tell(answer, 0, 0, 0, 0, lines),
         Batch::Refused(f) => tell_refusal(answer, f),
+    }
+}
+
+fn tell_check(answer: &mut [u32; 6], outcome: Verdict)
+    requires { ⌜ CheckPlaced (verdictOf outcome) ⌝ }
+    ensures { λ _. ⌜ now (answer .exit) ≡ checkNumbers (verdictOf outcome) ⌝ }
+{
+    match outcome {
+        Verdict::Reading(steps) => tell(answer, 0, 0, 0, steps, 1),
+        Verdict::Nothing(steps) => tell(answer, 1, 0, 0, steps, 0),
+        Verdict::Exhausted(start, steps) => tell(answer, 2, start, 0, steps, 0),
+        Verdict::Refused(f) => tell_refusal(answer, f),
     }
 }
 
@@ -264,6 +279,36 @@ pub extern "C" fn terravisco_match_lines(
         names,
     );
     tell_batch(answer, outcome);
+}
+
+// One check of a proposed reading.
+#[no_mangle]
+pub extern "C" fn terravisco_check(
+    rule: &[u8],
+    flags: u32,
+    subject: &[u8],
+    budget: u32,
+    proposal: &[u8],
+    rule_area: &mut [u32],
+    work_area: &mut [u32],
+    result: &mut [u32],
+    names: &mut [u8],
+    answer: &mut [u32; 6],
+)
+    ensures { λ _. ⌜ Answered checkNumbers (checkCall (now (proposal .entry)) (callOf (now (rule .entry)) flags (now (subject .entry)) budget (now («rule_area» .entry)) (now («work_area» .entry)) (now (result .entry)) (now (names .entry)))) (now (answer .exit)) (now («rule_area» .exit)) (now («work_area» .exit)) (now (result .exit)) (now (names .exit)) ⌝ }
+{
+    let outcome = checking::check(
+        rule,
+        flags,
+        subject,
+        budget,
+        proposal,
+        rule_area,
+        work_area,
+        result,
+        names,
+    );
+    tell_check(answer, outcome);
 }
 
 // One explanation of why a line does not fit.
