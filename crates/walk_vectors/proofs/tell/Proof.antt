@@ -27,7 +27,7 @@ unfolding ruleAreaNeed
 walk-from-requires c κs =
     let start = c .before .before .before .before .before .before .before .before .before .before .before .before .before .before in
     let said = rw (c .before .before .before .pc .given .1) at (c .before .before .before .before .before .before .before .compile .ensures .says) in
-    let long = c .before .before .before .before .before .before .before .compile .kept .1 .1 .0 ∙ start .pre .1 in
+    let long = c .before .before .before .before .before .before .before .compile .kept .1 .1 .1 .0 ∙ start .pre .1 in
     ((omega arith, start .pre .2, omega arith, start .pre .3, few-groups _ _ _ _ _ said, omega (arith, said .near), start .pre .4), walkable _ _ _ _ _ said long)
 
 enum-known-f : tie.Need-enum-known-f
