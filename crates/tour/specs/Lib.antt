@@ -1,0 +1,2 @@
+-- What docs/TOUR.md shows, by the definitions alone.
+pub mod Tour
