@@ -167,7 +167,7 @@ def arguments(t):
                        ("a standing text of 4097 bytes", ["-s", "s" * 4097, "rule", "lines"])):
         ran = subprocess.run([str(PROGRAM), *line], capture_output=True)
         t.same("%s, stdout" % name, ran.stdout, b"")
-        t.same("%s, stderr" % name, ran.stderr.decode().split("\n")[0], "usage: fields [-f FLAGS] [-b BUDGET] [-s TEXT] RULE-FILE LINES-FILE [NAME ..]")
+        t.same("%s, stderr" % name, ran.stderr.decode().split("\n")[0], "usage: fields [--page] [-f FLAGS] [-b BUDGET] [-s TEXT] RULE-FILE LINES-FILE [NAME ..]")
 
 
 def mistakes(t):
@@ -200,7 +200,7 @@ def files(t):
     Path("lines").write_bytes(b"1,5 L\n")
     t.run("a rule without 0A", ["rule", "lines"], HEAD + "1\tmatched\t\t1,5\n")
     Path("lines").write_bytes(b"1,5 L\n" * 25000)
-    t.run("25000 lines", ["rule", "lines"], HEAD + "".join("%d\tmatched\t\t1,5\n" % n for n in range(1, 25001)), "fields: 10000 lines\nfields: 20000 lines\n")
+    t.run("25000 lines", ["rule", "lines"], HEAD + "".join("%d\tmatched\t\t1,5\n" % n for n in range(1, 25001)))
     text = b"1,5 L\n\n1,500 L\n\xff\n7,250 L"
     t.in_pieces(text, table(LITRES, text))
     t.unwritten("fields: the table could not be written")

@@ -173,13 +173,15 @@ def summary(lines, once=0, ambiguous="0", unmatched=0, exhausted="0", long=0):
 
 
 USAGE = """\
-usage: readings RULE-FILE LINES-FILE [FLAGS [BUDGET]]
+usage: readings [--page] RULE-FILE LINES-FILE [FLAGS [BUDGET]]
 
 Says of every line how many readings the rule has of it. A line with two or more is shown with
 each of them, - standing under what the reading took and ^ under what a group of it took. A group
 that has a name is called by it. A line that is not matched is shown with - under what fits and ^
 under the place where that ends, and the rule with ^ under what was expected there.
 
+--page      write a page for a browser, HTML with no script: the counts, then the lines that are
+            ambiguous, not matched, exhausted or too long (the lines are read twice)
 RULE-FILE   the rule is what stands before its first line end
 LINES-FILE  lines of up to 65535 bytes, ended by 0A (a 0D before it is a byte of the line)
 FLAGS       0 to 31, or letters: s (a dot in the rule takes every byte), m (^ and $ at each 0A),
@@ -336,8 +338,7 @@ line 2: not matched
          + "A dot may stand for a byte that cannot be shown; lines shown with such a dot: 2\n")
     Path("rule").write_bytes(b"^a$")
     Path("lines").write_bytes(b"a\n" * 25000)
-    t.run("25000 lines", ["rule", "lines"], "".join("line %d: 1 reading\n" % n for n in range(1, 25001)) + summary(25000, once=25000),
-          "readings: 10000 lines\nreadings: 20000 lines\n")
+    t.run("25000 lines", ["rule", "lines"], "".join("line %d: 1 reading\n" % n for n in range(1, 25001)) + summary(25000, once=25000))
 
 
 def pieces(t):

@@ -1,3 +1,2 @@
 -- What the functions' proofs cite.
 mod Falling
-mod Holding

@@ -11,32 +11,19 @@ use office::ROOM;
 use office::Rest;
 use office::flush;
 use office::next_line;
-use office::say_number;
+use office::say_progress;
+use page_lines::LINE;
+use page_lines::RESULT_AREA;
+use page_lines::RULE_AREA;
+use page_lines::Setting;
+use page_lines::WORK_AREA;
 ghost use Prim.Native.Nat.{_≤_};
 ghost use lib.ListN.{length};
 ghost use Rattle.syntax.specs.Limits.{groupLimit};
-ghost use Rattle.fields.specs.Rules.{Holds};
-
-// What is lent to the calls: 16 numbers for each step of the largest budget, and 1,000 rows.
-pub const RULE_AREA: usize = frame::RULE_AREA_NEED;
-
-pub const WORK_AREA: usize = frame::WORK_PER_STEP * frame::BUDGET_LIMIT as usize;
-
-pub const RESULT_AREA: usize = 1000 * ROW_LENGTH;
-
-// A line that fills this is too long: the longest that can be matched has one byte less.
-const LINE: usize = frame::SUBJECT_LIMIT + 1;
+ghost use Rattle.page_lines.specs.Rules.{Holds};
 
 // How many lines pass between two messages.
 const PROGRESS: u64 = 10000;
-
-// What stays the same for all lines: where the rule that stands compiled is entered, how many groups it has, the budget, and the number of columns.
-pub struct Setting {
-    pub entry: u32,
-    pub groups: u32,
-    pub budget: u32,
-    pub count: usize,
-}
 
 // Puts the row of a line, or of one that is too long and of which the beginning is there.
 fn tell_line<'a>(
@@ -55,7 +42,7 @@ fn tell_line<'a>(
     requires { ⌜ Holds (now area) (setting .entry) (setting .budget) × (setting .count ≤ groupLimit) ⌝ }
 {
     if number % PROGRESS == 0 {
-        say_number(b"fields: ", number, b" lines\n");
+        say_progress(b"fields: ", number, b" lines\n");
     }
     let mut row = [0u32; ROW_LENGTH];
     let word = ask(

@@ -1,4 +1,5 @@
-// The table of fields: for each line of a file its number, a word and the named fields that a rule picks out, in columns for a spreadsheet.
+// The table of fields: for each line of a file its number, a word and the named fields that a rule picks out, in columns for a spreadsheet; or a page of the
+// lines that need a person.
 mod columns;
 mod lines;
 mod messages;
@@ -10,11 +11,7 @@ use columns::collect;
 use frame::NAME_INDEX_NEED;
 use frame::Preparation;
 use frame::prepare;
-use lines::RESULT_AREA;
-use lines::RULE_AREA;
-use lines::Setting;
 use lines::Told;
-use lines::WORK_AREA;
 use office::PIECE;
 use office::ROOM;
 use office::Rest;
@@ -24,10 +21,15 @@ use office::open;
 use office::say;
 use office::say_refusal;
 use options::Options;
+use page_lines::RESULT_AREA;
+use page_lines::RULE_AREA;
+use page_lines::Setting;
+use page_lines::WORK_AREA;
+use page_lines::write_page;
 ghost use Prim.Native.Nat.{_≤_, _<_};
 ghost use lib.ListN.{length};
 ghost use Rattle.syntax.specs.Limits.{groupLimit};
-ghost use Rattle.fields.specs.Rules.{Holds};
+ghost use Rattle.page_lines.specs.Rules.{Holds};
 
 // One byte more than the longest rule: a rule that fills this is too long, whatever follows.
 const RULE: usize = frame::RULE_LIMIT + 1;
@@ -72,9 +74,57 @@ fn write_table(
     end_table(told, &out);
 }
 
+// Writes the table, or the page, of the lines of a file.
+fn write_out(
+    paged: bool,
+    fd: i32,
+    rule: &[u8],
+    area: &[u32; RULE_AREA],
+    setting: Setting,
+    columns: &[u8; COLUMNS],
+    names: &[u8; NAME_INDEX_NEED],
+    standing: &[u8],
+    piece: &mut [u8; PIECE],
+    work: &mut [u32; WORK_AREA],
+    results: &mut [u32; RESULT_AREA],
+)
+    requires { ⌜ Holds (now area) (setting .entry) (setting .budget) × (setting .count ≤ groupLimit) ⌝ }
+    requires { ⌜ length (now rule) ≤ 1001 ⌝ }
+{
+    if !paged {
+        write_table(
+            fd,
+            area,
+            setting,
+            columns,
+            names,
+            standing,
+            piece,
+            work,
+            results,
+        );
+        return;
+    }
+    if !write_page(
+        fd,
+        rule,
+        area,
+        setting,
+        columns,
+        names,
+        standing,
+        piece,
+        work,
+        results,
+    ) {
+        say(b"fields: the page could not be written\n");
+    }
+}
+
 // Looks at the names that are asked for and at the lines, with a rule that stands compiled, and writes the table if there are such.
 fn look_on(
     o: Options,
+    rule: &[u8],
     entry: u32,
     groups: u32,
     names: &[u8; NAME_INDEX_NEED],
@@ -84,7 +134,7 @@ fn look_on(
     work: &mut [u32; WORK_AREA],
     results: &mut [u32; RESULT_AREA],
 )
-    requires { ⌜ Holds (now area) entry (o .budget) × (o .at < 200) ⌝ }
+    requires { ⌜ Holds (now area) entry (o .budget) × (o .at < 200) × (length (now rule) ≤ 1001) ⌝ }
 {
     let mut columns = [0u8; COLUMNS];
     let count = collect(o.at + 2, names, &mut columns);
@@ -99,11 +149,15 @@ fn look_on(
     let setting = Setting {
         entry,
         groups,
+        flags: o.flags,
         budget: o.budget,
+        by_fields: true,
         count,
     };
-    write_table(
+    write_out(
+        o.paged,
         fd,
+        rule,
         area,
         setting,
         &columns,
@@ -154,6 +208,7 @@ fn run(
         Preparation::Ready(entry, groups) => {
             look_on(
                 o,
+                rule,
                 entry,
                 groups,
                 &names,

@@ -3,11 +3,13 @@ use office::say;
 
 pub(crate) fn usage() {
     say(
-        b"usage: fields [-f FLAGS] [-b BUDGET] [-s TEXT] RULE-FILE LINES-FILE [NAME ..]\n\
+        b"usage: fields [--page] [-f FLAGS] [-b BUDGET] [-s TEXT] RULE-FILE LINES-FILE [NAME ..]\n\
 \n\
 Writes a table in columns between tabs: a head, and for every line its number, a word and what the\n\
 groups of these names took of it; without names, all groups that have one.\n\
 \n\
+--page      write a page for a browser, HTML with no script: the counts, then the lines that are\n            \
+not matched, ambiguous, undecided, exhausted or too long (the lines are read twice)\n\
 -f FLAGS    0 to 31, or letters: s (a dot in the rule takes every byte), m (^ and $ at each 0A),\n            \
 i (A to Z and a to z match each other), x (blanks in the rule, and # up to the line's\n            \
 end, are skipped), D (the depot profile, which refuses some rules: no references, no\n            \

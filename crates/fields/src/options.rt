@@ -1,14 +1,16 @@
 // The options that the program is started with.
 use frame::BUDGET_LIMIT;
 use office::Value;
-ghost use Prim.Native.Nat.{_<_};
+use office::asks_for_page;
+ghost use Prim.Native.Nat.{_≤_, _<_};
 
 // Behind so many arguments no option is looked for.
 const LAST: usize = 100;
 
-// The flags, the budget, the place of the standing text among the arguments, 0 if there is none, and that of the rule's file, which comes first
-// behind the options.
+// Whether a page is asked for, the flags, the budget, the place of the standing text among the arguments, 0 if there is none, and that of the rule's
+// file, which comes first behind the options.
 pub struct Options {
+    pub paged: bool,
     pub flags: u32,
     pub budget: u32,
     pub text: usize,
@@ -51,18 +53,27 @@ fn value(letter: u8, argument: usize) -> Value {
     Value::Wrong
 }
 
+// Where the options begin that have a letter: behind the word that asks for a page.
+fn first_letter(paged: bool) -> usize
+    ensures { λ r. ⌜ r ≤ 2 ⌝ }
+{
+    if paged { 2 } else { 1 }
+}
+
 // Reads the options, up to the first argument that is none.
 pub(crate) fn read_options() -> Options
     ensures { λ r. ⌜ r .at < 200 ⌝ }
 {
+    let paged = asks_for_page();
     let mut flags: u32 = 0;
     let mut budget: u32 = BUDGET_LIMIT;
     let mut text: usize = 0;
-    let mut at: usize = 1;
+    let mut at = first_letter(paged);
     while at < LAST {
         let option = letter(at);
         if option == 0 {
             return Options {
+                paged,
                 flags,
                 budget,
                 text,
@@ -73,6 +84,7 @@ pub(crate) fn read_options() -> Options
         match value(option, at + 1) {
             Value::Wrong => {
                 return Options {
+                    paged,
                     flags,
                     budget,
                     text,
@@ -93,6 +105,7 @@ pub(crate) fn read_options() -> Options
         at += 2;
     }
     Options {
+        paged,
         flags,
         budget,
         text,

@@ -19,7 +19,7 @@ pub const ESCAPE_ROOM: usize = 4;
 pub const TAB: u8 = 9;
 
 // A hexadecimal digit.
-fn hex_digit(d: u8) -> u8
+pub fn hex_digit(d: u8) -> u8
     requires { ⌜ d < 16 ⌝ }
     ensures { λ r. ⌜ r ≡ hexDigit d ⌝ }
 {

@@ -1,4 +1,5 @@
 // What the program is started with.
+use check::same;
 ghost use Prim.Native.Nat.{_≤_};
 
 // What an argument stands for: a number, or nothing that is allowed.
@@ -77,4 +78,11 @@ pub fn flags(text: &[u8]) -> Value {
         Value::Is(n) => Value::Is(n),
         Value::Wrong => letters(text),
     }
+}
+
+// Whether the arguments begin with the word that asks for a page.
+pub fn asks_for_page() -> bool {
+    let mut text = io::buffer();
+    let n = os::arg(1, &mut text);
+    same(&text[..n], b"--page")
 }

@@ -6,6 +6,7 @@ mod output;
 mod refusals;
 
 pub use arguments::Value;
+pub use arguments::asks_for_page;
 pub use arguments::decimal;
 pub use arguments::flags;
 pub use input::Line;
@@ -20,4 +21,5 @@ pub use output::put;
 pub use output::put_number;
 pub use output::say;
 pub use output::say_number;
+pub use output::say_progress;
 pub use refusals::say_refusal;

@@ -52,3 +52,15 @@ pub fn say_number(before: &[u8], n: u64, behind: &[u8]) {
     io::print_decimal(STDERR_FILENO, n);
     say(behind);
 }
+
+// Says how far a run is, to one who waits at a terminal for what is written elsewhere. A run that nobody watches, and one whose report itself goes to
+// the terminal, say nothing.
+pub fn say_progress(before: &[u8], n: u64, behind: &[u8]) {
+    if libc::isatty(STDERR_FILENO) != 1 {
+        return;
+    }
+    if libc::isatty(STDOUT_FILENO) == 1 {
+        return;
+    }
+    say_number(before, n, behind);
+}

@@ -7,8 +7,6 @@ use crate::counts::UNMATCHED;
 use crate::counts::count;
 use crate::telling::is_unmatched;
 use crate::telling::tell;
-use crate::unmatched::RULE;
-use crate::unmatched::put_reason;
 use explaining::Explanation;
 use explaining::explain_held;
 use frame::NAME_INDEX_NEED;
@@ -21,20 +19,16 @@ use office::flush;
 use office::next_line;
 use office::put;
 use office::put_number;
-use office::say_number;
+use office::say_progress;
+use page_lines::LINE;
+use page_lines::RESULT_AREA;
+use page_lines::RULE_AREA;
+use page_lines::WORK_AREA;
+use report_line::RULE;
+use report_line::put_reason;
 ghost use Prim.Native.Nat.{_≤_};
 ghost use lib.ListN.{length};
-ghost use Rattle.readings.specs.Rules.{Holds};
-
-// What is lent to the calls: 16 numbers for each step of the largest budget, and 1,000 rows.
-pub const RULE_AREA: usize = frame::RULE_AREA_NEED;
-
-pub const WORK_AREA: usize = frame::WORK_PER_STEP * frame::BUDGET_LIMIT as usize;
-
-pub const RESULT_AREA: usize = 1000 * index::ROW_LENGTH;
-
-// A line that fills this is too long: the longest that can be listed has one byte less.
-pub const LINE: usize = frame::SUBJECT_LIMIT + 1;
+ghost use Rattle.page_lines.specs.Rules.{Holds};
 
 // How many lines pass between two messages.
 const PROGRESS: u64 = 10000;
@@ -116,7 +110,7 @@ fn tell_line(
     count(counts, LINES);
     let n = counts[LINES];
     if n % PROGRESS == 0 {
-        say_number(b"readings: ", n, b" lines\n");
+        say_progress(b"readings: ", n, b" lines\n");
     }
     let p = put_number(out, at, b"line ", n, b": ");
     if line.len() == LINE {

@@ -7,13 +7,13 @@ use crate::counts::MANY;
 use crate::counts::ONCE;
 use crate::counts::UNSETTLED;
 use crate::counts::count;
-use crate::display::put_line;
 use frame::NAME_INDEX_NEED;
 use index::ROW_LENGTH;
 use listing::Listing;
 use office::ROOM;
 use office::put;
 use office::put_number;
+use report_line::put_line;
 ghost use Prim.Native.Nat.{_≤_};
 ghost use lib.ListN.{length};
 

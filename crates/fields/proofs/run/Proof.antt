@@ -6,7 +6,7 @@ use native.Mathlib.Omega.{arith}
 use lib.ListN.{length-take}
 use Rattle.syntax.specs.Limits.{ruleAreaNeed}
 use Rattle.frame.specs.Laws.Preparing.{is-ready}
-use Rattle.fields.proofs.Holding.{readied-holds}
+use Rattle.page_lines.specs.Laws.Holding.{readied-holds}
 use borrow.Author.Needs.{needs}
 use Rattle.fields.proofs.run.Statement.{statement}
 use Rattle.fields.proofs.run.Tie as tie
@@ -47,7 +47,7 @@ slice-aggregate-look-on c = simp length-take (omega arith)
 look-on-requires : tie.Need-look-on-requires
 unfolding ruleAreaNeed
 look-on-requires c κs =
-    (readied-holds (is-ready (c .before .before .before .before .before .before .before .before .before .before .prepare .ensures 0 [] [] refl refl) _ _ (c .before .before .before .before .before .before .before .entry .given .1)) (omega arith), c .before .before .before .before .before .before .before .before .before .before .before .before .before .before .before .before .before .before .before .pre .1)
+    (readied-holds (is-ready (c .before .before .before .before .before .before .before .before .before .before .prepare .ensures 0 [] [] refl refl) _ _ (c .before .before .before .before .before .before .before .entry .given .1)) (omega arith), c .before .before .before .before .before .before .before .before .before .before .before .before .before .before .before .before .before .before .before .pre .1, c .before .before .before .before .before .before .before .before .before .before .before .before .before .before .before .before .before .before .before .pre .0)
 
 returns : tie.Need-returns
 returns c = search needs

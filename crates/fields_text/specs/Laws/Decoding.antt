@@ -31,7 +31,7 @@ decode s =
 abbrev front : List ℕ → ℕ → ℕ × List ℕ
 front rest b = (b, rest)
 
-digit-back : (d : ℕ) → digitValue (hexDigit d) ≡ d
+pub digit-back : (d : ℕ) → digitValue (hexDigit d) ≡ d
 unfolding digitValue hexDigit
 digit-back d = go (ltb d 10) refl
   where

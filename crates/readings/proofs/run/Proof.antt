@@ -4,7 +4,7 @@ use mathlib.Core.List.{[]}
 use native.Mathlib.Omega.{arith}
 use Rattle.syntax.specs.Limits.{ruleAreaNeed}
 use Rattle.frame.specs.Laws.Preparing.{is-ready}
-use Rattle.readings.proofs.Holding.{readied-holds}
+use Rattle.page_lines.specs.Laws.Holding.{readied-holds}
 use borrow.Author.Needs.{needs}
 use Rattle.readings.proofs.run.Statement.{statement}
 use Rattle.readings.proofs.run.Tie as tie
@@ -30,16 +30,19 @@ enum-known-entry c = search needs
 slice-aggregate-open : tie.Need-slice-aggregate-open
 slice-aggregate-open c = search needs
 
+add-open : tie.Need-add-open
+add-open c = search needs
+
 open-requires : tie.Need-open-requires
 open-requires c κs = search needs
 
 margin-for-requires : tie.Need-margin-for-requires
 margin-for-requires c κs = search needs
 
-report-lines-requires : tie.Need-report-lines-requires
+write-report-requires : tie.Need-write-report-requires
 unfolding ruleAreaNeed
-report-lines-requires c κs =
-    (readied-holds (is-ready (c .before .before .before .before .before .before .before .before .before .before .before .before .before .before .prepare .ensures 0 [] [] refl refl) _ _ (c .before .before .before .before .before .before .before .before .before .before .before .entry .given .1)) (omega arith), c .before .before .before .before .before .before .before .before .before .before .before .before .before .before .before .before .before .before .before .pre)
+write-report-requires c κs =
+    (readied-holds (is-ready (c .before .before .before .before .before .before .before .before .before .before .before .before .before .before .prepare .ensures 0 [] [] refl refl) _ _ (c .before .before .before .before .before .before .before .before .before .before .before .entry .given .1)) (omega arith), c .before .before .before .before .before .before .before .before .before .before .before .before .before .before .before .before .before .before .before .pre .0)
 
 returns : tie.Need-returns
 returns c = search needs
@@ -61,9 +64,10 @@ run-spec =
     say-refusal-requires
     enum-known-entry
     slice-aggregate-open
+    add-open
     open-requires
     margin-for-requires
-    report-lines-requires
+    write-report-requires
     returns
     returns-2
     returns-3)

@@ -8,6 +8,9 @@ use Rattle.readings.proofs.start.Tie as tie
 slice-aggregate-open : tie.Need-slice-aggregate-open
 slice-aggregate-open c = search needs
 
+add-open : tie.Need-add-open
+add-open c = search needs
+
 open-requires : tie.Need-open-requires
 open-requires c κs = search needs
 
@@ -42,7 +45,7 @@ slice-aggregate-run : tie.Need-slice-aggregate-run
 slice-aggregate-run c = simp length-take (omega arith)
 
 run-requires : tie.Need-run-requires
-run-requires c κs = simp length-take (omega arith)
+run-requires c κs = (simp length-take (omega arith), c .before .before .before .before .before .before .before .before .before .before .before .before .before .before .before .pre)
 
 returns-3 : tie.Need-returns-3
 returns-3 c = search needs
@@ -52,6 +55,7 @@ start-spec =
     tie.close
     (tie.spec
     slice-aggregate-open
+    add-open
     open-requires
     returns
     large-buffer-requires

@@ -1,19 +1,19 @@
 -- The rule is held, so that it can be asked; the areas are as long as their arrays.
 use native.Mathlib.Omega.{arith}
 use Rattle.syntax.specs.Limits.{budgetLimit, ruleAreaNeed, workPerStep, groupLimit, spansLength, rowLength, nameLimit, nameEntry, nameIndexNeed}
-use Rattle.fields.proofs.Holding.{holds-lent}
+use Rattle.page_lines.specs.Laws.Holding.{holds-lent}
 use borrow.Author.Needs.{needs}
 use Rattle.fields.proofs.lines.tell_line.Statement.{statement}
 use Rattle.fields.proofs.lines.tell_line.Tie as tie
 
-slice-aggregate-say-number : tie.Need-slice-aggregate-say-number
-slice-aggregate-say-number c = search needs
+slice-aggregate-say-progress : tie.Need-slice-aggregate-say-progress
+slice-aggregate-say-progress c = search needs
 
-slice-aggregate-say-number-2 : tie.Need-slice-aggregate-say-number-2
-slice-aggregate-say-number-2 c = search needs
+slice-aggregate-say-progress-2 : tie.Need-slice-aggregate-say-progress-2
+slice-aggregate-say-progress-2 c = search needs
 
-say-number-requires : tie.Need-say-number-requires
-say-number-requires c κs = search needs
+say-progress-requires : tie.Need-say-progress-requires
+say-progress-requires c κs = search needs
 
 slice-aggregate-ask : tie.Need-slice-aggregate-ask
 slice-aggregate-ask c = search needs
@@ -32,9 +32,9 @@ pub tell-line-spec : {M : Type 1} → statement M
 tell-line-spec =
     tie.close
     (tie.spec
-    slice-aggregate-say-number
-    slice-aggregate-say-number-2
-    say-number-requires
+    slice-aggregate-say-progress
+    slice-aggregate-say-progress-2
+    say-progress-requires
     slice-aggregate-ask
     ask-requires
     put-row-requires

@@ -6,10 +6,16 @@ use Rattle.fields.proofs.options.read_options.Statement.{statement}
 use Rattle.fields.proofs.options.read_options.Tie as tie
 
 abbrev Inv-loop : tie.InvT-loop
-Inv-loop flags₀ budget₀ text₀ at₀ flags budget text at = at ≤ 101
+Inv-loop paged flags₀ budget₀ text₀ at₀ flags budget text at = at ≤ 101
 
 abbrev μ-loop : tie.MeasureT-loop
-μ-loop flags₀ budget₀ text₀ at₀ flags budget text at = 102 - at
+μ-loop paged flags₀ budget₀ text₀ at₀ flags budget text at = 102 - at
+
+asks-for-page-requires : tie.Need-asks-for-page-requires Inv-loop μ-loop
+asks-for-page-requires c κs = search needs
+
+first-letter-requires : tie.Need-first-letter-requires Inv-loop μ-loop
+first-letter-requires c κs = search needs
 
 loop-holds : tie.Need-loop-holds Inv-loop μ-loop
 loop-holds c = omega arith
@@ -56,6 +62,8 @@ read-options-spec =
     (tie.spec
     Inv-loop
     μ-loop
+    asks-for-page-requires
+    first-letter-requires
     loop-holds
     letter-requires
     returns

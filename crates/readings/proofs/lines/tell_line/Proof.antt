@@ -1,7 +1,7 @@
 -- The rule is held, and a line that does not fill its buffer is short enough to be listed.
 use native.Mathlib.Omega.{arith}
 use Rattle.syntax.specs.Limits.{subjectLimit, budgetLimit, ruleAreaNeed, workPerStep}
-use Rattle.readings.proofs.Holding.{holds-held}
+use Rattle.page_lines.specs.Laws.Holding.{holds-held}
 use borrow.Author.Needs.{needs}
 use Rattle.readings.proofs.lines.tell_line.Statement.{statement}
 use Rattle.readings.proofs.lines.tell_line.Tie as tie
@@ -13,14 +13,14 @@ count-requires c κs = search needs
 element-copy-out-n : tie.Need-element-copy-out-n
 element-copy-out-n c = search needs
 
-slice-aggregate-say-number : tie.Need-slice-aggregate-say-number
-slice-aggregate-say-number c = search needs
+slice-aggregate-say-progress : tie.Need-slice-aggregate-say-progress
+slice-aggregate-say-progress c = search needs
 
-slice-aggregate-say-number-2 : tie.Need-slice-aggregate-say-number-2
-slice-aggregate-say-number-2 c = search needs
+slice-aggregate-say-progress-2 : tie.Need-slice-aggregate-say-progress-2
+slice-aggregate-say-progress-2 c = search needs
 
-say-number-requires : tie.Need-say-number-requires
-say-number-requires c κs = search needs
+say-progress-requires : tie.Need-say-progress-requires
+say-progress-requires c κs = search needs
 
 slice-aggregate-put-number : tie.Need-slice-aggregate-put-number
 slice-aggregate-put-number c = search needs
@@ -68,9 +68,9 @@ tell-line-spec =
     (tie.spec
     count-requires
     element-copy-out-n
-    slice-aggregate-say-number
-    slice-aggregate-say-number-2
-    say-number-requires
+    slice-aggregate-say-progress
+    slice-aggregate-say-progress-2
+    say-progress-requires
     slice-aggregate-put-number
     slice-aggregate-put-number-2
     put-number-requires

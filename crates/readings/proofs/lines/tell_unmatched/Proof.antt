@@ -2,8 +2,8 @@
 use denote.Ref.{now}
 use native.Mathlib.Omega.{arith}
 use Rattle.syntax.specs.Limits.{subjectLimit, budgetLimit, ruleAreaNeed, workPerStep}
-use Rattle.readings.proofs.Closest.{told-inside}
-use Rattle.readings.proofs.Holding.{holds-held}
+use Rattle.page_lines.specs.Laws.Closest.{told-inside}
+use Rattle.page_lines.specs.Laws.Holding.{holds-held}
 use borrow.Author.Needs.{needs}
 use Rattle.readings.proofs.lines.tell_unmatched.Statement.{statement}
 use Rattle.readings.proofs.lines.tell_unmatched.Tie as tie

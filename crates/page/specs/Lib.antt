@@ -1,0 +1,1 @@
+-- The page's functions are safe and end; what is shown is promised by `page_text`.

@@ -1,3 +1,0 @@
--- What the functions' proofs cite.
-mod Holding
-mod Closest

@@ -1,0 +1,1 @@
+-- The functions are safe and end; of what they write nothing is promised.
