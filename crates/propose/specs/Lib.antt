@@ -1,0 +1,2 @@
+-- What the contracts speak of: the rule that is held.
+pub mod Rules
