@@ -75,7 +75,7 @@ fn serve_or_refuse(rule: &[u8], out: &mut [u8])
     requires { ⌜ answerRoom ≤ length (now out) ⌝ }
 {
     let mut rule_area = [0u32; RULE_AREA];
-    let readiness = prepare(rule, &mut rule_area);
+    let readiness = prepare(rule, false, &mut rule_area);
     match readiness {
         Readiness::Ready(entry, groups) => serve(&rule_area, entry, groups, out),
         Readiness::Refused(f) => say_refusal(f, out),

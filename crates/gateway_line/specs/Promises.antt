@@ -1,10 +1,13 @@
 -- What the functions promise.
 -- docs/REFERENCE.md, 19.1
 use mathlib.Core.Path.{_≡_}
+use mathlib.Core.Bool.{Bool, true, false}
+use mathlib.Core.Logic.{_⊎_}
 use mathlib.Core.List.{List, [], _++_}
 use Prim.Native.Nat.{ℕ, _+_, _≤_, _<_}
 use lib.ListN.{length, take, drop}
 use lib.Dec.{ltb}
+use Rattle.syntax.specs.declared.Refusal.{Refusal}
 use Rattle.syntax.specs.Limits.{ruleAreaNeed, rowLength, groupLimit}
 use Rattle.syntax.specs.Refusals.{numberOf}
 use Rattle.syntax.specs.Read.{if_then_else_, sound, refused}
@@ -13,6 +16,7 @@ use Rattle.semantics.specs.States.{Row, row}
 use Rattle.semantics.specs.Answers.{Outcome, matched, notMatched, exhausted, answer}
 use Rattle.semantics.specs.Calls.{workAreaNeed, over, MatchOutcome, Matched, NotMatched, Exhausted, Refused}
 use Rattle.machine.specs.Theorem.{Stands}
+use Rattle.reader.specs.Compiles.{Unfollowed}
 use Rattle.text.specs.Writing.{Wrote}
 use Rattle.gateway_text.specs.Limits.{answerRoom}
 use Rattle.gateway_text.specs.Lines.{matchedLine, notMatchedLine, exhaustedLine, refusalLine}
@@ -20,7 +24,7 @@ use Rattle.gateway_text.specs.Promises.{WroteLine}
 use Rattle.gateway_line.specs.declared.streaming.Progress.{Progress}
 use Rattle.gateway_line.specs.declared.rules.Readiness.{Readiness}
 use Rattle.gateway_line.specs.declared.rules.Readiness.the-variants.{Ready, Refused as Denied}
-use Rattle.gateway_line.specs.Limits.{lineLimit, heldLimit, gatewayBudget}
+use Rattle.gateway_line.specs.Limits.{gatewayFlags, lineLimit, heldLimit, gatewayBudget}
 use Rattle.gateway_line.specs.Answers.{gatewayRule, answerLine}
 use Rattle.gateway_line.specs.Gateway.{answers}
 
@@ -37,9 +41,14 @@ pub record Standing (rule code : List ℕ) (entry groups : ℕ) : Type 0 where
   pub stands : Stands code tree entry
   pub few : groups ≤ groupLimit
 
-abbrev pub Prepares : (rule code : List ℕ) → Readiness → Type 0
-Prepares rule code (Ready entry groups) = Standing rule code entry groups
-Prepares rule code (Denied f) = gatewayRule rule ≡ refused (f .place) (f .reason)
+-- why a rule is refused; for a check, also why it cannot follow one that is sound
+abbrev pub Denies : (checked : Bool) (rule : List ℕ) → Refusal → Type 0
+Denies false rule f = gatewayRule rule ≡ refused (f .place) (f .reason)
+Denies true rule f = (gatewayRule rule ≡ refused (f .place) (f .reason)) ⊎ Unfollowed rule gatewayFlags f
+
+abbrev pub Prepares : (checked : Bool) (rule code : List ℕ) → Readiness → Type 0
+Prepares checked rule code (Ready entry groups) = Standing rule code entry groups
+Prepares checked rule code (Denied f) = Denies checked rule f
 
 -- what every answer is lent: a rule that stands compiled, with its number of groups, and areas that are long enough
 pub record Lent (code : List ℕ) (entry groups : ℕ) (workArea results : List ℕ) : Type 0 where

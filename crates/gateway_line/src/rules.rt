@@ -17,10 +17,10 @@ pub enum Readiness {
     Refused(Refusal),
 }
 
-// Reads a rule. If it is sound, it stands compiled in the area, and serves for all lines.
-pub fn prepare(rule: &[u8], rule_area: &mut [u32]) -> Readiness
+// Reads a rule. If it is sound, and if a check that asks for it can follow it, it stands compiled in the area, and serves for all lines.
+pub fn prepare(rule: &[u8], checked: bool, rule_area: &mut [u32]) -> Readiness
     requires { ⌜ length (now «rule_area») ≡ ruleAreaNeed ⌝ }
-    ensures { λ r. ⌜ Prepares (now (rule .entry)) (now («rule_area» .exit)) r ⌝ }
+    ensures { λ r. ⌜ Prepares checked (now (rule .entry)) (now («rule_area» .exit)) r ⌝ }
 {
     if RULE_LIMIT < rule.len() {
         return Readiness::Refused(Refusal {
@@ -28,7 +28,7 @@ pub fn prepare(rule: &[u8], rule_area: &mut [u32]) -> Readiness
             reason: Reason::RuleTooLong,
         });
     }
-    let compiled = compile(rule, FLAGS, false, rule_area);
+    let compiled = compile(rule, FLAGS, checked, rule_area);
     match compiled {
         Compilation::Refused(f) => Readiness::Refused(f),
         Compilation::Sound(pc, groups) => {

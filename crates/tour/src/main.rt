@@ -226,7 +226,7 @@ fn put_line(code: &[u32], entry: u32, groups: u32, line: &[u8])
 fn put_code(rule: &[u8], line: &[u8], area: &mut [u32], used: usize)
     requires { ⌜ (length (now area) ≡ ruleAreaNeed) × (used ≤ length (now area)) × (length (now line) < 2 ^ 31) ⌝ }
 {
-    let readiness = prepare(rule, area);
+    let readiness = prepare(rule, false, area);
     let Readiness::Ready(entry, groups) = readiness else {
         return;
     };

@@ -20,12 +20,12 @@ use Rattle.syntax.specs.declared.Refusal.{Refusal}
 use Rattle.semantics.specs.Laws.Cases.{le-or}
 use Rattle.reader.specs.declared.compiling.Compilation.{Compilation}
 use Rattle.reader.specs.declared.compiling.Compilation.the-variants.{Sound, Refused}
-use Rattle.reader.specs.Compiles.{Compiles}
+use Rattle.reader.specs.Compiles.{Fails, Compiles}
 use Rattle.frame.specs.Laws.Compiled.{compile-sound}
 use Rattle.gateway_line.specs.Limits.{gatewayFlags}
 use Rattle.gateway_line.specs.Answers.{gatewayRule}
 use Rattle.gateway_line.specs.Gateway.{answers, withRule}
-use Rattle.gateway_line.specs.Promises.{Reads, Standing}
+use Rattle.gateway_line.specs.Promises.{Reads, Standing, Denies}
 
 module _ (s : List ℕ) where
   pub longRule : ruleLimit < length s → gatewayRule s ≡ refused 0 RuleTooLong
@@ -52,11 +52,22 @@ module _ (s : List ℕ) where
     pub fewGroups : groups ≤ groupLimit
     fewGroups = let w : WellFormed groups tree = rw soundReads at (well-formed s gatewayFlags) in w .few
 
+  -- a rule that is refused is refused, whether a check asks or not
+  pub denied : (checked : Bool) (f : Refusal) → gatewayRule s ≡ refused (f .place) (f .reason) → Denies checked s f
+  denied false f e = e
+  denied true f e = inl e
+
+  -- as it reads, if it is not too long
+  deniedAs : length s ≤ ruleLimit → (checked : Bool) (f : Refusal) → Fails checked s gatewayFlags f → Denies checked s f
+  deniedAs short false f e = shortRule short ∙ e
+  deniedAs short true f (inl e) = inl (shortRule short ∙ e)
+  deniedAs short true f (inr u) = inr u
+
   -- what compiling tells of a rule that is not too long
-  module _ (short : length s ≤ ruleLimit) {old new : List ℕ} {x : Compilation} (done : Compiles false s 0 old new x) where
-    pub compiledRefused : (f : Refusal) → x ≡ Refused f → gatewayRule s ≡ refused (f .place) (f .reason)
+  module _ (short : length s ≤ ruleLimit) {checked : Bool} {old new : List ℕ} {x : Compilation} (done : Compiles checked s 0 old new x) where
+    pub compiledRefused : (f : Refusal) → x ≡ Refused f → Denies checked s f
     unfolding gatewayFlags
-    compiledRefused f e = shortRule short ∙ rw e at (done .says)
+    compiledRefused f e = deniedAs short checked f (rw e at (done .says))
 
     -- in an area that is no longer than is needed
     pub compiledSound : (pc groups : ℕ) → x ≡ Sound pc groups → length new ≡ ruleAreaNeed → Standing s new pc groups

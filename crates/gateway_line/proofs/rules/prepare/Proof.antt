@@ -4,14 +4,14 @@ use mathlib.Core.Path.{_∙_}
 use denote.Ref.{now}
 use Rattle.syntax.specs.Limits.{ruleLimit, ruleAreaNeed}
 use Rattle.frame.specs.Laws.Compiled.{compile-near}
-use Rattle.gateway_line.specs.Laws.Rules.{longRule, compiledRefused, compiledSound}
+use Rattle.gateway_line.specs.Laws.Rules.{longRule, denied, compiledRefused, compiledSound}
 use borrow.Author.Needs.{needs}
 use Rattle.gateway_line.proofs.rules.prepare.Statement.{statement}
 use Rattle.gateway_line.proofs.rules.prepare.Tie as tie
 
 returns : tie.Need-returns
 unfolding ruleLimit
-returns c = longRule (now (c .before .before .before .args .rule)) (omega arith)
+returns c = let s = c .before .before .before in denied (now (s .args .rule)) (s .args .checked) _ (longRule (now (s .args .rule)) (omega arith))
 
 compile-requires : tie.Need-compile-requires
 unfolding ruleLimit
