@@ -70,7 +70,7 @@ fn put_proposed(out: &mut [u8; ROOM], at: usize, proposed: Proposed, proposal: &
         }
         Proposed::Exhausted => put(out, at, b"- exhausted\n"),
         Proposed::NoRoom => put(out, at, b"- no room\n"),
-        Proposed::Unfound => put(out, at, b"- not followed\n"),
+        Proposed::Unfound => put(out, at, b"- not made\n"),
     }
 }
 

@@ -20,6 +20,6 @@ BUDGET      the steps that each start in a line may take, 0 to 100000; without i
 \n\
 For each line one is written: its number, from 1, a blank, the proposal in hexadecimal digits, a\n\
 blank, and the steps of its path. A line that has none has - in place of the proposal, and then why:\n\
-not matched, exhausted, too long, no room, or not followed (the rule holds a part or looks ahead).\n",
+not matched, exhausted, too long, no room, or not made. A rule that no check follows is refused.\n",
     );
 }
