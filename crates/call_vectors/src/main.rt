@@ -1,11 +1,13 @@
 // Runs the public calls and writes what they answer, with the rows.
 //
-// A line of input has nine words or more: the kind, 0 for a match, 1 for a listing, 2 for an explanation, 3 for successive matches and 4 for a day's
-// lines; the flags, the budget and the lengths of the rule area, the work area, the result area (or of the marks) and the name index in decimal; the rule;
-// and the subject in pieces, one behind another. The rule and each piece are in hex, or 'x' and a count for so many bytes `a`.
+// A line of input has ten words or more: the kind, 0 for a match, 1 for a listing, 2 for an explanation, 3 for successive matches, 4 for a day's lines and 5
+// for the check of a proposed reading; the flags, the budget and the lengths of the rule area, the work area, the result area (or of the marks) and the name
+// index in decimal; the rule; what is proposed, which only a check looks at; and the subject in pieces, one behind another. The rule, what is proposed and each
+// piece are in hex, or 'x' and a count for so many bytes `a`.
 // Behind an answer and its rows, or the parts of its lines, the entries of the name index follow that are not all 00, and then why a line does not fit.
 use batching::Batch;
 use batching::PART_LENGTH;
+use checking::Verdict;
 use explaining::Explanation;
 use failures::Failed;
 use frame::NAME_INDEX_NEED;
@@ -31,8 +33,13 @@ const SCAN: u32 = 3;
 
 const BATCH: u32 = 4;
 
+const CHECK: u32 = 5;
+
 // One byte more than a rule may have.
 const RULE_ROOM: usize = frame::RULE_LIMIT + 1;
+
+// More choices than any line of input proposes.
+const PROPOSAL_ROOM: usize = 100;
 
 // Two lines with one byte more than a line may have, and some bytes around them.
 const SUBJECT_ROOM: usize = 2 * (frame::SUBJECT_LIMIT + 1) + 1000;
@@ -235,6 +242,31 @@ fn put_listing(told: Listing, results: &[u32], names: &[u8]) {
     }
 }
 
+// What a check tells, with the reading's row and the names.
+fn put_verdict(told: Verdict, results: &[u32], names: &[u8]) {
+    match told {
+        Verdict::Reading(steps) => {
+            put(b"a reading ");
+            put_steps(steps);
+            put_rows(results, 1);
+            put_names(names);
+        }
+        Verdict::Nothing(steps) => {
+            put(b"no reading ");
+            put_steps(steps);
+            put_names(names);
+        }
+        Verdict::Exhausted(start, steps) => {
+            put(b"exhausted at ");
+            put_word(start);
+            put(b" ");
+            put_steps(steps);
+            put_names(names);
+        }
+        Verdict::Refused(f) => put_refusal(f),
+    }
+}
+
 // What a line's first two numbers behind its row tell: how it ends, and the start or the refusal. The others have 0 there, which is not written.
 fn put_ending(kind: u32, which: u32) {
     if kind == 0 {
@@ -391,6 +423,7 @@ fn tell_results(
     flags: u32,
     sub: &[u8],
     budget: u32,
+    proposal: &[u8],
     area: &mut [u32],
     work: &mut [u32],
     results: &mut [u32],
@@ -411,6 +444,21 @@ fn tell_results(
         put_batch(told, results, names);
         return;
     }
+    if kind == CHECK {
+        let told = checking::check(
+            rule,
+            flags,
+            sub,
+            budget,
+            proposal,
+            area,
+            work,
+            results,
+            names,
+        );
+        put_verdict(told, results, names);
+        return;
+    }
     let told = listing::list_readings(rule, flags, sub, budget, area, work, results, names);
     put_listing(told, results, names);
 }
@@ -422,6 +470,7 @@ fn tell(
     flags: u32,
     sub: &[u8],
     budget: u32,
+    proposal: &[u8],
     area: &mut [u32],
     work: &mut [u32],
     results: &mut [u32],
@@ -433,7 +482,18 @@ fn tell(
         tell_why(rule, flags, sub, budget, area, work, names, &mut marks[..k]);
         return;
     }
-    tell_results(kind, rule, flags, sub, budget, area, work, results, names);
+    tell_results(
+        kind,
+        rule,
+        flags,
+        sub,
+        budget,
+        proposal,
+        area,
+        work,
+        results,
+        names,
+    );
 }
 
 // A word of a line.
@@ -506,12 +566,13 @@ fn pieces(input: &[u8], from: usize, to: usize, area: &mut [u8]) -> usize
     n
 }
 
-// The call that the line between two positions asks for, on a subject.
+// The call that the line between two positions asks for, on a subject and with what is proposed.
 fn call(
     input: &[u8],
     from: usize,
     to: usize,
     sub: &[u8],
+    proposal: &[u8],
     area: &mut [u32],
     work: &mut [u32],
     results: &mut [u32],
@@ -535,6 +596,7 @@ fn call(
         flags,
         sub,
         budget,
+        proposal,
         &mut area[..a],
         &mut work[..b],
         &mut results[..c],
@@ -542,7 +604,7 @@ fn call(
     );
 }
 
-// The subject from its pieces, and then the call.
+// The subject from its pieces, what is proposed, and then the call.
 fn line(
     input: &[u8],
     from: usize,
@@ -555,9 +617,22 @@ fn line(
     requires { ⌜ (from ≤ to) × (to ≤ length (now input)) ⌝ }
 {
     let mut sub = [b'a'; SUBJECT_ROOM];
-    let w = word(input, from, to, 8);
+    let w = word(input, from, to, 9);
     let n = pieces(input, w.at, to, &mut sub);
-    call(input, from, to, &sub[..n], area, work, results, names);
+    let mut proposal = [b'a'; PROPOSAL_ROOM];
+    let v = word(input, from, to, 8);
+    let m = piece(input, v.at, v.end, &mut proposal, 0);
+    call(
+        input,
+        from,
+        to,
+        &sub[..n],
+        &proposal[..m],
+        area,
+        work,
+        results,
+        names,
+    );
 }
 
 fn lines(input: &[u8], area: &mut [u32], work: &mut [u32], results: &mut [u32], names: &mut [u8]) {

@@ -42,7 +42,7 @@ within-requires-3 : tie.Need-within-requires-3
 within-requires-3 c κs = search needs
 
 number-requires-7 : tie.Need-number-requires-7
-number-requires-7 c κs = c .before .before .before .before .before .before .before .before .before .before .before .before .before .before .before .before .before .before .before .pre
+number-requires-7 c κs = c .before .before .before .before .before .before .before .before .before .before .before .before .before .before .before .before .before .before .before .before .pre
 
 within-requires-4 : tie.Need-within-requires-4
 within-requires-4 c κs = search needs
