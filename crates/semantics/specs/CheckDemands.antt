@@ -2,6 +2,7 @@
 -- all inputs: any bytes may be sent, "whoever sent it".
 --
 -- As in Demands, n is a start, t a state in which the rule's end is reached, x a reading, as a row.
+-- docs/REFERENCE.md, 16.10
 use mathlib.Core.Path.{_≡_}
 use mathlib.Core.List.{List, _∷_, map}
 use mathlib.Core.Logic.{inl, inr, _↔_}

@@ -1,4 +1,5 @@
 -- The demands of CheckDemands hold, for all inputs: 02's request m), of any bytes that are sent, and back.
+-- docs/REFERENCE.md, 16.10
 use mathlib.Core.Path.{_≡_}
 use mathlib.Core.List.{List}
 use mathlib.Core.Option.{none, some}

@@ -1,4 +1,5 @@
 -- The call that checks a proposed reading, 02's request m): "The office proposes a reading, the box checks it."
+-- docs/REFERENCE.md, 16.10
 use mathlib.Core.List.{List, []}
 use mathlib.Core.Option.{Option, none, some}
 use Prim.Native.Nat.{ℕ}

@@ -1,5 +1,6 @@
 -- A proposed reading. 02, request m): the office sends "the choices it found: start as two bytes, low first, then one byte a choice, 0 for going on, 1 for
 -- another round, or the branch's number from 0", and the box "counts steps along that one path".
+-- docs/REFERENCE.md, 16.10
 use mathlib.Core.List.{List, [], _∷_}
 use mathlib.Core.Bool.{Bool, false}
 use Prim.Native.Nat.{ℕ, zero, suc, _+_, _*_}

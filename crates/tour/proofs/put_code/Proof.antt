@@ -32,7 +32,7 @@ put-numbers-requires : tie.Need-put-numbers-requires
 put-numbers-requires c κs = search needs
 
 put-line-requires : tie.Need-put-line-requires
-put-line-requires c κs = ((_, rw (c .before .before .before .before .before .before .before .readiness .given .1) at (c .before .before .before .before .before .before .before .before .before .before .before .prepare .ensures)), c .before .before .before .before .before .before .before .before .before .before .before .prepare .kept .1 .0 ∙ c .before .before .before .before .before .before .before .before .before .before .before .before .before .before .before .before .pre .0, c .before .before .before .before .before .before .before .before .before .before .before .before .before .before .before .before .pre .2)
+put-line-requires c κs = ((_, rw (c .before .before .before .before .before .before .before .readiness .given .1) at (c .before .before .before .before .before .before .before .before .before .before .before .prepare .ensures)), c .before .before .before .before .before .before .before .before .before .before .before .prepare .kept .1 .1 .0 ∙ c .before .before .before .before .before .before .before .before .before .before .before .before .before .before .before .before .pre .0, c .before .before .before .before .before .before .before .before .before .before .before .before .before .before .before .before .pre .2)
 
 same-length-2 : tie.Need-same-length-2
 same-length-2 c = search needs
