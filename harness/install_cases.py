@@ -1,7 +1,7 @@
 #!/usr/bin/env python3
 """Installs below a prefix of its own, uses what is there as a new user would, and takes it away again.
 
-Usage: harness/install_cases.py (after `rt staticlib terravisco` and `rt check gateway readings fields card`). The last line is 'N passed, M failed'.
+Usage: harness/install_cases.py (after `rt staticlib terravisco` and `rt check gateway readings fields card propose gateway_check`). The last line is 'N passed, M failed'.
 """
 import os
 import re
@@ -17,8 +17,8 @@ ROOT = Path(__file__).resolve().parent.parent
 EXAMPLE = ROOT / "harness" / "c" / "example.c"
 EXPECTED = (ROOT / "harness" / "c" / "example.expected").read_text()
 HEADER = (ROOT / "include" / "terravisco.h").read_text()
-PROGRAMS = ("gateway", "readings", "fields", "card")
-PAGES = [("gateway", 1), ("readings", 1), ("fields", 1), ("card", 1), ("terravisco", 3), ("terravisco-rules", 7)]
+PROGRAMS = ("gateway", "readings", "fields", "card", "propose", "gateway_check")
+PAGES = [*((program, 1) for program in PROGRAMS), ("terravisco", 3), ("terravisco-rules", 7)]
 STRICT = ["-std=c99", "-pedantic", "-Wall", "-Wextra", "-Werror"]
 
 # each place below the prefix, with its mode
@@ -165,7 +165,7 @@ def not_built(t):
     shutil.copy(ROOT / "target" / "staticlib" / "libterravisco.a", clone / "target" / "staticlib")
     (clone / "target" / "bin").mkdir()
     for program in PROGRAMS:
-        wanted = "install: the program %s is not built yet: rt check gateway readings fields card\n" % program
+        wanted = "install: the program %s is not built yet: rt check %s\n" % (program, " ".join(PROGRAMS))
         t.same("no " + program, t.install("p", status=1, script=script), wanted)
         shutil.copy(ROOT / "target" / "bin" / program, clone / "target" / "bin")
     t.same("nothing was installed", Path("p").exists(), False)
@@ -204,7 +204,11 @@ def programs(t, prefix):
     Path("lines").write_bytes(b"1,5\nab\n")
     with open("lines", "rb") as lines:
         t.same("gateway", subprocess.run(["gateway"], stdin=lines, capture_output=True, env=env).stdout, b"M 0 3 0-1 2-3\nN\n")
-    for program in PROGRAMS[1:]:
+    with open("proposed", "w+b") as lines:
+        lines.write(b"01000000 a1,5\n")
+        lines.seek(0)
+        t.same("gateway_check", subprocess.run(["gateway_check"], stdin=lines, capture_output=True, env=env).stdout, b"A 1 4 1-2 3-4\n")
+    for program in PROGRAMS[1:-1]:
         t.same(program, subprocess.run([program], capture_output=True, text=True, env=env).stderr.startswith("usage: %s " % program), True)
 
 
