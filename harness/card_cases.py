@@ -13,7 +13,7 @@ from pathlib import Path
 
 import reference
 import unwritable
-from cases import Cases
+from cases import Cases, marked
 
 ROOT = Path(__file__).resolve().parent.parent
 PROGRAM = ROOT / "target" / "bin" / "card"
@@ -128,22 +128,11 @@ def words(rule, flags=0, budget=65535, groups=None):
     return "".join(line + "\n" for line in out)
 
 
-def window(text):
-    return "".join(chr(b) if 32 <= b <= 126 else "." for b in text)
-
-
 def refused(number, place=0, rule=b""):
     """Why a card, or the rule that is to become one or stands in one, is refused."""
     if number in OF_CARD:
         return "card: the card is refused, %d: %s\n" % (number, OF_CARD[number])
-    out = "card: the rule is refused, %d at %d: %s\n" % (number, place, OF_RULE[number])
-    if number >= 10:
-        for at in range(0, len(rule), 64):
-            part = rule[at:at + 64]
-            out += "  %s\n" % window(part)
-            if at <= place < at + 64:
-                out += "  %s\n" % "".join("^" if at + k == place else " " for k in range(len(part)))
-    return out
+    return "card: the rule is refused, %d at %d: %s\n%s" % (number, place, OF_RULE[number], marked(rule, place) if number >= 10 else "")
 
 
 # Running ------------------------------------------------------------------------

@@ -8,6 +8,22 @@ import time
 import unwritable
 
 
+def window(text):
+    """Bytes as a message shows them."""
+    return "".join(chr(b) if 32 <= b <= 126 else "." for b in text)
+
+
+def marked(rule, place):
+    """A refused rule as a message shows it, in windows of 64 bytes, with the place marked."""
+    out = ""
+    for at in range(0, len(rule), 64):
+        part = rule[at:at + 64]
+        out += "  %s\n" % window(part)
+        if at <= place < at + 64:
+            out += "  %s\n" % "".join("^" if at + k == place else " " for k in range(len(part)))
+    return out
+
+
 class Cases:
     def __init__(self, program):
         self.program = str(program)

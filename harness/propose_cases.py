@@ -16,7 +16,7 @@ from pathlib import Path
 
 import reference
 import unwritable
-from cases import Cases
+from cases import Cases, marked
 from walk_vectors import random_rule
 
 ROOT = Path(__file__).resolve().parent.parent
@@ -128,18 +128,9 @@ class Proposals(Cases):
     def refuses(self, name, rule, number, place, meaning, flags=0):
         """A rule that is refused: nothing is written, and the lines are not asked for."""
         Path("rule").write_bytes(rule)
-        shown = "" if number < 10 else "".join("  %s\n%s" % (window(rule[at:at + 64]), mark(rule, at, place)) for at in range(0, len(rule), 64))
+        shown = marked(rule, place) if number >= 10 else ""
         for lines in ("lines", "nothing"):
             self.run("refused, %s" % name, ["rule", lines, str(flags)], "", "propose: the rule is refused, %d at %d: %s\n%s" % (number, place, meaning, shown))
-
-
-def window(text):
-    return "".join(chr(b) if 32 <= b <= 126 else "." for b in text)
-
-
-def mark(rule, at, place):
-    """The line under a window of the rule that has the place."""
-    return "  %s\n" % "".join("^" if at + k == place else " " for k in range(len(rule[at:at + 64]))) if at <= place < at + 64 else ""
 
 
 class Checks:
