@@ -368,7 +368,7 @@ def rules(t, checks):
 
 def unanswered(t, checks):
     """Where the answers cannot be written, that is said once."""
-    for name, rule, data in (("lines that never end", b"y", None), ("one line", b"y", b"0000 y"), ("a refused rule", b"(", b"")):
+    for name, rule, data in (("lines that never end", b"y", None), ("one line", b"y", b"0000 y"), ("more answers than wait at once", b"y", b"\n" * 65536), ("a refused rule", b"(", b"")):
         for place, output, _ in unwritable.OUTPUTS:
             Path("rule.txt").write_bytes(rule)
             with output() as out:

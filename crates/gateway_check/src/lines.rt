@@ -24,10 +24,12 @@ pub(crate) fn write_out(out: &[u8; ROOM], at: usize) -> usize {
     CLOSED
 }
 
-// Writes out the answers where nothing is left of what was read: the next read may wait.
+// Writes out the answers where nothing is left of what was read: the next read may wait. Answers that could not be written before are told here, too.
 fn deliver(out: &[u8; ROOM], at: usize, left: usize) -> usize {
     if 0 < left {
-        return at;
+        if at < CLOSED {
+            return at;
+        }
     }
     write_out(out, at)
 }
