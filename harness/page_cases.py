@@ -256,7 +256,9 @@ class Pages(Cases):
         judged = ["A line is ambiguous if another reading of what the rule took has another value in one of:"]
         for column in columns:
             judged += [" ", ("b", None, (shown(column),))]
-        self.same("fields, %s, columns" % name, [part for part in paragraphs if part[2][:1] and str(part[2][0]).startswith("A line is")], [("p", None, joined(judged))])
+        if not columns:
+            judged = ["The table has no columns, so that no line is ambiguous."]
+        self.same("fields, %s, columns" % name, [part for part in paragraphs if part[2][:1] and str(part[2][0]).startswith(("A line is", "The table"))], [("p", None, joined(judged))])
 
     def at_terminal(self, name, words, stdout):
         """What a program says to a terminal, while its standard output is a file, or that terminal."""

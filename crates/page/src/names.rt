@@ -25,8 +25,8 @@ pub(crate) fn put_name(
     put_shown(out, at, name)
 }
 
-// The names of the columns in which the readings of a line have to agree.
-pub fn put_columns(
+// The names of the columns in which the readings of a line have to agree: there is one at least.
+fn put_listed(
     out: &mut [u8; ROOM],
     at: usize,
     columns: &[u8; NAME_INDEX_NEED],
@@ -45,4 +45,23 @@ pub fn put_columns(
         i += 1;
     }
     put(out, p, b"</p>\n")
+}
+
+// In which columns the readings of a line have to agree. Where there are none, no line is ambiguous.
+pub fn put_columns(
+    out: &mut [u8; ROOM],
+    at: usize,
+    columns: &[u8; NAME_INDEX_NEED],
+    count: usize,
+) -> usize
+    requires { ⌜ count ≤ groupLimit ⌝ }
+{
+    if count == 0 {
+        return put(
+            out,
+            at,
+            b"<p>The table has no columns, so that no line is ambiguous.</p>\n",
+        );
+    }
+    put_listed(out, at, columns, count)
 }

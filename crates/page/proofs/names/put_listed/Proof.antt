@@ -3,8 +3,8 @@ use Prim.Native.Nat.{_≤_, _-_}
 use native.Mathlib.Omega.{arith}
 use Rattle.syntax.specs.Limits.{groupLimit, nameLimit, nameEntry, nameIndexNeed}
 use borrow.Author.Needs.{needs}
-use Rattle.page.proofs.names.put_columns.Statement.{statement}
-use Rattle.page.proofs.names.put_columns.Tie as tie
+use Rattle.page.proofs.names.put_listed.Statement.{statement}
+use Rattle.page.proofs.names.put_listed.Tie as tie
 
 abbrev Inv-loop : tie.InvT-loop
 Inv-loop out₀ at columns count p₀ i₀ t8 t9 t10 out p i = i ≤ count
@@ -52,8 +52,8 @@ put-requires-2 c κs = search needs
 returns : tie.Need-returns Inv-loop μ-loop
 returns c = search needs
 
-pub put-columns-spec : {M : Type 1} → statement M
-put-columns-spec =
+pub put-listed-spec : {M : Type 1} → statement M
+put-listed-spec =
     tie.close
     (tie.spec
     Inv-loop
