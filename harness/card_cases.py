@@ -13,7 +13,7 @@ from pathlib import Path
 
 import reference
 import unwritable
-from cases import Cases, marked
+from cases import FLAGS_USAGE, Cases, marked
 
 ROOT = Path(__file__).resolve().parent.parent
 PROGRAM = ROOT / "target" / "bin" / "card"
@@ -33,11 +33,7 @@ can be kept and sent. Shows what a card says, or why it is none.
 
 RULE-FILE   the rule is what stands before its first line end
 CARD-FILE   a card has at most 1064 bytes. It is written into a new file: no file is written over
-FLAGS       0 to 31, or letters: s (a dot in the rule takes every byte), m (^ and $ at each 0A),
-            i (A to Z and a to z match each other), x (blanks in the rule, and # up to the line's
-            end, are skipped), D (the depot profile, which refuses some rules: no references, no
-            repeat without upper bound of what may take no bytes, and no range but of digits, of
-            upper or of lower letters); - for none, as without it
+""" + FLAGS_USAGE + """\
 BUDGET      the steps that each start in a line may take, 0 to 65535; without it 65535
 
 What is written is shown, too. A byte of the rule outside 20 to 7E (hex) is shown as \\xHH, with ^

@@ -7,6 +7,15 @@ import time
 
 import unwritable
 
+# what the usage texts of several programs say of the flags
+FLAGS_USAGE = """\
+FLAGS       0 to 31, or letters: s (a dot in the rule takes every byte), m (^ and $ at each 0A),
+            i (A to Z and a to z match each other), x (blanks in the rule, and # up to the line's
+            end, are skipped), D (the depot profile, which refuses some rules: no references, no
+            repeat without upper bound of what may take no bytes, and no range but of digits, of
+            upper or of lower letters); - for none, as without it
+"""
+
 
 def window(text):
     """Bytes as a message shows them."""

@@ -16,7 +16,7 @@ from pathlib import Path
 
 import reference
 import unwritable
-from cases import Cases, marked
+from cases import FLAGS_USAGE, Cases, marked
 from walk_vectors import random_rule
 
 ROOT = Path(__file__).resolve().parent.parent
@@ -38,11 +38,7 @@ accepted with the match's row by every check whose budget has the steps that are
 
 RULE-FILE   the rule is what stands before its first line end
 LINES-FILE  lines of up to 65535 bytes, ended by 0A (a 0D before it is a byte of the line)
-FLAGS       0 to 31, or letters: s (a dot in the rule takes every byte), m (^ and $ at each 0A),
-            i (A to Z and a to z match each other), x (blanks in the rule, and # up to the line's
-            end, are skipped), D (the depot profile, which refuses some rules: no references, no
-            repeat without upper bound of what may take no bytes, and no range but of digits, of
-            upper or of lower letters); - for none, as without it
+""" + FLAGS_USAGE + """\
 BUDGET      the steps that each start in a line may take, 0 to 100000; without it 100000
 
 For each line one is written: its number, from 1, a blank, the proposal in hexadecimal digits, a

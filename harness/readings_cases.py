@@ -11,7 +11,7 @@ import sys
 from pathlib import Path
 
 import reference
-from cases import Cases
+from cases import FLAGS_USAGE, Cases
 from reference import ENTRY, FLAGS, GROUPS
 
 ROOT = Path(__file__).resolve().parent.parent
@@ -184,11 +184,7 @@ under the place where that ends, and the rule with ^ under what was expected the
             ambiguous, not matched, exhausted or too long (the lines are read twice)
 RULE-FILE   the rule is what stands before its first line end
 LINES-FILE  lines of up to 65535 bytes, ended by 0A (a 0D before it is a byte of the line)
-FLAGS       0 to 31, or letters: s (a dot in the rule takes every byte), m (^ and $ at each 0A),
-            i (A to Z and a to z match each other), x (blanks in the rule, and # up to the line's
-            end, are skipped), D (the depot profile, which refuses some rules: no references, no
-            repeat without upper bound of what may take no bytes, and no range but of digits, of
-            upper or of lower letters); - for none, as without it
+""" + FLAGS_USAGE + """\
 BUDGET      the steps that each start in a line may take, 0 to 100000; without it 100000
 
 Readings are counted from every start in the line: (\\d+) has three on 12. For readings of whole
