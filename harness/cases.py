@@ -3,6 +3,7 @@ import os
 import subprocess
 import sys
 import tempfile
+import threading
 import time
 
 import unwritable
@@ -15,6 +16,25 @@ FLAGS       0 to 31, or letters: s (a dot in the rule takes every byte), m (^ an
             repeat without upper bound of what may take no bytes, and no range but of digits, of
             upper or of lower letters); - for none, as without it
 """
+
+
+def fed(program, folder, data, size=0):
+    """What a program writes in a folder, to both outputs, and its status, with its input in pieces of a size; 0 is the whole at once."""
+    ran = subprocess.Popen([str(program)], cwd=folder, stdin=subprocess.PIPE, stdout=subprocess.PIPE, stderr=subprocess.PIPE, bufsize=0)
+
+    def feed():
+        try:
+            for at in range(0, len(data), size or max(1, len(data))):
+                ran.stdin.write(data[at:at + (size or len(data))])
+            ran.stdin.close()
+        except BrokenPipeError:
+            pass
+
+    feeder = threading.Thread(target=feed)
+    feeder.start()
+    out, said = ran.stdout.read(), ran.stderr.read()
+    feeder.join()
+    return out, said, ran.wait()
 
 
 def window(text):

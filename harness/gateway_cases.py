@@ -11,11 +11,11 @@ import shutil
 import subprocess
 import sys
 import tempfile
-import threading
 import time
 
 import reference
 import unwritable
+from cases import fed
 
 HERE = os.path.dirname(os.path.abspath(__file__))
 CASES = os.path.join(HERE, "gateway")
@@ -55,22 +55,7 @@ def answer(rule, groups, line):
 
 def run(folder, data, size):
     """What the program writes in a folder, with the input in pieces of a size; 0 is the whole at once."""
-    p = subprocess.Popen([PROGRAM], cwd=folder, stdin=subprocess.PIPE, stdout=subprocess.PIPE, bufsize=0)
-
-    def feed():
-        try:
-            for i in range(0, len(data), size or max(1, len(data))):
-                p.stdin.write(data[i:i + (size or len(data))])
-            p.stdin.close()
-        except BrokenPipeError:
-            pass
-
-    feeder = threading.Thread(target=feed)
-    feeder.start()
-    out = p.stdout.read()
-    p.wait()
-    feeder.join()
-    return out
+    return fed(PROGRAM, folder, data, size)[0]
 
 
 def stored():

@@ -11,12 +11,11 @@ import re
 import shutil
 import subprocess
 import sys
-import threading
 from pathlib import Path
 
 import reference
 import unwritable
-from cases import FLAGS_USAGE, Cases, marked
+from cases import FLAGS_USAGE, Cases, fed, marked
 from walk_vectors import random_rule
 
 ROOT = Path(__file__).resolve().parent.parent
@@ -141,22 +140,8 @@ class Checks:
         shutil.rmtree("box", ignore_errors=True)
         Path("box").mkdir()
         make(Path("box/rule.txt"))
-        ran = subprocess.Popen([self.program], cwd="box", stdin=subprocess.PIPE, stdout=subprocess.PIPE, stderr=subprocess.PIPE, bufsize=0)
-
-        def feed():
-            try:
-                for at in range(0, len(data), size or max(1, len(data))):
-                    ran.stdin.write(data[at:at + (size or len(data))])
-                ran.stdin.close()
-            except BrokenPipeError:
-                pass
-
-        feeder = threading.Thread(target=feed)
-        feeder.start()
-        out = ran.stdout.read()
-        said = ran.stderr.read()
-        feeder.join()
-        return out.decode("latin1"), said.decode("latin1"), ran.wait()
+        out, said, status = fed(self.program, "box", data, size)
+        return out.decode("latin1"), said.decode("latin1"), status
 
     def on(self, name, rule, data, out=None, sizes=(0,)):
         """`out` is what was written by hand; the answers that are told a second time have to be the same, too."""
