@@ -130,7 +130,8 @@ fn straight(code: &[u32], sub: &[u8], entry: u32, begin: u32, budget: u32) -> u3
     0
 }
 
-// The steps after which the start at `begin` is seen to fail, within the budget; 0 where it is not. A rule that begins with branches has no straight way.
+// The steps after which the start at `begin` is seen to fail, within the budget; 0 where it is not. A rule that begins with branches has no straight way, and
+// one that begins with a run has it only where the run's byte is missing, which is known of a start that was not passed over.
 pub fn fails_soon(code: &[u32], sub: &[u8], entry: u32, begin: u32, budget: u32) -> u32
     requires { ⌜ length (now sub) < 2 ^ 32 ⌝ }
     ensures { λ r. ⌜ (1 ≤ r → (r ≤ budget) × Fails (now (code .entry)) (now (sub .entry)) begin entry r) ⌝ }
@@ -139,7 +140,11 @@ pub fn fails_soon(code: &[u32], sub: &[u8], entry: u32, begin: u32, budget: u32)
     if code.len() <= node {
         return 0;
     }
-    if code[node] == BRANCH {
+    let kind = code[node];
+    if kind == BRANCH {
+        return 0;
+    }
+    if kind == RUN {
         return 0;
     }
     if budget < LOOKS {
