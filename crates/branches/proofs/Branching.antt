@@ -7,17 +7,38 @@ use Prim.Native.Nat.{ℕ, _+_, _*_, _-_, _≤_, _<_}
 use native.Mathlib.Omega.{arith}
 use lib.ListN.{length, getD, drop}
 use Rattle.charset.specs.Class.{has}
-use Rattle.semantics.specs.Walk.{Trace}
+use Rattle.semantics.specs.Walk.{step, Trace}
 use Rattle.machine.specs.declared.Machine.{Machine}
 use Rattle.machine.specs.declared.Walked.{Walked}
 use Rattle.machine.specs.Code.{Fits}
-use Rattle.machine.specs.Moves.{explore, Stack, Configuration, busy, go, takes}
+use Rattle.machine.specs.Moves.{explore, Stack, Configuration, busy, emitting, go, takes, carryOut, move}
 use Rattle.machine.specs.Words.{stackOf, nowOf}
 use Rattle.machine.specs.Ready.{Leads, stay, Ready}
-use Rattle.machine.specs.Laws.Code.{fits-at}
+use Rattle.machine.specs.Laws.Code.{fits-at, decode-at}
 use Rattle.machine.specs.Laws.Stack.{length-stackOf}
-use Rattle.machine.specs.Laws.Loop.{Running, ready-led, fits-now}
-use Rattle.machine.specs.Laws.Branches.{leads-branch, leads-passed, leads-taken}
+use Rattle.machine.specs.Laws.Loop.{Running, ready-led, leads-join, fits-now}
+use Rattle.machine.specs.Laws.Branches.{leads-on, leads-branch, leads-passed, leads-taken}
+use Rattle.branches.specs.Onward.{Onward}
+
+-- The last branch leads to its body.
+module _ (p sub : List ℕ) (pc at : ℕ) (regs : List ℕ) (st : Stack) (is : getD p pc 0 ≡ 6) where
+  move-last : move p sub (record { pc = pc; at = at; regs = regs; stack = st }) ≡ emitting step (go (getD p (pc + 1) 0) at regs st)
+  unfolding move carryOut
+  move-last = rw (decode-at p pc 6 is)
+
+  leads-last : Leads p sub (go pc at regs st) 1 (go (getD p (pc + 1) 0) at regs st)
+  leads-last = leads-on p sub stay is (omega arith) move-last
+
+-- What is promised of going on: there at once, or behind the last branch.
+module _ (p : List ℕ) (m : Machine) (pc used left : ℕ) (r : Walked) where
+  abbrev Come : ℕ → ℕ → Type 0
+  Come to n = (r .used ≡ n) × ((regs work : List ℕ) → nowOf regs work (r .head) ≡ go to (m .at) regs (stackOf work (m .height)))
+
+  pub onward-here : used ≤ left → Come pc used → Onward p m pc used left r
+  onward-here h e = (0, omega (arith, e .0), omega arith, λ sub regs work. rw (e .1 regs work) stay)
+
+  pub onward-last : used < left → getD p pc 0 ≡ 6 → Come (getD p (pc + 1) 0) (used + 1) → Onward p m pc used left r
+  onward-last h is e = (1, e .0, omega arith, λ sub regs work. rw (e .1 regs work) (leads-last p sub pc (m .at) regs (stackOf work (m .height)) is))
 
 -- A branch that begins at m, over the work area work₀.
 module _ (p sub work₀ : List ℕ) (m : Machine) (left : ℕ) where
@@ -94,5 +115,5 @@ module _ {p sub work₀ : List ℕ} {m : Machine} {left : ℕ} {work : List ℕ}
         pub passing-on : getD p other 0 ≡ 5 → Passing p sub work₀ m left work other (used + 2)
         passing-on b = record { same = g .same; few = omega arith; branch = b; some = g .some; leads = leads-other }
 
-        pub passing-off : (r : Walked) → (r .used ≡ used + 2) × ((regs work : List ℕ) → nowOf regs work (r .head) ≡ go other (m .at) regs (stackOf work (m .height))) → Led p sub work₀ m left work r
-        passing-off r e = (omega (arith, e .0), omega (arith, e .0), λ regs. rw (e .0, e .1 regs work, g .same) (leads-other regs))
+        pub passing-off : (r : Walked) → Onward p m other (used + 2) left r → Led p sub work₀ m left work r
+        passing-off r e = (omega (arith, e .1), omega (arith, e .1, e .2), λ regs. rw (e .1, g .same) (leads-join p sub (leads-other regs) (e .3 sub regs work₀)))

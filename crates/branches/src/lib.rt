@@ -1,9 +1,10 @@
 // Branches. Those whose first item is a byte that is not there are passed over.
 //
 // A branch that is passed over counts the two steps that the plain walk makes, its own and the byte's, to the last one of the budget. It costs
-// one look at the byte, and no frame is written for it.
+// one look at the byte, and no frame is written for it. The last branch keeps nothing for later: where it is come to so, it begins in the same turn.
 use machine::BRANCH;
 use machine::BYTE;
+use machine::LAST;
 use machine::Machine;
 use machine::Walked;
 use machine::push_explore;
@@ -13,9 +14,11 @@ ghost use mathlib.Core.Bool.{true};
 ghost use Prim.Native.Nat.{ℕ, _+_, _*_, _≤_, _<_, _^_};
 ghost use lib.ListN.{length, getD};
 ghost use Rattle.semantics.specs.Walk.{Trace};
+ghost use Rattle.machine.specs.Code.{Fits};
 ghost use Rattle.machine.specs.Moves.{explore, go};
 ghost use Rattle.machine.specs.Words.{stackOf, nowOf};
 ghost use Rattle.machine.specs.Ready.{Leads, Ready};
+ghost use Rattle.branches.specs.Onward.{Onward};
 
 // So many steps led to a node, with the position and the stack as they were.
 fn come_to(m: Machine, pc: u32, used: u32) -> Walked
@@ -30,6 +33,22 @@ fn come_to(m: Machine, pc: u32, used: u32) -> Walked
             live: true,
         },
     }
+}
+
+// So many steps led to a node behind all branches that were passed over: to the last one, which begins if a step is left for it.
+fn begin_last(code: &[u32], m: Machine, pc: u32, used: u32, left: u32) -> Walked
+    requires { ⌜ (used ≤ left) × (length (now code) < 2 ^ 32) × Fits (now code) pc ⌝ }
+    ensures { λ r. ⌜ Onward (now (code .entry)) m pc used left r ⌝ }
+{
+    if used == left {
+        return come_to(m, pc, used);
+    }
+    let here = pc as usize;
+    if code[here] != LAST {
+        return come_to(m, pc, used);
+    }
+    let body = code[here + 1];
+    come_to(m, body, used + 1)
 }
 
 // So many steps led to a node and a position, and another node is kept for later.
@@ -75,7 +94,7 @@ pub fn take_branch(code: &[u32], sub: &[u8], work: &mut [u32], m: Machine, left:
         used += 2;
         pc = other;
         if code[other as usize] != BRANCH {
-            return come_to(m, pc, used);
+            return begin_last(code, m, pc, used, left);
         }
     }
     if used == left {

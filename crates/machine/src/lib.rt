@@ -26,13 +26,15 @@ pub use stack::push;
 pub use stack::push_explore;
 pub use stack::save_and_write;
 
-// The kinds of the nodes that several crates ask for: a byte item, the end of a group, a branch that is not the last, the rule's end, a run, a reference,
+// The kinds of the nodes that several crates ask for: a byte item, the end of a group, a branch that is not the last, the last branch, the rule's end, a run, a reference,
 // and `\R`.
 pub const BYTE: u32 = 0;
 
 pub const CLOSE: u32 = 4;
 
 pub const BRANCH: u32 = 5;
+
+pub const LAST: u32 = 6;
 
 pub const END: u32 = 9;
 

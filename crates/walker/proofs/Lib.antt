@@ -1,3 +1,4 @@
 -- The laws that the functions' proofs cite.
 pub mod Stepping
+pub mod Vain
 pub mod Walking

@@ -2,12 +2,17 @@
 //
 // `run_to_end` stops at the rule's end, where nothing is left to try or where the steps are spent, and tells which as the rule's trace does. Before
 // each step the machine is ready for all that are left. It costs what its nodes cost: nothing is looked up, copied or cleared between them.
+mod behind;
+
+use behind::Behind;
+use behind::look_behind;
 use branches::take_branch;
 use machine::BRANCH;
 use machine::BREAK;
 use machine::BYTE;
 use machine::CLOSE;
 use machine::END;
+use machine::LAST;
 use machine::Machine;
 use machine::REFERENCE;
 use machine::RUN;
@@ -35,17 +40,11 @@ ghost use Rattle.semantics.specs.Walk.{Trace};
 ghost use Rattle.machine.specs.Code.{Fits};
 ghost use Rattle.machine.specs.Words.{stackOf, nowOf, movedOn};
 ghost use Rattle.machine.specs.Ready.{until, Several, Leads, RanBy, StackFits, Ready, Agrees};
-ghost use Rattle.walker.specs.Behind.{Told};
 
-// The kinds of a group's opening, of the last branch and of the end of a round.
+// The kinds of a group's opening and of the end of a round.
 const OPEN: u32 = 3;
 
-const LAST: u32 = 6;
-
 const ROUND_END: u32 = 8;
-
-// The longest node, a byte item: its class is the last eight numbers.
-const NODE_LENGTH: usize = 11;
 
 // Where the machine stands, and the steps that are left. They are handed on in place of those used, so that the loops keep one number and not two.
 struct Standing {
@@ -88,7 +87,7 @@ fn leave_group(
     m: Machine,
     left: u32,
 ) -> Standing
-    requires { ⌜ (getD (now code) (m .pc) 0 ≡ 4) × (m .live ≡ true) × (1 ≤ left) × (length (now regs) ≡ registers) × (length (now code) < 2 ^ 32) ⌝ }
+    requires { ⌜ (getD (now code) (m .pc) 0 ≡ 4) × (m .live ≡ true) × (3 ≤ left) × (length (now regs) ≡ registers) × (length (now code) < 2 ^ 32) ⌝ }
     requires { ⌜ ((first : List ℕ) × (t : Trace) × Ready (now code) (now sub) (length (now work)) left first (nowOf (now regs) (now work) m) t) ⌝ }
     ensures { λ r. ⌜ (r .rest < left) × Leads (now (code .entry)) (now (sub .entry)) (nowOf (now (regs .entry)) (now (work .entry)) m) (left - r .rest) (nowOf (now (regs .exit)) (now (work .exit)) (r .head)) ⌝ }
 {
@@ -98,9 +97,6 @@ fn leave_group(
         rest: one_less,
         head: closed,
     };
-    if left == 1 {
-        return alone;
-    }
     let behind = closed.pc as usize;
     if code[behind] != ROUND_END {
         return alone;
@@ -111,9 +107,6 @@ fn leave_group(
         rest: two_less,
         head: ended,
     };
-    if left == 2 {
-        return both;
-    }
     let next = ended.pc as usize;
     if code[next] != OPEN {
         return both;
@@ -126,38 +119,8 @@ fn leave_group(
     }
 }
 
-// What stands behind a group's end: a byte item whose byte is not there, so that the group closes in vain; one whose byte is; or no byte item.
-enum Behind {
-    Missing,
-    There,
-    NoByte,
-}
-
-// Looks behind a group's end. What is read is tested here, since nothing is known of a node that stands behind another.
-fn look_behind(code: &[u32], sub: &[u8], m: Machine) -> Behind
-    requires { ⌜ (m .pc + 4 ≤ length (now code)) × (getD (now code) (m .pc) 0 ≡ 4) × (length (now sub) < 2 ^ 32) × (length (now code) < 2 ^ 32) ⌝ }
-    ensures { λ r. ⌜ Told (now (code .entry)) (now (sub .entry)) m r ⌝ }
-{
-    let pc = m.pc as usize;
-    let behind = code[pc + 1] as usize;
-    if code.len() < behind + NODE_LENGTH {
-        return Behind::NoByte;
-    }
-    if code[behind] != BYTE {
-        return Behind::NoByte;
-    }
-    let at = m.at as usize;
-    if sub.len() <= at {
-        return Behind::Missing;
-    }
-    if charset::contains(code, behind + 3, sub[at]) {
-        return Behind::There;
-    }
-    Behind::Missing
-}
-
 // A group's end. Where it closes in vain nothing is written only to be undone: a run before it comes here once for each of its ends. Where the byte behind
-// it is there, that is taken in the same turn.
+// it is there, that is taken in the same turn. With fewer than three steps left it closes alone, so that none of these has to look at them.
 fn end_group(
     code: &[u32],
     sub: &[u8],
@@ -170,15 +133,20 @@ fn end_group(
     requires { ⌜ ((first : List ℕ) × (t : Trace) × Ready (now code) (now sub) (length (now work)) left first (nowOf (now regs) (now work) m) t) ⌝ }
     ensures { λ r. ⌜ (r .rest < left) × Leads (now (code .entry)) (now (sub .entry)) (nowOf (now (regs .entry)) (now (work .entry)) m) (left - r .rest) (nowOf (now (regs .exit)) (now (work .exit)) (r .head)) ⌝ }
 {
-    if left == 1 {
-        return leave_group(code, sub, regs, work, m, left);
+    if left < 3 {
+        let alone = close_group(code, regs, work, m);
+        let one_less = left - 1;
+        return Standing {
+            rest: one_less,
+            head: alone,
+        };
     }
-    match look_behind(code, sub, m) {
-        Behind::Missing => {
+    match look_behind(code, sub, regs, m) {
+        Behind::Missing(steps) => {
             let fallen = fall_back(code, regs, work, m.height);
-            let two_less = left - 2;
+            let fewer = left - steps;
             Standing {
-                rest: two_less,
+                rest: fewer,
                 head: fallen,
             }
         }

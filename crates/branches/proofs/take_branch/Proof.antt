@@ -121,8 +121,12 @@ shared-slice-read-if4 c =
     let none = ⊎-elim (λ w. takes-here (now (s .args .sub)) f (s .args .m .at) (w .0 .taken) ∙ sym (w .2 .ensures) ∙ w .3 .left) (λ w. takes-past (now (s .args .sub)) f (s .args .m .at) (w .left)) (c .before .if2 .came) in
     passing-other (c .before .before .before .before .before .before .before .loop .inv) (c .before .before .before .before .before .before .loop-test .taken) (c .before .before .before .if1 .left) none .here
 
-come-to-requires : tie.Need-come-to-requires Inv-loop μ-loop
-come-to-requires c κs = search needs
+begin-last-requires : tie.Need-begin-last-requires Inv-loop μ-loop
+begin-last-requires c κs =
+    let s = c .before .before .before .before .before .before .before .before .before .before .before .before .before in
+    let f = has (drop (getD (now (s .args .code)) (c .before .before .before .before .before .before .before .before .loop .pc + 1) 0 + 3) (now (s .args .code))) in
+    let none = ⊎-elim (λ w. takes-here (now (s .args .sub)) f (s .args .m .at) (w .0 .taken) ∙ sym (w .2 .ensures) ∙ w .3 .left) (λ w. takes-past (now (s .args .sub)) f (s .args .m .at) (w .left)) (c .before .before .if2 .came) in
+    (omega (arith, c .before .before .before .before .before .before .before .before .loop .inv .few, c .before .before .before .before .before .before .before .loop-test .taken), s .pre .0 .4, passing-other (c .before .before .before .before .before .before .before .before .loop .inv) (c .before .before .before .before .before .before .before .loop-test .taken) (c .before .before .before .before .if1 .left) none)
 
 same-length-2 : tie.Need-same-length-2 Inv-loop μ-loop
 same-length-2 c = ap length (c .before .before .before .before .before .before .before .before .before .loop .inv .same)
@@ -132,7 +136,7 @@ returns-2 c =
     let s = c .before .before .before .before .before .before .before .before .before .before .before .before .before .before in
     let f = has (drop (getD (now (s .args .code)) (c .before .before .before .before .before .before .before .before .before .loop .pc + 1) 0 + 3) (now (s .args .code))) in
     let none = ⊎-elim (λ w. takes-here (now (s .args .sub)) f (s .args .m .at) (w .0 .taken) ∙ sym (w .2 .ensures) ∙ w .3 .left) (λ w. takes-past (now (s .args .sub)) f (s .args .m .at) (w .left)) (c .before .before .before .if2 .came) in
-    passing-off (c .before .before .before .before .before .before .before .before .before .loop .inv) (c .before .before .before .before .before .before .before .before .loop-test .taken) (c .before .before .before .before .before .if1 .left) none (c .come-to .result) (c .come-to .ensures)
+    passing-off (c .before .before .before .before .before .before .before .before .before .loop .inv) (c .before .before .before .before .before .before .before .before .loop-test .taken) (c .before .before .before .before .before .if1 .left) none (c .begin-last .result) (c .begin-last .ensures)
 
 loop-less : tie.Need-loop-less Inv-loop μ-loop
 loop-less c = omega (arith, c .before .before .before .before .before .before .before .before .loop .inv .few, c .before .before .before .before .before .before .before .loop-test .taken)
@@ -144,14 +148,14 @@ loop-again c =
     let none = ⊎-elim (λ w. takes-here (now (s .args .sub)) f (s .args .m .at) (w .0 .taken) ∙ sym (w .2 .ensures) ∙ w .3 .left) (λ w. takes-past (now (s .args .sub)) f (s .args .m .at) (w .left)) (c .before .before .if2 .came) in
     passing-on (c .before .before .before .before .before .before .before .before .loop .inv) (c .before .before .before .before .before .before .before .loop-test .taken) (c .before .before .before .before .if1 .left) none (c .if4 .left)
 
-come-to-requires-2 : tie.Need-come-to-requires-2 Inv-loop μ-loop
-come-to-requires-2 c κs = search needs
+come-to-requires : tie.Need-come-to-requires Inv-loop μ-loop
+come-to-requires c κs = search needs
 
 same-length-3 : tie.Need-same-length-3 Inv-loop μ-loop
 same-length-3 c = ap length (c .before .before .before .loop .inv .same)
 
 returns-3 : tie.Need-returns-3 Inv-loop μ-loop
-returns-3 c = passing-out (c .before .before .before .loop .inv) (c .come-to2 .result) (c .before .before .before .before .before .before .before .before .pre .0 .2) (c .before .if5 .taken) (c .come-to2 .ensures)
+returns-3 c = passing-out (c .before .before .before .loop .inv) (c .come-to .result) (c .before .before .before .before .before .before .before .before .pre .0 .2) (c .before .if5 .taken) (c .come-to .ensures)
 
 cast-here-2 : tie.Need-cast-here-2 Inv-loop μ-loop
 cast-here-2 c = omega (arith, passing-fits (c .before .before .loop .inv), c .before .before .before .before .before .before .before .pre .0 .4)
@@ -220,12 +224,12 @@ take-branch-spec =
     cast-if4
     mul-if4
     shared-slice-read-if4
-    come-to-requires
+    begin-last-requires
     same-length-2
     returns-2
     loop-less
     loop-again
-    come-to-requires-2
+    come-to-requires
     same-length-3
     returns-3
     cast-here-2
