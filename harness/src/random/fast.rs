@@ -1,6 +1,6 @@
 //! Random calls aimed at what a matcher may do otherwise than step by step, and then has to count as if it had not: a repeat over one byte item
-//! taken as one run, starts skipped because of their byte, branches passed over because of theirs, a listing's rows found again by an index, a
-//! reference's bytes compared in one go. Half of the calls are under `i`, `x` or both: what can begin, and what a run or a reference takes, then
+//! taken as one run, starts skipped because of their byte, branches passed over because of theirs, groups that close in vain, a listing's rows found again by
+//! an index, a reference's bytes compared in one go. Half of the calls are under `i`, `x` or both: what can begin, and what a run or a reference takes, then
 //! has letters of both cases. Most budgets are at an edge: the steps that the independent matcher counts for one start, or up to or
 //! within one reference or one part that looks ahead or holds on, or a few more or less.
 
@@ -26,18 +26,19 @@ enum Aim {
     Beginnings,
     ManyRows,
     References,
+    EmptyRounds,
 }
 
 /// The case of this seed and number.
 pub fn case(seed: u64, number: u64) -> Case {
     let rng = &mut Rng::new(seed ^ 0xFA57, number);
-    let aim = [Aim::Beginnings, Aim::ManyRows, Aim::References][rng.weighted(&[74, 12, 14])];
+    let aim = [Aim::Beginnings, Aim::ManyRows, Aim::References, Aim::EmptyRounds][rng.weighted(&[66, 12, 14, 8])];
     let flags = *rng.pick(&[0, 0, 0, 1, 2, 2, 3]) | *rng.pick(&[0, 0, 0, 0, FLAG_I, FLAG_I, FLAG_X, FLAG_I | FLAG_X]);
     let flags = flags | if aim != Aim::References && rng.percent(5) { FLAG_D } else { 0 };
     let call = if aim == Aim::ManyRows || rng.percent(40) { Call::List } else { Call::Match };
     let (rule, tree) = sound_rule(rng, flags, aim);
     let mut subject = match aim {
-        Aim::Beginnings => subjects::subject(rng, &tree),
+        Aim::Beginnings | Aim::EmptyRounds => subjects::subject(rng, &tree),
         Aim::ManyRows => subjects::alike(rng),
         Aim::References => subjects::again(rng, &tree),
     };
@@ -63,6 +64,7 @@ fn sound_rule(rng: &mut Rng, flags: u32, aim: Aim) -> (Vec<u8>, Rule) {
             Aim::Beginnings => rules::rule(rng, flags),
             Aim::ManyRows => rules::many_readings(rng, flags),
             Aim::References => rules::with_references(rng, flags),
+            Aim::EmptyRounds => rules::empty_rounds(rng, flags),
         };
         match independent::read(&rule, flags) {
             Ok(tree) if aim != Aim::Beginnings || !subjects::can_be_empty(&tree) || rng.percent(40) => return (rule, tree),

@@ -120,6 +120,36 @@ const REFERENCES: [&str; 42] = [
     "(.+?)(?>\\1)++,",
 ];
 
+/// Groups that can take nothing, repeated before a byte: many rounds are empty, and what closes them is followed by a byte that is not there.
+const EMPTY_ROUNDS: [&str; 26] = [
+    "(a*)*b",
+    "(a*)+b",
+    "(a*)*?b",
+    "(a*){2,}b",
+    "(a*){0,2}b",
+    "(a*){3}b",
+    "(a?)*b",
+    "(a??)*b",
+    "(a|)*b",
+    "(|a)*b",
+    "((a*)*)*b",
+    "((a*)*b)*1",
+    "(?:(a*)b?)*,",
+    "(?:(a*)(b*))*,",
+    "(?:(a*)|(b*))*,",
+    "((a)|b*)*,",
+    "(a*|b)*1",
+    "(\\d*)*,",
+    "(\\w*)*\\W",
+    "(a*b?)*[^ab]",
+    "a(b*)*a",
+    "(?:1|(a*)*b)*#",
+    "((?=a)a*)*b",
+    "(?:(a*)(?>b*))*1",
+    "(?>(a*)*b|a)",
+    "(?!(a*)*b)(.*)*,",
+];
+
 /// Places that say something of the byte before or behind, so that a start's own byte does not settle whether it can begin.
 const PLACES: [&str; 6] = ["$", "\\b", "\\B", "\\z", "\\Z", "^"];
 
@@ -143,6 +173,11 @@ pub fn with_references(rng: &mut Rng, flags: u32) -> Vec<u8> {
         rule.extend(b"\\g{1}");
     }
     rule
+}
+
+/// A rule whose groups often close in vain.
+pub fn empty_rounds(rng: &mut Rng, flags: u32) -> Vec<u8> {
+    one_of(rng, &EMPTY_ROUNDS, flags)
 }
 
 /// One of these rules, often with an item behind it.
