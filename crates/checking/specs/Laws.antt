@@ -1,4 +1,3 @@
--- What is proved of following a path, of what a check tells, and of its call.
-pub mod Follows
+-- What is proved of what a check tells, and of its call.
 pub mod Verdicts
 pub mod Calls

@@ -1,6 +1,4 @@
--- Following a proposed path through a compiled rule: one turn of it, and what it treads (Turns); what a check tells (Verdicts). Laws has that it treads the path of Proposals.
-pub mod Turns
-pub mod Paces
-pub mod Paths
+-- What a check of a proposed reading tells. How its path is followed stands in `following`.
+-- docs/REFERENCE.md, 16.10
 pub mod Verdicts
 pub mod Laws

@@ -12,7 +12,7 @@ use Rattle.semantics.specs.Proposals.{aReading, noReading, exhausts, Check, che
 use Rattle.machine.specs.Theorem.{Stands}
 use Rattle.checking.specs.declared.Verdict.{Verdict}
 use Rattle.checking.specs.declared.Verdict.the-variants.{Reading, Nothing, Exhausted, Refused}
-use Rattle.checking.specs.Paths.{told}
+use Rattle.following.specs.Paths.{told}
 
 -- what the code's answer means
 unfoldable pub verdictOf : Verdict → CheckOutcome

@@ -1,8 +1,8 @@
 // A check on a rule that stands compiled: two bytes of start, the path of the choices behind them, and the row of a reading.
-use crate::Followed;
 use crate::Verdict;
-use crate::paths::follow_path;
 use card_format::two_bytes;
+use following::Followed;
+use following::follow_path;
 use index::UNSET;
 use index::write_row;
 use syntax::REGISTERS;

@@ -17,7 +17,7 @@ use Rattle.machine.specs.Theorem.{Stands, clear-all, begins, enough-room}
 use Rattle.frame.specs.Inputs.{Held}
 use Rattle.checking.specs.declared.Verdict.{Verdict}
 use Rattle.checking.specs.declared.Verdict.the-variants.{Reading}
-use Rattle.checking.specs.Paths.{told}
+use Rattle.following.specs.Paths.{told}
 use Rattle.checking.specs.Verdicts.{Reports}
 use Rattle.proposing.specs.declared.Proposed.{Proposed}
 use Rattle.proposing.specs.declared.Proposed.the-variants.{Made, Exhausted, NoRoom, Unfound}

@@ -8,7 +8,7 @@ use Rattle.syntax.specs.Tree.{Rule}
 use Rattle.semantics.specs.States.{State, row}
 use Rattle.semantics.specs.Proposals.{aReading, check}
 use Rattle.machine.specs.Theorem.{Stands}
-use Rattle.checking.specs.Paths.{told}
+use Rattle.following.specs.Paths.{told}
 use Rattle.proposing.specs.declared.Proposed.{Proposed}
 use Rattle.proposing.specs.declared.Proposed.the-variants.{Made, Exhausted, NoRoom, Unfound}
 

@@ -17,12 +17,12 @@ use Rattle.index.specs.Rows.{rowOf}
 use Rattle.index.specs.Laws.Rows.{rowOf-length, rowOf-row}
 use Rattle.frame.specs.Inputs.{between}
 use Rattle.frame.specs.Laws.Areas.{over-first}
-use Rattle.checking.specs.declared.Followed.{Followed}
-use Rattle.checking.specs.declared.Followed.the-variants.{Arrived, Missed, Spent}
+use Rattle.following.specs.declared.Followed.{Followed}
+use Rattle.following.specs.declared.Followed.the-variants.{Arrived, Missed, Spent}
 use Rattle.checking.specs.declared.Verdict.the-variants.{Reading, Nothing, Exhausted}
-use Rattle.checking.specs.Paths.{told, FollowedAs, Follows}
+use Rattle.following.specs.Paths.{told, FollowedAs, Follows}
 use Rattle.checking.specs.Verdicts.{Reports}
-use Rattle.checking.specs.Laws.Follows.{treads-path}
+use Rattle.following.specs.Laws.Follows.{treads-path}
 
 -- The bytes that were sent ------------------------------------------------------------
 

@@ -5,7 +5,7 @@ use borrow.Author.Needs.{needs}
 use denote.Ref.{now}
 use Rattle.syntax.specs.Limits.{registers, spansLength, subjectLimit}
 use Rattle.semantics.specs.Proposals.{pathOf}
-use Rattle.checking.specs.Laws.Follows.{treads-path}
+use Rattle.following.specs.Laws.Follows.{treads-path}
 use Rattle.checking.specs.Laws.Verdicts.{arrived-reports, missed-reports, spent-reports}
 use Rattle.checking.proofs.verdicts.check_from.Statement.{statement}
 use Rattle.checking.proofs.verdicts.check_from.Tie as tie

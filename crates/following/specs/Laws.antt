@@ -1,0 +1,2 @@
+-- What is proved of following a path.
+pub mod Follows
