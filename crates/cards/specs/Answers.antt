@@ -2,9 +2,9 @@
 -- docs/REFERENCE.md, 17.2, 17.3, 18.3
 use mathlib.Core.Path.{_≡_}
 use mathlib.Core.List.{List}
-use Prim.Native.Nat.{ℕ, _≤_, _<_}
+use Prim.Native.Nat.{ℕ, _≤_}
 use lib.ListN.{length}
-use Rattle.syntax.specs.Limits.{ruleLimit, groupLimit}
+use Rattle.syntax.specs.Limits.{groupLimit}
 use Rattle.syntax.specs.Read.{sound, refused}
 use Rattle.syntax.specs.Tree.{Rule}
 use Rattle.syntax.specs.Reading.{reading}
@@ -41,13 +41,6 @@ pub record Counted (rule : List ℕ) (flags groups : ℕ) : Type 0 where
 abbrev pub Counts : List ℕ → ℕ → Counting → Type 0
 Counts rule flags (Groups n) = Counted rule flags n
 Counts rule flags (Uncounted f) = reading rule flags ≡ refused (f .place) (f .reason)
-
--- what a card has room for
-pub record Writable (rule : List ℕ) (flags budget groups : ℕ) : Type 0 where
-  pub rule-fits : length rule ≤ ruleLimit
-  pub flags-fit : flags < 256
-  pub budget-fits : budget < 65536
-  pub groups-fit : groups < 256
 
 -- bytes are a card of these numbers, and its rule can be read
 pub record Legible (card : List ℕ) (size flags budget groups : ℕ) (ruleArea : List ℕ) : Type 0 where

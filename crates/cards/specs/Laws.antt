@@ -1,4 +1,2 @@
 -- Facts that the proofs of the code cite.
-pub mod Walking
-pub mod Checking
 pub mod Returning

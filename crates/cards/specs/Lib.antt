@@ -1,5 +1,4 @@
--- What the code of rule cards finds out on its way (Walking) and what it answers (Answers). What a card is stands in `card_format`.
+-- What the code of rule cards answers. What a card is stands in `card_format`, and what is found out about its bytes in `card_records`.
 -- docs/REFERENCE.md, 17
-pub mod Walking
 pub mod Answers
 pub mod Laws

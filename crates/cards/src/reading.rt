@@ -2,11 +2,11 @@
 use crate::ruling::Counting;
 use crate::ruling::count_groups;
 use crate::ruling::unfit;
-use crate::scanning::Found;
-use crate::scanning::find_card;
 use card_format::PIECE_BODY;
 use card_format::SETTINGS;
 use card_format::two_bytes;
+use card_records::Found;
+use card_records::find_card;
 use frame::Fitness;
 use frame::RULE_LIMIT;
 use syntax::Reason;
@@ -17,7 +17,7 @@ ghost use lib.ListN.{length};
 ghost use Rattle.semantics.specs.Calls.{over};
 ghost use Rattle.card_format.specs.Cards.{Card, written, ruleBytesNeed, cardIn, ruleIn, readCall};
 ghost use Rattle.card_format.specs.Places.{textEnd};
-ghost use Rattle.cards.specs.Walking.{IsCard};
+ghost use Rattle.card_records.specs.Walking.{IsCard};
 ghost use Rattle.cards.specs.Answers.{Returned, readOf, Legible};
 
 // the bytes that any rule fits into

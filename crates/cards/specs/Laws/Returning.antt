@@ -26,11 +26,12 @@ use Rattle.cards.specs.declared.ruling.Counting.{Counting}
 use Rattle.card_format.specs.Cards.{Card, written, cardNeed, untouched, leaving, unfit, fails, cardIn, ruleIn, Wrote, WriteRefused, writes, writeCall, Holds, ReadRefused, reads, readScan, readCall, ruleBytesNeed}
 use Rattle.card_format.specs.CardDemands.{Bytes, cardOf, Fitting, Sound}
 use Rattle.card_format.specs.CardDemandsHold.{short-writes, ruled-write, unsound-writes, counted-writes, short-reads, scan-reads, ruled-read, unsound-reads, miscounted-reads, held-reads}
-use Rattle.cards.specs.Walking.{IsCard}
+use Rattle.card_records.specs.Walking.{IsCard}
 use Rattle.card_format.specs.Laws.Scanning.{reads-written}
 use Rattle.card_format.specs.Places.{textEnd}
 use Rattle.card_format.specs.Laws.Written.{written-long, flags-at, low-at, high-at, groups-at, size-at}
-use Rattle.cards.specs.Answers.{Returned, Counted, Counts, Writable, Legible}
+use Rattle.card_records.specs.Room.{Writable}
+use Rattle.cards.specs.Answers.{Returned, Counted, Counts, Legible}
 use Rattle.card_format.specs.Laws.Ruling.{fitting-faultless, none-fitting, ruled-given}
 
 -- The rule ----------------------------------------------------------------------------------

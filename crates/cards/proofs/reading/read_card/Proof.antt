@@ -4,7 +4,7 @@ use denote.Ref.{now}
 use borrow.Author.Needs.{needs}
 use Rattle.syntax.specs.Limits.{ruleLimit}
 use Rattle.card_format.specs.Cards.{ruleBytesNeed}
-use Rattle.cards.specs.Walking.{Finds}
+use Rattle.card_records.specs.Walking.{Finds}
 use Rattle.cards.specs.Answers.{readOf}
 use Rattle.cards.specs.Laws.Returning.{read-short, read-fails}
 use Rattle.cards.proofs.reading.read_card.Statement.{statement}

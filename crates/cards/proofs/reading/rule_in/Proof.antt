@@ -5,7 +5,7 @@ use denote.Ref.{now}
 use lib.ListN.{length}
 use borrow.Author.Needs.{needs}
 use Rattle.card_format.specs.CardDemands.{Bytes}
-use Rattle.cards.specs.Walking.{Finds}
+use Rattle.card_records.specs.Walking.{Finds}
 use Rattle.cards.specs.Laws.Returning.{found-none, nothing-told, found-text, found-size, found-rule, found-crowded}
 use Rattle.cards.proofs.reading.rule_in.Statement.{statement}
 use Rattle.cards.proofs.reading.rule_in.Tie as tie

@@ -4,9 +4,9 @@ use native.Mathlib.Omega.{arith}
 use borrow.Author.Needs.{needs}
 use borrow.Author.Tests.{not-true, not-false}
 use Rattle.card_format.specs.Cards.{piecesFor}
-use Rattle.cards.specs.Laws.Checking.{card-long, not-ordered, misplaced-found, miscounted, room, inside, padding-wrong, trailing-wrong, found}
-use Rattle.cards.proofs.scanning.check_records.Statement.{statement}
-use Rattle.cards.proofs.scanning.check_records.Tie as tie
+use Rattle.card_records.specs.Laws.Checking.{card-long, not-ordered, misplaced-found, miscounted, room, inside, padding-wrong, trailing-wrong, found}
+use Rattle.card_records.proofs.scanning.check_records.Statement.{statement}
+use Rattle.card_records.proofs.scanning.check_records.Tie as tie
 
 add-two-bytes : tie.Need-add-two-bytes
 add-two-bytes c = omega (arith, card-long (c .before .pre))

@@ -2,8 +2,8 @@
 use mathlib.Core.Path.{_≡_}
 use borrow.Author.Needs.{needs}
 use Rattle.card_format.specs.Laws.Written.{fifth}
-use Rattle.cards.proofs.writing.settings_byte.Statement.{statement}
-use Rattle.cards.proofs.writing.settings_byte.Tie as tie
+use Rattle.card_records.proofs.bytes.settings_byte.Statement.{statement}
+use Rattle.card_records.proofs.bytes.settings_byte.Tie as tie
 
 cast-result : tie.Need-cast-result
 cast-result c = search needs

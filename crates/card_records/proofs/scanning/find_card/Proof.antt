@@ -3,10 +3,10 @@ use mathlib.Core.Path.{subst}
 use borrow.Author.Needs.{needs}
 use denote.Ref.{now}
 use Rattle.card_format.specs.CardDemands.{unknownKind, cutShort}
-use Rattle.cards.specs.Walking.{Cuts}
+use Rattle.card_records.specs.Walking.{Cuts}
 use Rattle.card_format.specs.Laws.Scanning.{fault-fails}
-use Rattle.cards.proofs.scanning.find_card.Statement.{statement}
-use Rattle.cards.proofs.scanning.find_card.Tie as tie
+use Rattle.card_records.proofs.scanning.find_card.Statement.{statement}
+use Rattle.card_records.proofs.scanning.find_card.Tie as tie
 
 cut-records-requires : tie.Need-cut-records-requires
 cut-records-requires c κs = search needs

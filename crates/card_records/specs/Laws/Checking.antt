@@ -13,12 +13,12 @@ use Rattle.semantics.specs.Laws.Cases.{clash, le-or}
 use Rattle.index.specs.Laws.Known.{same-self, same-equal}
 use Rattle.card_format.specs.Cards.{settingsKind, settingsBody, pieceKind, pieceBody, lengthKind, lengthBody, CardRecord, inBytes, bodies, kinds, ofTwo, piecesFor, allZero, text, isTidy, saidBy, fails, cardIn}
 use Rattle.card_format.specs.CardDemands.{Whole, wholeSettings, wholePiece, AllWhole, Parts, InOrder, wrongRecords, strayPadding, strayTrailing}
-use Rattle.cards.specs.Walking.{orderly, CutsAt, IsPadding, IsCard}
+use Rattle.card_records.specs.Walking.{orderly, CutsAt, IsPadding, IsCard}
 use Rattle.card_format.specs.Laws.Pieces.{pieces-again, pieces-enough, pieces-long, all-zero, text-at}
 use Rattle.card_format.specs.Laws.Scanning.{scan-card, card-in, order-known, fault-fails}
 use Rattle.card_format.specs.Places.{place, textEnd}
 use Rattle.card_format.specs.Laws.Written.{place-is}
-use Rattle.cards.specs.Laws.Walking.{orderly-long, kinds-long}
+use Rattle.card_records.specs.Laws.Walking.{orderly-long, kinds-long}
 
 -- Records in order -------------------------------------------------------------------------
 

@@ -4,8 +4,8 @@ use denote.Ref.{now}
 use lib.ListN.{List·getD-eq-default}
 use borrow.Author.Needs.{needs}
 use Rattle.card_format.specs.Laws.Written.{kind-byte, rule-byte}
-use Rattle.cards.proofs.writing.piece_byte.Statement.{statement}
-use Rattle.cards.proofs.writing.piece_byte.Tie as tie
+use Rattle.card_records.proofs.bytes.piece_byte.Statement.{statement}
+use Rattle.card_records.proofs.bytes.piece_byte.Tie as tie
 
 returns : tie.Need-returns
 returns c = sym (kind-byte (now (c .before .args .rule)) (c .before .args .i) (c .if1 .taken))

@@ -7,10 +7,10 @@ use Prim.Native.Nat.{ℕ, zero, suc, _≤_, _<_}
 use lib.Dec.{eqb}
 use lib.ListN.{length, getD, replicate}
 use Rattle.syntax.specs.Sets.{sameBytes}
-use Rattle.cards.specs.declared.scanning.Cutting.{Cutting}
-use Rattle.cards.specs.declared.scanning.Cutting.the-variants.{Ends, Unknown as AtUnknown, Short as TooEarly}
-use Rattle.cards.specs.declared.scanning.Found.{Found}
-use Rattle.cards.specs.declared.scanning.Found.the-variants.{Holds, Fails}
+use Rattle.card_records.specs.declared.scanning.Cutting.{Cutting}
+use Rattle.card_records.specs.declared.scanning.Cutting.the-variants.{Ends, Unknown as AtUnknown, Short as TooEarly}
+use Rattle.card_records.specs.declared.scanning.Found.{Found}
+use Rattle.card_records.specs.declared.scanning.Found.the-variants.{Holds, Fails}
 use Rattle.card_format.specs.Cards.{settingsKind, pieceKind, inBytes, kinds, Card, holds, fails, cardIn}
 use Rattle.card_format.specs.CardDemands.{Unknown, Short, Parts}
 use Rattle.card_format.specs.Places.{place}

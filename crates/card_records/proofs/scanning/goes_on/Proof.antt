@@ -1,9 +1,9 @@
 -- By cases on the tests, in the order of the definition.
 use mathlib.Core.Path.{sym}
 use borrow.Author.Tests.{not-true, not-false}
-use Rattle.cards.specs.Laws.Walking.{off-goes, first-goes, other-goes}
-use Rattle.cards.proofs.scanning.goes_on.Statement.{statement}
-use Rattle.cards.proofs.scanning.goes_on.Tie as tie
+use Rattle.card_records.specs.Laws.Walking.{off-goes, first-goes, other-goes}
+use Rattle.card_records.proofs.scanning.goes_on.Statement.{statement}
+use Rattle.card_records.proofs.scanning.goes_on.Tie as tie
 
 returns : tie.Need-returns
 returns c = sym (off-goes _ _ _ (not-true _ (c .if1 .taken)))

@@ -10,8 +10,8 @@ use Rattle.card_format.specs.CardDemands.{cardOf}
 use Rattle.card_format.specs.Places.{textEnd}
 use Rattle.card_format.specs.Laws.Written.{written-long, written-fits}
 use Rattle.card_format.specs.Laws.Filling.{filled, filled-more, filled-all}
-use Rattle.cards.proofs.writing.put_card.Statement.{statement}
-use Rattle.cards.proofs.writing.put_card.Tie as tie
+use Rattle.card_records.proofs.bytes.put_card.Statement.{statement}
+use Rattle.card_records.proofs.bytes.put_card.Tie as tie
 
 abbrev Inv-loop : tie.InvT-loop
 Inv-loop rule flags budget groups area₀ total i₀ area i =

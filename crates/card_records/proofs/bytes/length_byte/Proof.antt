@@ -2,8 +2,8 @@
 use mathlib.Core.Path.{_≡_}
 use native.Mathlib.Omega.{arith}
 use borrow.Author.Needs.{needs}
-use Rattle.cards.proofs.writing.length_byte.Statement.{statement}
-use Rattle.cards.proofs.writing.length_byte.Tie as tie
+use Rattle.card_records.proofs.bytes.length_byte.Statement.{statement}
+use Rattle.card_records.proofs.bytes.length_byte.Tie as tie
 
 low-byte-requires : tie.Need-low-byte-requires
 low-byte-requires c κs = search needs

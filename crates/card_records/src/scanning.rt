@@ -13,7 +13,7 @@ ghost use mathlib.Core.Path.{_≡_};
 ghost use Prim.Native.Nat.{ℕ, _≤_, _<_};
 ghost use lib.ListN.{length};
 ghost use Rattle.card_format.specs.Places.{place};
-ghost use Rattle.cards.specs.Walking.{goesOn, Cuts, CutsAt, IsPadding, Finds};
+ghost use Rattle.card_records.specs.Walking.{goesOn, Cuts, CutsAt, IsPadding, Finds};
 
 // How the records of a card end: at a kind 3, with its position, the number of records before it, and whether their kinds are 1, 2, 2 and so on;
 // at a byte that is no kind; or too early.

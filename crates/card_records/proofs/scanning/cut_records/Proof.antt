@@ -5,9 +5,9 @@ use Prim.Native.Nat.{_-_, _≤_}
 use native.Mathlib.Omega.{arith}
 use lib.ListN.{length}
 use borrow.Author.Needs.{needs}
-use Rattle.cards.specs.Laws.Walking.{Walked, walked-start, walked-none, walked-unknown, walked-short, walked-ends, walked-on}
-use Rattle.cards.proofs.scanning.cut_records.Statement.{statement}
-use Rattle.cards.proofs.scanning.cut_records.Tie as tie
+use Rattle.card_records.specs.Laws.Walking.{Walked, walked-start, walked-none, walked-unknown, walked-short, walked-ends, walked-on}
+use Rattle.card_records.proofs.scanning.cut_records.Statement.{statement}
+use Rattle.card_records.proofs.scanning.cut_records.Tie as tie
 
 abbrev Inv-loop : tie.InvT-loop
 Inv-loop card at₀ many₀ ordered₀ at many ordered = (many ≤ at) × (at ≤ length card) × Walked card at many ordered

@@ -6,9 +6,9 @@ use denote.Ref.{now}
 use lib.ListN.{getD}
 use Rattle.card_format.specs.Places.{place}
 use Rattle.card_format.specs.Laws.Written.{place-is}
-use Rattle.cards.specs.Laws.Checking.{zero-more}
-use Rattle.cards.proofs.scanning.is_padding.Statement.{statement}
-use Rattle.cards.proofs.scanning.is_padding.Tie as tie
+use Rattle.card_records.specs.Laws.Checking.{zero-more}
+use Rattle.card_records.proofs.scanning.is_padding.Statement.{statement}
+use Rattle.card_records.proofs.scanning.is_padding.Tie as tie
 
 abbrev Inv-loop : tie.InvT-loop
 Inv-loop card from to i₀ i = (from ≤ i) × (i ≤ to) × ((j : ℕ) → from ≤ j → j < i → getD card (place j) 0 ≡ 0)

@@ -12,7 +12,7 @@ use lib.Seq.{drop-cons, drop-drop, length-take-le}
 use Rattle.syntax.specs.Sets.{sameBytes}
 use Rattle.card_format.specs.Cards.{settingsKind, settingsBody, pieceKind, pieceBody, lengthKind, lengthBody, CardRecord, inBytes, kinds, bodyLength}
 use Rattle.card_format.specs.CardDemands.{Whole, wholeSettings, wholePiece, AllWhole, Kind, ofSettings, ofPiece, ofLength, Unknown, Short, no-end, within}
-use Rattle.cards.specs.Walking.{kindAt, orderly, goesOn, CutsAt}
+use Rattle.card_records.specs.Walking.{kindAt, orderly, goesOn, CutsAt}
 use Rattle.card_format.specs.Laws.Cutting.{kind-body, known-or, body-unknown}
 use Rattle.card_format.specs.Laws.Scanning.{bytes-append, one-record}
 

@@ -11,8 +11,8 @@ use Rattle.card_format.specs.Cards.{lengthKind, piecesFor}
 use Rattle.card_format.specs.CardDemands.{cardOf}
 use Rattle.card_format.specs.Places.{textEnd}
 use Rattle.card_format.specs.Laws.Written.{written-long, byte-first, byte-text, byte-size}
-use Rattle.cards.proofs.writing.card_byte.Statement.{statement}
-use Rattle.cards.proofs.writing.card_byte.Tie as tie
+use Rattle.card_records.proofs.bytes.card_byte.Statement.{statement}
+use Rattle.card_records.proofs.bytes.card_byte.Tie as tie
 
 settings-byte-requires : tie.Need-settings-byte-requires
 settings-byte-requires c κs = search needs

@@ -1,0 +1,3 @@
+-- Facts that the proofs of the code cite.
+pub mod Walking
+pub mod Checking
