@@ -13,8 +13,8 @@ use Rattle.semantics.specs.Calls.{Call, Return, untouched, MatchOutcome, Refuse
 use Rattle.semantics.specs.Batches.{told}
 use Rattle.machine.specs.Theorem.{Stands}
 use Rattle.frame.specs.Inputs.{callOf, Told}
-use Rattle.matching.specs.declared.Outcome.{Outcome}
-use Rattle.matching.specs.Outcomes.{outcomeOf}
+use Rattle.finding.specs.declared.Outcome.{Outcome}
+use Rattle.finding.specs.Outcomes.{outcomeOf}
 
 -- a line's match, of which nothing counts but the line, the budget and the row that may be written
 abbrev pub alone : (line : List ℕ) (budget : ℕ) (row : List ℕ) → Call

@@ -2,10 +2,10 @@
 // told as refused; its row stays.
 use crate::halves::high_half;
 use crate::halves::low_half;
+use finding::Outcome;
+use finding::match_opened;
 use frame::SUBJECT_LIMIT;
 use index::ROW_LENGTH;
-use matching::Outcome;
-use matching::match_opened;
 use openings::Opening;
 use syntax::Reason;
 use syntax::Refusal;
@@ -18,8 +18,8 @@ ghost use Rattle.semantics.specs.Calls.{workAreaNeed};
 ghost use Rattle.semantics.specs.Batches.{low, high, outcomeNumbers};
 ghost use Rattle.openings.specs.Openings.{Opens};
 ghost use Rattle.frame.specs.Inputs.{between, Held};
-ghost use Rattle.matching.specs.Outcomes.{outcomeOf};
-ghost use Rattle.matching.specs.Registers.{Fresh, Keeps};
+ghost use Rattle.finding.specs.Outcomes.{outcomeOf};
+ghost use Rattle.finding.specs.Registers.{Fresh, Keeps};
 ghost use Rattle.batching.specs.Parts.{Answers, Tells};
 
 // all numbers of a part

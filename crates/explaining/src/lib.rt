@@ -7,6 +7,8 @@
 // has been through.
 use failures::Failed;
 use failures::find_failures;
+use finding::Outcome;
+use finding::match_held;
 use frame::Preparation;
 use frame::REGISTERS;
 use frame::RULE_AREA_NEED;
@@ -15,8 +17,6 @@ use frame::finish;
 use frame::prepare;
 use index::ROW_LENGTH;
 use index::UNSET;
-use matching::Outcome;
-use matching::match_held;
 use syntax::Refusal;
 ghost use mathlib.Core.Path.{_≡_};
 ghost use Prim.Native.Nat.{min};

@@ -1,12 +1,12 @@
 // The word for a line, and the row of its match.
 use crate::comparing::is_ambiguous;
 use fields_row::Word;
+use finding::Outcome;
+use finding::match_held;
 use frame::SUBJECT_LIMIT;
 use index::ROW_LENGTH;
 use listing::Listing;
 use listing::list_held;
-use matching::Outcome;
-use matching::match_held;
 ghost use mathlib.Core.Path.{_≡_};
 ghost use Prim.Native.Nat.{_*_, _≤_};
 ghost use lib.ListN.{length};

@@ -1,16 +1,16 @@
 // The answer to one line.
+use finding::Outcome;
+use finding::match_held;
 use gateway_text::write_exhausted;
 use gateway_text::write_matched;
 use gateway_text::write_not_matched;
 use gateway_text::write_refusal;
 use gateway_text::write_too_long;
 use index::ROW_LENGTH;
-use matching::Outcome;
-use matching::match_held;
 ghost use Prim.Native.Nat.{_+_, _≤_};
 ghost use lib.ListN.{length};
 ghost use Rattle.syntax.specs.Limits.{rowLength, groupLimit};
-ghost use Rattle.matching.specs.Outcomes.{outcomeOf};
+ghost use Rattle.finding.specs.Outcomes.{outcomeOf};
 ghost use Rattle.gateway_text.specs.Limits.{answerRoom};
 ghost use Rattle.gateway_text.specs.Promises.{WroteLine};
 ghost use Rattle.gateway_line.specs.Promises.{Lent, toldLine, Answered, Left};

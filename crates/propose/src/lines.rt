@@ -1,9 +1,9 @@
 // The lines of a file, one after another.
+use finding::Outcome;
+use finding::match_held;
 use frame::BUDGET_LIMIT;
 use frame::SUBJECT_LIMIT;
 use index::ROW_LENGTH;
-use matching::Outcome;
-use matching::match_held;
 use office::CLOSED;
 use office::PIECE;
 use office::ROOM;

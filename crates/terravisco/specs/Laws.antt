@@ -22,11 +22,11 @@ use Rattle.semantics.specs.CheckDemandsHold.{check-meets-demands, form-within, 
 use Rattle.semantics.specs.Demands.{Faultless, ruleTooLong, Refuses, itself, itsRule}
 use Rattle.semantics.specs.DemandsHold.{match-meets-demands, list-meets-demands, scan-meets-demands, explain-meets-demands}
 use Rattle.semantics.specs.Laws.Batches.{batch-demand-1}
-use Rattle.matching.specs.declared.Outcome.{Outcome}
-use Rattle.matching.specs.declared.Outcome.the-variants.{Matched, NotMatched, Exhausted, Refused}
+use Rattle.finding.specs.declared.Outcome.{Outcome}
+use Rattle.finding.specs.declared.Outcome.the-variants.{Matched, NotMatched, Exhausted, Refused}
 use Rattle.listing.specs.declared.Listing.{Listing}
 use Rattle.listing.specs.declared.Listing.the-variants.{Complete, Full, Exhausted as Cut, Refused as Denied}
-use Rattle.matching.specs.Outcomes.{outcomeOf}
+use Rattle.finding.specs.Outcomes.{outcomeOf}
 use Rattle.listing.specs.Listing.{listingOf}
 use Rattle.failures.specs.declared.greatest.Failed.{Failed}
 use Rattle.explaining.specs.declared.Explanation.{Explanation}

@@ -22,7 +22,7 @@ ghost use Rattle.semantics.specs.Calls.{matchCall, listCall, scanCall, explainC
 ghost use Rattle.semantics.specs.Batches.{batchCall};
 ghost use Rattle.semantics.specs.Checks.{checkCall};
 ghost use Rattle.frame.specs.Inputs.{callOf};
-ghost use Rattle.matching.specs.Outcomes.{outcomeOf};
+ghost use Rattle.finding.specs.Outcomes.{outcomeOf};
 ghost use Rattle.listing.specs.Listing.{listingOf};
 ghost use Rattle.batching.specs.Batches.{batchOf};
 ghost use Rattle.failures.specs.Best.{failureOf};

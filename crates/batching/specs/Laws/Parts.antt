@@ -21,9 +21,9 @@ use Rattle.semantics.specs.Laws.Cases.{le-or}
 use Rattle.semantics.specs.Laws.Parts.{row-in-part, fit-first, first-part}
 use Rattle.semantics.specs.Laws.Batches.{part-too-long, part-answered}
 use Rattle.frame.specs.Inputs.{Told}
-use Rattle.matching.specs.declared.Outcome.{Outcome as Answered}
-use Rattle.matching.specs.Outcomes.{outcomeOf, Reports}
-use Rattle.matching.specs.Laws.Outcomes.{reports-told}
+use Rattle.finding.specs.declared.Outcome.{Outcome as Answered}
+use Rattle.finding.specs.Outcomes.{outcomeOf, Reports}
+use Rattle.finding.specs.Laws.Outcomes.{reports-told}
 use Rattle.batching.specs.Parts.{alone, lineReturn, linePart, filled}
 
 -- One line ------------------------------------------------------------------------

@@ -10,9 +10,9 @@ use Rattle.semantics.specs.States.{State}
 use Rattle.semantics.specs.Answers.{Outcome, matched, notMatched, exhausted, Answer, answer}
 use Rattle.semantics.specs.Calls.{Call, workAreaNeed, over, cleared, leaving, markable, explainReturns, explainRule}
 use Rattle.syntax.specs.declared.Refusal.{Refusal}
-use Rattle.matching.specs.declared.Outcome.{Outcome as Matching}
-use Rattle.matching.specs.declared.Outcome.the-variants.{Matched as Found, NotMatched as Missed, Exhausted as Spent, Refused as Denied}
-use Rattle.matching.specs.Outcomes.{Reports}
+use Rattle.finding.specs.declared.Outcome.{Outcome as Matching}
+use Rattle.finding.specs.declared.Outcome.the-variants.{Matched as Found, NotMatched as Missed, Exhausted as Spent, Refused as Denied}
+use Rattle.finding.specs.Outcomes.{Reports}
 use Rattle.explaining.specs.declared.Explanation.{Explanation}
 use Rattle.explaining.specs.declared.Explanation.the-variants.{Matched, NotMatched, Exhausted, Refused}
 use Rattle.frame.specs.Inputs.{Told}

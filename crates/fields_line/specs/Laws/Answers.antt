@@ -13,9 +13,9 @@ use Rattle.semantics.specs.States.{Row, row}
 use Rattle.semantics.specs.Answers.{Outcome, matched, notMatched, exhausted, Answer, answer, listing}
 use Rattle.semantics.specs.Calls.{over, room}
 use Rattle.frame.specs.Inputs.{Held}
-use Rattle.matching.specs.declared.Outcome.{Outcome as Reported}
-use Rattle.matching.specs.declared.Outcome.the-variants.{Matched as Found, NotMatched as Missed, Exhausted as Spent, Refused as Denied}
-use Rattle.matching.specs.Outcomes.{Reports}
+use Rattle.finding.specs.declared.Outcome.{Outcome as Reported}
+use Rattle.finding.specs.declared.Outcome.the-variants.{Matched as Found, NotMatched as Missed, Exhausted as Spent, Refused as Denied}
+use Rattle.finding.specs.Outcomes.{Reports}
 use Rattle.listing.specs.declared.Listing.{Listing as Listed}
 use Rattle.listing.specs.Listing.{listingOf, Lists}
 use Rattle.lookup.specs.Laws.Lookup.{not-matched}

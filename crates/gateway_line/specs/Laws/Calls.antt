@@ -12,9 +12,9 @@ use Rattle.semantics.specs.States.{row}
 use Rattle.semantics.specs.Answers.{Outcome, matched, notMatched, exhausted, Answer, answer}
 use Rattle.semantics.specs.Calls.{over}
 use Rattle.frame.specs.Inputs.{Held}
-use Rattle.matching.specs.declared.Outcome.{Outcome as Told}
-use Rattle.matching.specs.declared.Outcome.the-variants.{Matched as Found, NotMatched as Missed, Exhausted as Spent, Refused as Denied}
-use Rattle.matching.specs.Outcomes.{outcomeOf, Reports}
+use Rattle.finding.specs.declared.Outcome.{Outcome as Told}
+use Rattle.finding.specs.declared.Outcome.the-variants.{Matched as Found, NotMatched as Missed, Exhausted as Spent, Refused as Denied}
+use Rattle.finding.specs.Outcomes.{outcomeOf, Reports}
 use Rattle.gateway_text.specs.Lines.{matchedLine, tooLongLine, outcomeLine}
 use Rattle.gateway_line.specs.Limits.{lineLimit, gatewayBudget}
 use Rattle.gateway_line.specs.Answers.{answerLine}

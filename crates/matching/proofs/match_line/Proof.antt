@@ -6,8 +6,8 @@ use Rattle.syntax.specs.Limits.{ruleAreaNeed, workPerStep, rowLength}
 use Rattle.semantics.specs.Calls.{workAreaNeed, Refused, matchRule, matchCall}
 use Rattle.frame.specs.Inputs.{callOf}
 use Rattle.frame.specs.Laws.Preparing.{is-ready, is-denied, rule-area-long, work-area-long, results-long, readied-held, denied-returns, readied-returns}
-use Rattle.matching.specs.Outcomes.{outcomeOf}
-use Rattle.matching.specs.Laws.Outcomes.{match-clears, reports-told}
+use Rattle.finding.specs.Outcomes.{outcomeOf}
+use Rattle.finding.specs.Laws.Outcomes.{match-clears, reports-told}
 use borrow.Author.Needs.{needs}
 use Rattle.matching.proofs.match_line.Statement.{statement}
 use Rattle.matching.proofs.match_line.Tie as tie

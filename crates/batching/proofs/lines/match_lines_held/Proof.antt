@@ -7,8 +7,8 @@ use denote.Ref.{now}
 use lib.ListN.{length}
 use Rattle.syntax.specs.Limits.{unset, registers, heightLimit, nestingLimit, groupLimit, spansLength, rowLength, partLength, ruleAreaNeed}
 use Rattle.machine.specs.Theorem.{clear-all}
-use Rattle.matching.specs.Registers.{Fresh}
-use Rattle.matching.specs.Laws.Registers.{clear-fresh}
+use Rattle.finding.specs.Registers.{Fresh}
+use Rattle.finding.specs.Laws.Registers.{clear-fresh}
 use Rattle.batching.proofs.Filling.{Filling, filling-begins, filling-ends, line-inside, part-inside, part-lent, filling-on}
 use Rattle.batching.proofs.lines.match_lines_held.Statement.{statement}
 use Rattle.batching.proofs.lines.match_lines_held.Tie as tie

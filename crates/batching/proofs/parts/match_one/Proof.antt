@@ -5,7 +5,7 @@ use borrow.Author.Needs.{needs}
 use denote.Ref.{now}
 use Rattle.syntax.specs.Limits.{subjectLimit}
 use Rattle.frame.specs.Inputs.{between}
-use Rattle.matching.specs.Outcomes.{outcomeOf}
+use Rattle.finding.specs.Outcomes.{outcomeOf}
 use Rattle.frame.specs.Laws.Parts.{between-length}
 use Rattle.batching.specs.Laws.Parts.{long-told, short-told}
 use Rattle.batching.proofs.parts.match_one.Statement.{statement}

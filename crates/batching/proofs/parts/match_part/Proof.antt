@@ -9,7 +9,7 @@ use lib.ListN.{length, length-take, length-drop, length-append}
 use lib.Seq.{length-take-le}
 use Rattle.syntax.specs.Limits.{groupLimit, spansLength, rowLength, partLength}
 use Rattle.frame.specs.Inputs.{between}
-use Rattle.matching.specs.Outcomes.{outcomeOf}
+use Rattle.finding.specs.Outcomes.{outcomeOf}
 use Rattle.batching.specs.Laws.Parts.{part-whole, part-told}
 use Rattle.batching.proofs.parts.match_part.Statement.{statement}
 use Rattle.batching.proofs.parts.match_part.Tie as tie

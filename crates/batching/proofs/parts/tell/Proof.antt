@@ -6,9 +6,9 @@ use borrow.Author.Needs.{needs}
 use Rattle.syntax.specs.declared.Refusal.{Refusal}
 use Rattle.syntax.specs.Refusals.{numberOf}
 use Rattle.semantics.specs.Batches.{low, high, outcomeNumbers}
-use Rattle.matching.specs.declared.Outcome.{Outcome}
-use Rattle.matching.specs.declared.Outcome.the-variants.{Matched, NotMatched, Exhausted, Refused}
-use Rattle.matching.specs.Outcomes.{outcomeOf}
+use Rattle.finding.specs.declared.Outcome.{Outcome}
+use Rattle.finding.specs.declared.Outcome.the-variants.{Matched, NotMatched, Exhausted, Refused}
+use Rattle.finding.specs.Outcomes.{outcomeOf}
 use Rattle.batching.proofs.parts.tell.Statement.{statement}
 use Rattle.batching.proofs.parts.tell.Tie as tie
 

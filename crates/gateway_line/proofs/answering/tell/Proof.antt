@@ -1,5 +1,5 @@
 -- One line for each outcome.
-use Rattle.matching.specs.Outcomes.{outcomeOf}
+use Rattle.finding.specs.Outcomes.{outcomeOf}
 use Rattle.gateway_line.specs.Promises.{toldLine}
 use borrow.Author.Needs.{needs}
 use Rattle.gateway_line.proofs.answering.tell.Statement.{statement}

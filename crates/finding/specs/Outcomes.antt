@@ -10,8 +10,8 @@ use Rattle.semantics.specs.States.{State, row}
 use Rattle.semantics.specs.Answers.{matched, notMatched, exhausted, Answer, answer}
 use Rattle.semantics.specs.Calls.{over, MatchOutcome, Matched, NotMatched, Exhausted, Refused}
 use Rattle.machine.specs.Theorem.{Stands}
-use Rattle.matching.specs.declared.Outcome.{Outcome}
-use Rattle.matching.specs.declared.Outcome.the-variants.{Matched as Found, NotMatched as Missed, Exhausted as Spent, Refused as Denied}
+use Rattle.finding.specs.declared.Outcome.{Outcome}
+use Rattle.finding.specs.declared.Outcome.the-variants.{Matched as Found, NotMatched as Missed, Exhausted as Spent, Refused as Denied}
 
 -- what the code's answer means
 unfoldable pub outcomeOf : Outcome → MatchOutcome

@@ -8,8 +8,8 @@ use borrow.Author.Needs.{needs}
 use denote.Ref.{now}
 use lib.ListN.{length, length-set, drop, replicate, set}
 use Rattle.syntax.specs.Limits.{unset}
-use Rattle.matching.proofs.registers.unset_groups.Statement.{statement}
-use Rattle.matching.proofs.registers.unset_groups.Tie as tie
+use Rattle.finding.proofs.registers.unset_groups.Statement.{statement}
+use Rattle.finding.proofs.registers.unset_groups.Tie as tie
 
 abbrev Inv-loop : tie.InvT-loop
 Inv-loop regs₀ groups all i₀ regs i = (i ≤ 2 * groups) × (length regs ≡ length regs₀) × (regs ≡ replicate i unset ++ drop i regs₀)

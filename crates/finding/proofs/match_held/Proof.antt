@@ -6,9 +6,9 @@ use denote.Ref.{now}
 use Rattle.syntax.specs.Limits.{unset, registers, heightLimit, nestingLimit, spansLength, groupLimit, ruleAreaNeed}
 use Rattle.machine.specs.Theorem.{clear-all}
 use Rattle.frame.specs.Laws.Parts.{between-all}
-use Rattle.matching.specs.Laws.Registers.{clear-fresh}
-use Rattle.matching.proofs.match_held.Statement.{statement}
-use Rattle.matching.proofs.match_held.Tie as tie
+use Rattle.finding.specs.Laws.Registers.{clear-fresh}
+use Rattle.finding.proofs.match_held.Statement.{statement}
+use Rattle.finding.proofs.match_held.Tie as tie
 
 find-opening-requires : tie.Need-find-opening-requires
 unfolding ruleAreaNeed

@@ -18,7 +18,7 @@ use Rattle.semantics.specs.Laws.Matches.{demand-2}
 use Rattle.semantics.specs.Laws.Rows.{row-facts}
 use Rattle.machine.specs.Theorem.{Clear}
 use Rattle.seeking.specs.Starts.{Match}
-use Rattle.matching.specs.Registers.{Fresh}
+use Rattle.finding.specs.Registers.{Fresh}
 
 spans-in : spansLength ≤ registers
 unfolding registers spansLength groupLimit

@@ -5,10 +5,10 @@ use denote.Ref.{now}
 use lib.Seq.{length-take-le, drop-at}
 use Rattle.syntax.specs.Limits.{spansLength, registers, workPerStep}
 use Rattle.semantics.specs.Calls.{workAreaNeed}
-use Rattle.matching.specs.Laws.Registers.{unset-clear}
+use Rattle.finding.specs.Laws.Registers.{unset-clear}
 use borrow.Author.Needs.{needs}
-use Rattle.matching.proofs.match_opened.Statement.{statement}
-use Rattle.matching.proofs.match_opened.Tie as tie
+use Rattle.finding.proofs.match_opened.Statement.{statement}
+use Rattle.finding.proofs.match_opened.Tie as tie
 
 unset-groups-requires : tie.Need-unset-groups-requires
 unfolding registers spansLength

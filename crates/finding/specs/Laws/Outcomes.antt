@@ -9,10 +9,10 @@ use Rattle.syntax.specs.Reading.{namesOf}
 use Rattle.semantics.specs.NameIndex.{nameIndex}
 use Rattle.semantics.specs.Answers.{Outcome, matched, notMatched, exhausted, Answer, answer}
 use Rattle.semantics.specs.Calls.{Call, workAreaNeed, over, cleared, leaving, matchReturns, matchRule}
-use Rattle.matching.specs.declared.Outcome.{Outcome as Answered}
-use Rattle.matching.specs.declared.Outcome.the-variants.{Matched, NotMatched, Exhausted, Refused}
+use Rattle.finding.specs.declared.Outcome.{Outcome as Answered}
+use Rattle.finding.specs.declared.Outcome.the-variants.{Matched, NotMatched, Exhausted, Refused}
 use Rattle.frame.specs.Inputs.{Told}
-use Rattle.matching.specs.Outcomes.{outcomeOf, Reports}
+use Rattle.finding.specs.Outcomes.{outcomeOf, Reports}
 use Rattle.frame.specs.Laws.Areas.{over-none, over-first}
 use Rattle.index.specs.Rows.{rowOf}
 use Rattle.index.specs.Laws.Rows.{rowOf-length}

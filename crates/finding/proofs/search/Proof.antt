@@ -7,10 +7,10 @@ use denote.Ref.{now}
 use Rattle.syntax.specs.Limits.{groupLimit, spansLength, registers}
 use Rattle.frame.specs.Inputs.{between}
 use Rattle.seeking.specs.Laws.Starts.{seeks-begin}
-use Rattle.matching.specs.Laws.Outcomes.{found-reports}
-use Rattle.matching.specs.Laws.Registers.{clear-fresh, unset-clear, unset-all, found-fresh}
-use Rattle.matching.proofs.search.Statement.{statement}
-use Rattle.matching.proofs.search.Tie as tie
+use Rattle.finding.specs.Laws.Outcomes.{found-reports}
+use Rattle.finding.specs.Laws.Registers.{clear-fresh, unset-clear, unset-all, found-fresh}
+use Rattle.finding.proofs.search.Statement.{statement}
+use Rattle.finding.proofs.search.Tie as tie
 
 seek-requires : tie.Need-seek-requires
 seek-requires c κs = let p = c .before .before .before .before .before .before .before .before .before .pre in ((p .0 .0, p .0 .1, record { few = omega arith; small = omega arith }), p .1)
