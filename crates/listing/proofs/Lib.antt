@@ -1,3 +1,2 @@
--- The laws of the loops that the functions' proofs cite: over the ends of a start, and over the starts.
-mod Ends
+-- The laws of the loop over the starts, which its proof cites.
 mod Starts

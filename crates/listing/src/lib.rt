@@ -1,9 +1,7 @@
 // A listing: the readings of all starts, each written as a row when it is met for the first time, in the order in which the walks meet them.
 //
 // `list_readings` is the call, which compiles its rule and clears what it was lent. `list_held` is its inside, for a rule that stands compiled, one line
-// after another. Half of the work area is the machine's, and in the other half stands the index by which a reading is known to be new.
-mod noting;
-mod parts;
+// after another. How the readings of one start are noted stands in `noting`.
 mod walking;
 
 use frame::Preparation;
@@ -14,7 +12,7 @@ use frame::finish;
 use frame::prepare;
 use index::ROW_LENGTH;
 use index::UNSET;
-use parts::spans_of;
+use noting::spans_of;
 use syntax::Refusal;
 use walking::list_starts;
 ghost use mathlib.Core.Path.{_≡_};

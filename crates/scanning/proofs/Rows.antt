@@ -22,7 +22,7 @@ use Rattle.semantics.specs.Laws.ScanSteps.{scan-steps}
 use Rattle.semantics.specs.Laws.ScanLoops.{ScanAt, scan-begin, scan-row, scan-full, scan-over, scan-last}
 use Rattle.listing.specs.declared.Listing.{Listing}
 use Rattle.listing.specs.Listing.{listingOf}
-use Rattle.listing.specs.Laws.Holding.{same-room, holds-more}
+use Rattle.noting.specs.Laws.Holding.{same-room, holds-more}
 use Rattle.index.specs.Rows.{rowOf}
 use Rattle.index.specs.Laws.Rows.{rowOf-length}
 use Rattle.frame.specs.Laws.Areas.{over-none}

@@ -13,7 +13,7 @@ use Rattle.semantics.specs.Calls.{room, workAreaNeed}
 use Rattle.machine.specs.Theorem.{Stands, Clear}
 use Rattle.machine.specs.Laws.Code.{spans-in-registers}
 use Rattle.scanning.specs.Scanning.{Scanning}
-use Rattle.listing.specs.Laws.Holding.{rows-fit}
+use Rattle.noting.specs.Laws.Holding.{rows-fit}
 use Rattle.scanning.proofs.Rows.{scanning-start, not-found, ends-few, scanning-end, scanning-fewer, row-few, scanning-row}
 use Rattle.scanning.proofs.scans.scan_searches.Statement.{statement}
 use Rattle.scanning.proofs.scans.scan_searches.Tie as tie

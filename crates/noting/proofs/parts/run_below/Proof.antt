@@ -3,10 +3,10 @@ use mathlib.Core.Path.{_≡_, sym, _∙_}
 use denote.Ref.{now}
 use lib.ListN.{length, take}
 use lib.Seq.{length-take-le}
-use Rattle.listing.specs.Laws.Parts.{front-back, front-rest}
+use Rattle.noting.specs.Laws.Parts.{front-back, front-rest}
 use borrow.Author.Needs.{needs}
-use Rattle.listing.proofs.parts.run_below.Statement.{statement}
-use Rattle.listing.proofs.parts.run_below.Tie as tie
+use Rattle.noting.proofs.parts.run_below.Statement.{statement}
+use Rattle.noting.proofs.parts.run_below.Tie as tie
 
 slice-relend-prefix-run-to-end : tie.Need-slice-relend-prefix-run-to-end
 slice-relend-prefix-run-to-end c = search needs

@@ -11,10 +11,10 @@ use Rattle.index.specs.Rows.{rowOf}
 use Rattle.index.specs.Index.{bucketOf, rowAt, Indexed}
 use Rattle.index.specs.Laws.Rows.{rowOf-length}
 use Rattle.index.specs.Laws.Index.{row-written, indexed-written}
-use Rattle.listing.specs.Laws.Parts.{rest-whole, rest-front, rest-back}
+use Rattle.noting.specs.Laws.Parts.{rest-whole, rest-front, rest-back}
 use borrow.Author.Needs.{needs}
-use Rattle.listing.proofs.noting.note.Statement.{statement}
-use Rattle.listing.proofs.noting.note.Tie as tie
+use Rattle.noting.proofs.noting.note.Statement.{statement}
+use Rattle.noting.proofs.noting.note.Tie as tie
 
 bucket-requires : tie.Need-bucket-requires
 bucket-requires c κs = search needs

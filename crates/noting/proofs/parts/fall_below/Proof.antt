@@ -4,10 +4,10 @@ use native.Mathlib.Omega.{arith}
 use denote.Ref.{now}
 use lib.ListN.{length}
 use lib.Seq.{length-take-le}
-use Rattle.listing.specs.Laws.Parts.{front-back, front-rest}
+use Rattle.noting.specs.Laws.Parts.{front-back, front-rest}
 use borrow.Author.Needs.{needs}
-use Rattle.listing.proofs.parts.fall_below.Statement.{statement}
-use Rattle.listing.proofs.parts.fall_below.Tie as tie
+use Rattle.noting.proofs.parts.fall_below.Statement.{statement}
+use Rattle.noting.proofs.parts.fall_below.Tie as tie
 
 slice-relend-prefix-fall-back : tie.Need-slice-relend-prefix-fall-back
 slice-relend-prefix-fall-back c = search needs

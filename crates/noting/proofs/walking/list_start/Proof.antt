@@ -11,10 +11,10 @@ use Rattle.machine.specs.Words.{nowOf}
 use Rattle.machine.specs.Laws.Code.{spans-in-registers}
 use Rattle.index.specs.Index.{words, Indexed}
 use Rattle.index.specs.Laws.Index.{indexed-none}
-use Rattle.listing.specs.Listing.{Course, Going, allListed, noneLeft, cutShort}
-use Rattle.listing.proofs.Ends.{earlier-fit, noted-one, going-spent, going-few, going-nothing, going-end, going-on, going-full}
-use Rattle.listing.proofs.walking.list_start.Statement.{statement}
-use Rattle.listing.proofs.walking.list_start.Tie as tie
+use Rattle.noting.specs.Noting.{Course, Going, allListed, noneLeft, cutShort}
+use Rattle.noting.proofs.Ends.{earlier-fit, noted-one, going-spent, going-few, going-nothing, going-end, going-on, going-full}
+use Rattle.noting.proofs.walking.list_start.Statement.{statement}
+use Rattle.noting.proofs.walking.list_start.Tie as tie
 
 abbrev Inv-loop : tie.InvT-loop
 Inv-loop code sub regs₀ work₀ results₀ start budget earlier spans heads half head₀ left₀ rows₀ regs work results head left rows =

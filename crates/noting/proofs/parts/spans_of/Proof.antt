@@ -2,8 +2,8 @@
 use native.Mathlib.Omega.{arith}
 use Rattle.syntax.specs.Limits.{spansLength}
 use borrow.Author.Needs.{needs}
-use Rattle.listing.proofs.parts.spans_of.Statement.{statement}
-use Rattle.listing.proofs.parts.spans_of.Tie as tie
+use Rattle.noting.proofs.parts.spans_of.Statement.{statement}
+use Rattle.noting.proofs.parts.spans_of.Tie as tie
 
 mul-spans : tie.Need-mul-spans
 mul-spans c = search needs

@@ -8,10 +8,10 @@ use lib.ListN.{length, take, drop, length-append}
 use Rattle.syntax.specs.Limits.{rowLength}
 use Rattle.semantics.specs.States.{Row}
 use Rattle.semantics.specs.Calls.{joined, room}
-use Rattle.listing.specs.Listing.{Holds}
+use Rattle.noting.specs.Noting.{Holds}
 use Rattle.frame.specs.Laws.Areas.{over-length}
 use Rattle.index.specs.Laws.Rows.{whole-append}
-use Rattle.listing.specs.Laws.Rows.{joined-length, row-behind}
+use Rattle.noting.specs.Laws.Rows.{joined-length, row-behind}
 
 -- rows for which there is room have their numbers in the area
 pub rows-fit : (area : List ℕ) (n : ℕ) → n ≤ room area → n * rowLength ≤ length area

@@ -20,12 +20,12 @@ use Rattle.machine.specs.Ready.{until, StackFits, Ready, Agrees}
 use Rattle.machine.specs.Theorem.{at-end, at-nothing, at-spent}
 use Rattle.machine.specs.Laws.Code.{spans-in-registers}
 use Rattle.machine.specs.Laws.Loop.{until-ended, until-nothing, until-spent}
-use Rattle.listing.specs.declared.noting.Noted.the-variants.{Kept, NoRoom}
+use Rattle.noting.specs.declared.noting.Noted.the-variants.{Kept, NoRoom}
 use Rattle.index.specs.Rows.{rowOf, rowsAt, Whole}
-use Rattle.listing.specs.Listing.{Notes, Course, Going, Tells, Through}
+use Rattle.noting.specs.Noting.{Notes, Course, Going, Tells, Through}
 use Rattle.index.specs.Laws.Rows.{rowOf-length, rowOf-row}
-use Rattle.listing.specs.Laws.Rows.{joined-length, rows-written}
-use Rattle.listing.specs.Laws.Holding.{same-room, held-fit, holds-more}
+use Rattle.noting.specs.Laws.Rows.{joined-length, rows-written}
+use Rattle.noting.specs.Laws.Holding.{same-room, held-fit, holds-more}
 
 -- Rows and room ---------------------------------------------------------------
 

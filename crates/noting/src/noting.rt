@@ -8,8 +8,8 @@ ghost use lib.ListN.{length, take, drop};
 ghost use Rattle.syntax.specs.Limits.{spansLength, rowLength};
 ghost use Rattle.index.specs.Rows.{rowOf};
 ghost use Rattle.index.specs.Index.{words, Indexed};
-ghost use Rattle.listing.specs.declared.noting.Noted.the-variants.{Kept};
-ghost use Rattle.listing.specs.Listing.{Notes};
+ghost use Rattle.noting.specs.declared.noting.Noted.the-variants.{Kept};
+ghost use Rattle.noting.specs.Noting.{Notes};
 
 // What is told of a reading: so many rows there are now, or it is new and no row is left.
 pub enum Noted {
