@@ -10,6 +10,7 @@ use machine::Stop;
 use machine::start;
 use openings::next_start;
 use straight::fails_soon;
+use straight::looks_at;
 use walker::run_to_end;
 ghost use mathlib.Core.Path.{_≡_};
 ghost use mathlib.Core.List.{List, []};
@@ -43,13 +44,14 @@ fn try_start(
     entry: u32,
     begin: u32,
     budget: u32,
+    looks: u32,
 ) -> Stop
-    requires { ⌜ (length (now regs) ≡ registers) × (length (now subject) < 2 ^ 32) × (length (now code) < 2 ^ 32) ⌝ }
+    requires { ⌜ (length (now regs) ≡ registers) × (length (now subject) < 2 ^ 32) × (length (now code) < 2 ^ 32) × (looks ≤ budget) ⌝ }
     requires { ⌜ ((first : List ℕ) × (t : Trace) × Ready (now code) (now subject) (length (now work)) budget first (go entry begin (now regs) []) t) ⌝ }
     ensures { λ r. ⌜ ((first : List ℕ) (t : Trace) → Ready (now (code .entry)) (now (subject .entry)) (length (now (work .entry))) budget first (go entry begin (now (regs .entry)) []) t
         → Agrees (now (code .entry)) (now (subject .entry)) (length (now (work .entry))) budget first (now (regs .exit)) (now (work .exit)) (until budget 0 t) r) ⌝ }
 {
-    let used = fails_soon(code, subject, entry, begin, budget);
+    let used = fails_soon(code, subject, entry, begin, looks);
     if 0 < used {
         return Stop::Nothing(used);
     }
@@ -70,16 +72,17 @@ fn seek_within(
     budget: u32,
     first: u32,
     before: u64,
+    looks: u32,
 ) -> Sought
     requires { ⌜ Held (now code) (now subject) (now work) entry budget × Clear (now regs) × Opens (now code) entry budget (record { cost = cost; any = any; set = now set }) ⌝ }
-    requires { ⌜ Near (now subject) first before ⌝ }
+    requires { ⌜ Near (now subject) first before × (looks ≤ budget) ⌝ }
     ensures { λ r. ⌜ ((x : Rule) (a : Answer) → Stands (now (code .entry)) x entry → Seeks (now (subject .entry)) x budget a before first → Answers (now (regs .exit)) r a) ⌝ }
     ensures { λ r. ⌜ Leaves (now (regs .entry)) (now (regs .exit)) r ⌝ }
 {
     let mut begin = first;
     let mut steps = before;
     while begin as usize <= subject.len() {
-        match try_start(code, subject, regs, work, entry, begin, budget) {
+        match try_start(code, subject, regs, work, entry, begin, budget, looks) {
             Stop::End(used, e) => return Sought::Found(begin, e.at, steps + used as u64),
             Stop::Nothing(used) => {
                 let on = next_start(set, any, cost, subject, begin + 1, steps + used as u64);
@@ -115,6 +118,7 @@ pub fn seek(
     ensures { λ r. ⌜ ((x : Rule) (a : Answer) → Stands (now (code .entry)) x entry → Seeks (between (now (text .entry)) from to) x budget a before first → Answers (now (regs .exit)) r a) ⌝ }
     ensures { λ r. ⌜ Leaves (now (regs .entry)) (now (regs .exit)) r ⌝ }
 {
+    let looks = looks_at(code, entry, budget);
     seek_within(
         code,
         &text[from..to],
@@ -127,5 +131,6 @@ pub fn seek(
         budget,
         first,
         before,
+        looks,
     )
 }

@@ -99,25 +99,25 @@ fn look(code: &[u32], sub: &[u8], pc: u32, at: u32) -> Seen
     Seen::Unknown
 }
 
-// The steps after which the start at `begin` fails on its straight way, within the budget; 0 where it is not seen to. The first start of a line is not looked
-// at: many rules match there or nowhere, and a look would be for nothing.
-fn straight(code: &[u32], sub: &[u8], entry: u32, begin: u32, budget: u32) -> u32
+// The steps after which the start at `begin` fails on its straight way, seen by so many looks at most; 0 where it is not seen to. The first start of a line is not
+// looked at: many rules match there or nowhere, and a look would be for nothing.
+pub fn fails_soon(code: &[u32], sub: &[u8], entry: u32, begin: u32, looks: u32) -> u32
     requires { ⌜ length (now sub) < 2 ^ 32 ⌝ }
-    ensures { λ r. ⌜ (1 ≤ r → (r ≤ budget) × Fails (now (code .entry)) (now (sub .entry)) begin entry r) ⌝ }
+    ensures { λ r. ⌜ (1 ≤ r → (r ≤ looks) × Fails (now (code .entry)) (now (sub .entry)) begin entry r) ⌝ }
 {
     if begin == 0 {
         return 0;
     }
     let mut pc = entry;
     let mut at = begin;
-    let mut left = budget;
+    let mut left = looks;
     while 0 < left {
         match look(code, sub, pc, at) {
             Seen::Missed(steps) => {
                 if left < steps {
                     return 0;
                 }
-                return budget - left + steps;
+                return looks - left + steps;
             }
             Seen::Next(next, there) => {
                 pc = next;
@@ -130,11 +130,10 @@ fn straight(code: &[u32], sub: &[u8], entry: u32, begin: u32, budget: u32) -> u3
     0
 }
 
-// The steps after which the start at `begin` is seen to fail, within the budget; 0 where it is not. A rule that begins with branches has no straight way, and
-// one that begins with a run has it only where the run's byte is missing, which is known of a start that was not passed over.
-pub fn fails_soon(code: &[u32], sub: &[u8], entry: u32, begin: u32, budget: u32) -> u32
-    requires { ⌜ length (now sub) < 2 ^ 32 ⌝ }
-    ensures { λ r. ⌜ (1 ≤ r → (r ≤ budget) × Fails (now (code .entry)) (now (sub .entry)) begin entry r) ⌝ }
+// How many nodes of the straight way are looked at from each start, within the budget. A rule that begins with branches has no straight way, and one that begins with
+// a run has it only where the run's byte is missing, which is known of a start that was not passed over.
+pub fn looks_at(code: &[u32], entry: u32, budget: u32) -> u32
+    ensures { λ r. ⌜ r ≤ budget ⌝ }
 {
     let node = entry as usize;
     if code.len() <= node {
@@ -148,7 +147,7 @@ pub fn fails_soon(code: &[u32], sub: &[u8], entry: u32, begin: u32, budget: u32)
         return 0;
     }
     if budget < LOOKS {
-        return straight(code, sub, entry, begin, budget);
+        return budget;
     }
-    straight(code, sub, entry, begin, LOOKS)
+    LOOKS
 }

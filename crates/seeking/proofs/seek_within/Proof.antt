@@ -13,17 +13,17 @@ use Rattle.seeking.proofs.seek_within.Statement.{statement}
 use Rattle.seeking.proofs.seek_within.Tie as tie
 
 abbrev Inv-loop : tie.InvT-loop
-Inv-loop code subject regs₀ work₀ set any cost entry budget first before begin₀ steps₀ regs work begin steps =
+Inv-loop code subject regs₀ work₀ set any cost entry budget first before looks begin₀ steps₀ regs work begin steps =
     Seeking code subject regs₀ work₀ entry budget (record { cost = cost; any = any; set = set }) first before regs work begin steps
 
 abbrev μ-loop : tie.MeasureT-loop
-μ-loop code subject regs₀ work₀ set any cost entry budget first before begin₀ steps₀ regs work begin steps = suc (length subject) - begin
+μ-loop code subject regs₀ work₀ set any cost entry budget first before looks begin₀ steps₀ regs work begin steps = suc (length subject) - begin
 
 loop-holds : tie.Need-loop-holds Inv-loop μ-loop
 loop-holds c =
     let a = c .before .before .before .before .args in
     let p = c .before .before .before .before .pre in
-    seeking-start (now (a .code)) (now (a .subject)) (now (a .regs)) (now (a .work)) (a .entry) (a .budget) _ (a .first) (a .before) (record { held = p .0 .0; clear = p .0 .1; opens = p .0 .2; bytes = λ i. omega (arith, c .before .before .shared-slice-known2 .given i); budget-small = omega arith; cost-small = omega arith }) (p .1)
+    seeking-start (now (a .code)) (now (a .subject)) (now (a .regs)) (now (a .work)) (a .entry) (a .budget) _ (a .first) (a .before) (record { held = p .0 .0; clear = p .0 .1; opens = p .0 .2; bytes = λ i. omega (arith, c .before .before .shared-slice-known2 .given i); budget-small = omega arith; cost-small = omega arith }) (p .1 .0)
 
 cast-loop : tie.Need-cast-loop Inv-loop μ-loop
 cast-loop c = search needs
@@ -33,17 +33,17 @@ unfolding subjectLimit ruleAreaNeed
 try-start-requires c κs =
     let g = c .before .before .before .loop .inv in
     let h = g .lent .held in
-    ((omega (arith, ap (λ (r : List ℕ). length r) (g .same), g .lent .clear .size), omega (arith, h .subject-fits), omega (arith, h .code-size)), (_, _, seeking-ready g (c .before .before .loop-test .taken) (h .tree) (h .stands)))
+    ((omega (arith, ap (λ (r : List ℕ). length r) (g .same), g .lent .clear .size), omega (arith, h .subject-fits), omega (arith, h .code-size), c .before .before .before .before .before .before .before .before .pre .1 .1), (_, _, seeking-ready g (c .before .before .loop-test .taken) (h .tree) (h .stands)))
 
 enum-known-used : tie.Need-enum-known-used Inv-loop μ-loop
 enum-known-used c = search needs
 
-cast-t26 : tie.Need-cast-t26 Inv-loop μ-loop
-cast-t26 c = search needs
+cast-t27 : tie.Need-cast-t27 Inv-loop μ-loop
+cast-t27 c = search needs
 
-add-t27 : tie.Need-add-t27 Inv-loop μ-loop
+add-t28 : tie.Need-add-t28 Inv-loop μ-loop
 unfolding subjectLimit
-add-t27 c = let g = c .before .before .before .before .before .before .before .before .before .before .before .loop .inv in omega (arith, g .near .small, c .before .before .before .before .before .before .before .before .before .before .loop-test .taken, g .lent .held .subject-fits)
+add-t28 c = let g = c .before .before .before .before .before .before .before .before .before .before .before .loop .inv in omega (arith, g .near .small, c .before .before .before .before .before .before .before .before .before .before .loop-test .taken, g .lent .held .subject-fits)
 
 same-length : tie.Need-same-length Inv-loop μ-loop
 same-length c = c .before .before .before .before .before .before .before .try-start .kept .1 .1 .0 ∙ ap (λ (r : List ℕ). length r) (c .before .before .before .before .before .before .before .before .before .before .before .loop .inv .same)
@@ -86,9 +86,9 @@ loop-again c =
 enum-told : tie.Need-enum-told Inv-loop μ-loop
 enum-told c = search needs
 
-add-t32 : tie.Need-add-t32 Inv-loop μ-loop
+add-t33 : tie.Need-add-t33 Inv-loop μ-loop
 unfolding subjectLimit
-add-t32 c = let g = c .before .before .before .before .before .before .before .before .before .before .loop .inv in omega (arith, g .near .small, c .before .before .before .before .before .before .before .before .before .loop-test .taken, g .lent .held .subject-fits)
+add-t33 c = let g = c .before .before .before .before .before .before .before .before .before .before .loop .inv in omega (arith, g .near .small, c .before .before .before .before .before .before .before .before .before .loop-test .taken, g .lent .held .subject-fits)
 
 same-length-3 : tie.Need-same-length-3 Inv-loop μ-loop
 same-length-3 c = c .before .before .before .before .before .before .try-start .kept .1 .1 .0 ∙ ap (λ (r : List ℕ). length r) (c .before .before .before .before .before .before .before .before .before .before .loop .inv .same)
@@ -118,8 +118,8 @@ seek-within-spec =
     cast-loop
     try-start-requires
     enum-known-used
-    cast-t26
-    add-t27
+    cast-t27
+    add-t28
     same-length
     same-length-2
     returns
@@ -131,7 +131,7 @@ seek-within-spec =
     loop-less
     loop-again
     enum-told
-    add-t32
+    add-t33
     same-length-3
     same-length-4
     returns-2

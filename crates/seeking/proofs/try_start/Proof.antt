@@ -15,13 +15,13 @@ returns : tie.Need-returns
 unfolding replay
 returns c =
     let f = c .before .fails-soon .ensures (omega (arith, c .if1 .taken)) in
-    λ first t ready. rw (fails-until (now (c .before .before .before .before .before .before .args .code)) (now (c .before .before .before .before .before .before .args .subject)) (c .before .before .before .before .before .before .args .entry) (c .before .before .before .before .before .before .args .begin) (c .before .fails-soon .result) (length (now (c .before .before .before .before .before .before .args .work))) (c .before .before .before .before .before .before .args .budget) first (now (c .before .before .before .before .before .before .args .regs)) t (f .1) (f .0) ready) (allTried (f .0) (ready .back))
+    λ first t ready. rw (fails-until (now (c .before .before .before .before .before .before .args .code)) (now (c .before .before .before .before .before .before .args .subject)) (c .before .before .before .before .before .before .args .entry) (c .before .before .before .before .before .before .args .begin) (c .before .fails-soon .result) (length (now (c .before .before .before .before .before .before .args .work))) (c .before .before .before .before .before .before .args .budget) first (now (c .before .before .before .before .before .before .args .regs)) t (f .1) (omega (arith, f .0, c .before .before .before .before .before .before .pre .0 .3)) ready) (allTried {used = c .before .fails-soon .result} (omega (arith, f .0, c .before .before .before .before .before .before .pre .0 .3)) (ready .back))
 
 start-requires : tie.Need-start-requires
 start-requires c κs = search needs
 
 run-to-end-requires : tie.Need-run-to-end-requires
-run-to-end-requires c κs = (c .before .before .before .before .before .before .before .before .before .pre .0, (c .before .before .before .before .before .before .before .before .before .pre .1 .0, c .before .before .before .before .before .before .before .before .before .pre .1 .1, rw (c .before .before .start .ensures (now (c .before .before .before .before .before .before .before .before .before .args .regs)) (now (c .before .before .before .before .before .before .before .before .before .args .work))) (c .before .before .before .before .before .before .before .before .before .pre .1 .2)))
+run-to-end-requires c κs = ((c .before .before .before .before .before .before .before .before .before .pre .0 .0, c .before .before .before .before .before .before .before .before .before .pre .0 .1, c .before .before .before .before .before .before .before .before .before .pre .0 .2), (c .before .before .before .before .before .before .before .before .before .pre .1 .0, c .before .before .before .before .before .before .before .before .before .pre .1 .1, rw (c .before .before .start .ensures (now (c .before .before .before .before .before .before .before .before .before .args .regs)) (now (c .before .before .before .before .before .before .before .before .before .args .work))) (c .before .before .before .before .before .before .before .before .before .pre .1 .2)))
 
 same-length : tie.Need-same-length
 same-length c = search needs

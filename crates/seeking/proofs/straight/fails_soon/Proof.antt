@@ -1,46 +1,87 @@
--- `fails_soon` meets its contract: it says nothing, or what is seen within a smaller number of steps.
+-- `fails_soon` meets its contract. The loop's invariant: if the node that was come to fails, the start does, after the steps that led there. The measure is the
+-- looks that are left.
+use mathlib.Core.Path.{_≡_}
+use Prim.Native.Nat.{ℕ, suc, _+_, _-_, _≤_}
 use native.Mathlib.Omega.{arith}
 use borrow.Author.Needs.{needs}
+use denote.Ref.{now}
+use Rattle.openings.specs.Failing.{Fails}
 use Rattle.seeking.proofs.straight.fails_soon.Statement.{statement}
 use Rattle.seeking.proofs.straight.fails_soon.Tie as tie
 
-returns : tie.Need-returns
+abbrev Inv-loop : tie.InvT-loop
+Inv-loop code sub entry begin looks pc₀ at₀ left₀ pc at left = (left ≤ looks) × ((n : ℕ) → Fails code sub at pc n → Fails code sub begin entry (looks - left + n))
+
+abbrev μ-loop : tie.MeasureT-loop
+μ-loop code sub entry begin looks pc₀ at₀ left₀ pc at left = left
+
+returns : tie.Need-returns Inv-loop μ-loop
 returns c = λ h. absurd (omega arith)
 
-mul-kind : tie.Need-mul-kind
-mul-kind c = search needs
+loop-holds : tie.Need-loop-holds Inv-loop μ-loop
+loop-holds c = (omega arith, λ n f. let z : c .before .before .before .args .looks - c .before .before .before .args .looks + n ≡ n = omega arith in rw z f)
 
-shared-slice-read-kind : tie.Need-shared-slice-read-kind
-shared-slice-read-kind c = search needs
+look-requires : tie.Need-look-requires Inv-loop μ-loop
+look-requires c κs = c .before .before .before .before .before .pre
 
-returns-2 : tie.Need-returns-2
+enum-known-steps : tie.Need-enum-known-steps Inv-loop μ-loop
+enum-known-steps c = search needs
+
+returns-2 : tie.Need-returns-2 Inv-loop μ-loop
 returns-2 c = λ h. absurd (omega arith)
 
-returns-3 : tie.Need-returns-3
-returns-3 c = λ h. absurd (omega arith)
+sub-result : tie.Need-sub-result Inv-loop μ-loop
+sub-result c = c .before .before .before .before .before .before .loop .inv .0
 
-straight-requires : tie.Need-straight-requires
-straight-requires c κs = search needs
+add-result : tie.Need-add-result Inv-loop μ-loop
+add-result c = omega (arith, c .before .before .before .before .before .before .loop .inv .0, c .if2 .left)
 
-returns-4 : tie.Need-returns-4
-returns-4 c = search needs
+returns-3 : tie.Need-returns-3 Inv-loop μ-loop
+returns-3 c =
+    let seen = rw (c .before .before .steps .given .1) at (c .before .before .before .before .look .ensures) in
+    λ h. (omega (arith, c .before .before .before .before .before .before .loop .inv .0, c .if2 .left), c .before .before .before .before .before .before .loop .inv .1 _ (seen .1))
 
-straight-requires-2 : tie.Need-straight-requires-2
-straight-requires-2 c κs = search needs
+enum-known-next : tie.Need-enum-known-next Inv-loop μ-loop
+enum-known-next c = search needs
 
-returns-5 : tie.Need-returns-5
-returns-5 c = λ h. let f = c .straight2 .ensures h in (omega (arith, f .0, c .before .if4 .left), f .1)
+sub-left : tie.Need-sub-left Inv-loop μ-loop
+sub-left c = omega arith
+
+loop-less : tie.Need-loop-less Inv-loop μ-loop
+loop-less c = omega arith
+
+loop-again : tie.Need-loop-again Inv-loop μ-loop
+loop-again c =
+    let seen = rw (c .before .next .given .1) at (c .before .before .before .look .ensures) in
+    (omega (arith, c .before .before .before .before .before .loop .inv .0), λ n f. let z : c .before .before .before .before .before .before .before .before .before .args .looks - (c .before .before .before .before .before .loop .left - 1) + n ≡ c .before .before .before .before .before .before .before .before .before .args .looks - c .before .before .before .before .before .loop .left + suc n = omega (arith, c .before .before .before .before .before .loop .inv .0) in rw z (c .before .before .before .before .before .loop .inv .1 (suc n) (seen n f)))
+
+enum-told : tie.Need-enum-told Inv-loop μ-loop
+enum-told c = search needs
+
+returns-4 : tie.Need-returns-4 Inv-loop μ-loop
+returns-4 c = λ h. absurd (omega arith)
+
+returns-5 : tie.Need-returns-5 Inv-loop μ-loop
+returns-5 c = λ h. absurd (omega arith)
 
 pub fails-soon-spec : {M : Type 1} → statement M
 fails-soon-spec =
     tie.close
     (tie.spec
+    Inv-loop
+    μ-loop
     returns
-    mul-kind
-    shared-slice-read-kind
+    loop-holds
+    look-requires
+    enum-known-steps
     returns-2
+    sub-result
+    add-result
     returns-3
-    straight-requires
+    enum-known-next
+    sub-left
+    loop-less
+    loop-again
+    enum-told
     returns-4
-    straight-requires-2
     returns-5)
