@@ -8,7 +8,7 @@ use lib.ListN.{length, take, replicate}
 use Rattle.syntax.specs.Limits.{groupLimit, unset, spansLength, rowLength, nameLimit, nameEntry}
 use Rattle.syntax.specs.Read.{bytes}
 use Rattle.semantics.specs.States.{Row}
-use Rattle.semantics.specs.Starred.{rowOf}
+use Rattle.semantics.specs.Checked.{rowOf}
 use Rattle.lookup.specs.declared.Found.{Found}
 use Rattle.lookup.specs.declared.Found.the-variants.{Taken, Standing, Nothing}
 use Rattle.semantics.specs.NameIndex.{entry as entryFor}

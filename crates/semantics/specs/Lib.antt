@@ -27,5 +27,5 @@ pub mod Profile
 pub mod Budgets
 pub mod Laws
 pub mod Computing
-pub mod Starred
-pub mod Traps
+pub mod Checked
+pub mod Samples

@@ -1,21 +1,17 @@
--- 01, "Checked readings": those marked *, from the rules' bytes, of the calls themselves. One statement over one list.
--- docs/REFERENCE.md, 12 to 16
-use mathlib.Core.Path.{_≡_, refl}
-use mathlib.Core.List.{List, [], _∷_, _++_, map}
+-- A call and what it gives, from the rule's bytes: what the lists of examples are made of.
+-- docs/REFERENCE.md, 16
+use mathlib.Core.List.{List, _∷_, _++_}
 use Prim.Native.Nat.{ℕ, _-_, _*_}
 use Prim.Native.String.{String}
 use lib.ListN.{length, take, replicate}
-use Rattle.syntax.specs.declared.Reason.the-variants.{UnclosedGroup, RepeatOnRepeat, NoSuchGroup, BadRange}
 use Rattle.syntax.specs.Limits.{ruleAreaNeed, unset, spansLength, rowLength, nameIndexNeed}
 use Rattle.syntax.specs.Read.{bytes}
 use Rattle.semantics.specs.States.{Row}
 use Rattle.semantics.specs.Explanations.{Failure}
-use Rattle.semantics.specs.Calls.{Call, workAreaNeed, MatchOutcome, Matched, NotMatched, Exhausted, Refused, matchCall, ListOutcome, Complete, listCall, scanCall, joined, ExplainOutcome, explainCall}
+use Rattle.semantics.specs.Calls.{Call, workAreaNeed, MatchOutcome, matchCall, ListOutcome, listCall, scanCall, joined, ExplainOutcome, explainCall}
 use Rattle.semantics.specs.Checks.{CheckOutcome, checkCall}
 use Rattle.semantics.specs.Batches.{BatchOutcome, batchCall}
 use Rattle.semantics.specs.Computing.{computing-calls}
-
--- One call and what it gives --------------------------------------------------
 
 -- a rule, flags, a subject and a budget, with areas just large enough, and so many numbers to write the result into
 unfoldable pub lending : String → ℕ → String → ℕ → ℕ → Call
@@ -94,31 +90,3 @@ expected (batching rule flags buffer budget outcome numbers) = batches outcome n
 unfoldable pub computing-checks : Unit {0}
 unfolding computing-calls lending rowOf missed noRow calls expected
 computing-checks = tt
-
--- The list ------------------------------------------------------------------------
-
-unfoldable pub starred : List Checked
-starred =
-    matching "" 0 "" 1000 (Matched 1) (rowOf 0 0 [] ∷ [])
-    ∷ matching "a" 0 "a" 1000 (Matched 2) (rowOf 0 1 [] ∷ [])
-    ∷ matching "a" 0 "b" 1000 (NotMatched 2) []
-    ∷ matching "a|b" 0 "b" 1000 (Matched 5) (rowOf 0 1 [] ∷ [])
-    ∷ matching "a*" 0 "aa" 1000 (Matched 7) (rowOf 0 2 [] ∷ [])
-    ∷ matching "a*" 0 "aa" 6 (Exhausted 0 6) []
-    ∷ matching "(\\d+),(\\d+)" 0 "1,5" 1000 (Matched 14) (rowOf 0 3 (0 ∷ 1 ∷ 2 ∷ 3 ∷ []) ∷ [])
-    ∷ matching "(a?)*" 0 "b" 1000 (Matched 7) (rowOf 0 0 (0 ∷ 0 ∷ []) ∷ [])
-    ∷ listing "(a?)*" 0 "b" 1000 9 (Complete 4 16) (rowOf 0 0 (0 ∷ 0 ∷ []) ∷ rowOf 0 0 [] ∷ rowOf 1 1 (1 ∷ 1 ∷ []) ∷ rowOf 1 1 [] ∷ [])
-    ∷ listing "^(?:(\\d{1,3},\\d{3})|(\\d+,\\d+)) L$" 0 "1,500 L" 1000 9 (Complete 2 51) (rowOf 0 7 (0 ∷ 5 ∷ []) ∷ rowOf 0 7 (unset ∷ unset ∷ 0 ∷ 5 ∷ []) ∷ [])
-    ∷ matching "[][]" 0 "]" 1000 (Matched 2) (rowOf 0 1 [] ∷ [])
-    ∷ matching "[[]]" 0 "[]" 1000 (Matched 3) (rowOf 0 2 [] ∷ [])
-    ∷ matching "." 0 "\n" 1000 (NotMatched 2) []
-    ∷ matching "." 1 "\n" 1000 (Matched 2) (rowOf 0 1 [] ∷ [])
-    ∷ matching "(" 0 "" 1000 (Refused 0 UnclosedGroup) []
-    ∷ matching "a**" 0 "" 1000 (Refused 2 RepeatOnRepeat) []
-    ∷ matching "\\1" 0 "" 1000 (Refused 0 NoSuchGroup) []
-    ∷ matching "[z-a]" 0 "" 1000 (Refused 1 BadRange) []
-    ∷ []
-
-pub starred-readings : map calls starred ≡ map expected starred
-unfolding computing-checks starred
-starred-readings = refl

@@ -6,10 +6,10 @@ use Prim.Native.Nat.{_-_, _*_}
 use lib.ListN.{replicate}
 use Rattle.syntax.specs.declared.Reason.the-variants.{UnknownFlag, BudgetTooLarge, ResultAreaShort, UnclosedGroup, HeldOrLook, TooManyBranches}
 use Rattle.syntax.specs.Limits.{unset, spansLength, partLength}
 use Rattle.semantics.specs.Calls.{Matched, NotMatched, Exhausted, Refused, Complete, Full, ListExhausted, Fits, Unfit, ExplainExhausted, ExplainRefused}
 use Rattle.semantics.specs.Checks.{AReading, NoReading, CheckExhausted, CheckRefused}
 use Rattle.semantics.specs.Batches.{Done, BatchRefused}
-use Rattle.semantics.specs.Starred.{rowOf, Checked, matching, listing, scanning, explaining, checking, batching, missed, noRow, calls, expected, computing-checks}
+use Rattle.semantics.specs.Checked.{rowOf, Checked, matching, listing, scanning, explaining, checking, batching, missed, noRow, calls, expected, computing-checks}
 
 unfoldable pub traps : List Checked
 traps =

@@ -1,0 +1,1 @@
+// Examples of the calls, as definitions that are computed (specs/). There is no code.
