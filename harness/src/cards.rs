@@ -4,6 +4,7 @@
 use crate::fence::Fenced;
 use crate::independent::cards::{self, Card, CARD_AREA, RULE_BYTES};
 use crate::independent::{Refusal, RULE_AREA};
+use crate::lender::is_zero;
 use crate::raw::{self, CardText, READ_ANSWER_LENGTH};
 use crate::text;
 
@@ -77,6 +78,8 @@ type Numbers = [u32; READ_ANSWER_LENGTH + 5];
 pub struct CardLender {
     /// What the rule area holds before a call: no number is 0, and neighbours differ.
     pattern: Vec<u32>,
+    /// And what the written area holds: no byte is 0 or a kind of record, and neighbours differ.
+    byte_pattern: Vec<u8>,
     rule_area: Vec<u32>,
     written: Vec<u8>,
     handed: Fenced,
@@ -84,7 +87,8 @@ pub struct CardLender {
 
 impl Default for CardLender {
     fn default() -> CardLender {
-        CardLender { pattern: Vec::new(), rule_area: Vec::new(), written: Vec::new(), handed: Fenced::new(4_096) }
+        let (pattern, rule_area, handed) = (Vec::new(), Vec::new(), Fenced::new(4_096));
+        CardLender { pattern, byte_pattern: Vec::new(), rule_area, written: Vec::new(), handed }
     }
 }
 
@@ -105,13 +109,13 @@ impl CardLender {
         if self.written[GUARD..][..bytes.len()] != *bytes {
             faults.push(format!("written was {}, expected {}", text::hex(&self.written[GUARD..][..bytes.len()]), text::hex(bytes)));
         }
-        let is_kept = |at: usize| (GUARD..GUARD + bytes.len()).contains(&at) || self.written[at] == byte_before(at);
-        if !(0..self.written.len()).all(is_kept) {
+        let end = GUARD + bytes.len();
+        if self.written[..GUARD] != self.byte_pattern[..GUARD] || self.written[end..] != self.byte_pattern[end..self.written.len()] {
             faults.push(format!("the written area is changed beside {} bytes", bytes.len()));
         }
         let zeros = if cards::clears_rule_area(&expected) { RULE_AREA } else { 0 };
         let (before, behind) = (GUARD, GUARD + zeros);
-        let is_zero = self.rule_area[before..behind].iter().all(|&number| number == 0);
+        let is_zero = is_zero(&self.rule_area[before..behind]);
         let is_kept = |area: &[u32], pattern: &[u32]| area[..before] == pattern[..before] && area[behind..] == pattern[behind..area.len()];
         if !is_zero || !is_kept(&self.rule_area, &self.pattern) {
             faults.push(format!("the rule area is not {zeros} zeros and otherwise unchanged"));
@@ -127,7 +131,10 @@ impl CardLender {
         self.rule_area.clear();
         self.rule_area.extend_from_slice(&self.pattern[..case.rule_area + 2 * GUARD]);
         self.written.clear();
-        self.written.extend((0..case.written_area + 2 * GUARD).map(byte_before));
+        for index in self.byte_pattern.len()..case.written_area + 2 * GUARD {
+            self.byte_pattern.push((index % 251) as u8 + 5);
+        }
+        self.written.extend_from_slice(&self.byte_pattern[..case.written_area + 2 * GUARD]);
         let mut numbers: Numbers = [UNWRITTEN; READ_ANSWER_LENGTH + 5];
         let rule_area = &mut self.rule_area[GUARD..][..case.rule_area];
         let written = &mut self.written[GUARD..][..case.written_area];
@@ -160,9 +167,4 @@ fn numbers_of(case: &CardCase, told: &Result<Told, Refusal>) -> Numbers {
         Ok(Told::Read(card)) => answer[5..].copy_from_slice(&[card.rule.len() as u32, card.flags, card.budget, card.groups as u32]),
     }
     numbers
-}
-
-/// What the written area holds before a call: no byte is 0 or a kind of record, and neighbours differ.
-fn byte_before(at: usize) -> u8 {
-    (at % 251) as u8 + 5
 }

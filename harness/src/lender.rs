@@ -14,6 +14,8 @@ use crate::raw::{self, Areas, Call, Question, ANSWER_LENGTH};
 pub struct Lender {
     /// What areas hold before a call: no number is 0, and neighbours differ.
     pattern: Vec<u32>,
+    /// And what the name index and the marks hold: no byte is 0 or 1, which marks are, and neighbours differ.
+    byte_pattern: Vec<u8>,
     rule: Vec<u32>,
     work: Vec<u32>,
     result: Vec<u32>,
@@ -42,7 +44,8 @@ impl Default for Lender {
     fn default() -> Lender {
         let [rule_text, subject_text, proposal_text] = [4_096, 70_000, 4_096].map(Fenced::new);
         let [pattern, rule, work, result] = [(); 4].map(|()| Vec::new());
-        Lender { pattern, rule, work, result, names: Vec::new(), marks: Vec::new(), rule_text, subject_text, proposal_text }
+        let [byte_pattern, names, marks] = [(); 3].map(|()| Vec::new());
+        Lender { pattern, byte_pattern, rule, work, result, names, marks, rule_text, subject_text, proposal_text }
     }
 }
 
@@ -88,9 +91,12 @@ impl Lender {
             area.clear();
             area.extend_from_slice(&self.pattern[..length + 2 * GUARD]);
         }
+        for index in self.byte_pattern.len()..case.name_index.max(case.marks) + 2 * GUARD {
+            self.byte_pattern.push((index % 254) as u8 + 2);
+        }
         for (area, length) in [&mut self.names, &mut self.marks].into_iter().zip([case.name_index, case.marks]) {
             area.clear();
-            area.extend((0..length + 2 * GUARD).map(byte_before));
+            area.extend_from_slice(&self.byte_pattern[..length + 2 * GUARD]);
         }
     }
 
@@ -158,7 +164,7 @@ impl Lender {
         if answer.clears_areas() {
             (rule, work) = (RULE_AREA.min(case.rule_area), (WORK_PER_STEP * case.budget as usize).min(case.work_area));
         }
-        let zero = |area: &[u32], length: usize| area[GUARD..][..length].iter().all(|&number| number == 0);
+        let zero = |area: &[u32], length: usize| is_zero(&area[GUARD..][..length]);
         let kept = |area: &[u32], written: usize| {
             area[..GUARD] == self.pattern[..GUARD] && area[GUARD + written..] == self.pattern[GUARD + written..area.len()]
         };
@@ -174,7 +180,8 @@ impl Lender {
         let filled = if answer.names.is_some() { INDEX_LENGTH } else { 0 };
         let marked = answer.explanation.as_ref().map_or(0, |explanation| explanation.marks.len());
         for (what, area, written) in [("name index", &self.names, filled), ("marks", &self.marks, marked)] {
-            if is_changed_beside(area, GUARD..GUARD + written) {
+            let behind = GUARD + written;
+            if area[..GUARD] != self.byte_pattern[..GUARD] || area[behind..] != self.byte_pattern[behind..area.len()] {
                 faults.push(format!("the {what} changed beside {written} bytes"));
             }
         }
@@ -190,6 +197,11 @@ impl Lender {
         }
         is_changed || self.result[kept_from..] != self.pattern[kept_from..self.result.len()]
     }
+}
+
+/// Is every number 0? All are looked at, several at a time, which takes less long than to stop at the first that is not: areas are long, and mostly zero.
+pub fn is_zero(numbers: &[u32]) -> bool {
+    numbers.iter().fold(0, |any, number| any | number) == 0
 }
 
 /// What an answer's numbers say of how the call ended. Kinds that there are not count as refusals.
@@ -216,13 +228,4 @@ fn written_numbers(answer: &Answer) -> Vec<Range<usize>> {
         written.push(if part.row.is_some() { row..end } else { row + ROW_LENGTH..end });
     }
     written
-}
-
-fn is_changed_beside(area: &[u8], written: Range<usize>) -> bool {
-    (0..area.len()).any(|at| !written.contains(&at) && area[at] != byte_before(at))
-}
-
-/// What the name index and the marks, with what lies around them, hold before a call: no byte is 0 or 1, which marks are, and neighbours differ.
-fn byte_before(at: usize) -> u8 {
-    (at % 254) as u8 + 2
 }
