@@ -1,13 +1,13 @@
 //! Calls that take more steps than 32 bits can count, so that the answer's second number of steps is not 0. A reference pays a step for each byte that it
-//! compares: a start makes nearly 100,000 steps at some 1,300 nodes, which the independent matcher can follow too.
+//! compares: a start makes nearly 100,000 steps at some 200 nodes, which the independent matcher can follow too.
 
 use harness::case::{shown, Case};
 use harness::lender::Lender;
 use harness::raw::Call;
 use harness::report::Group;
 
-/// Three times 130 times the group's bytes, as far as the line has them: just within the budget. The `b` is never there.
-const RULE: &[u8] = br"(a{250})(?!\1{130}b)(?!\1{130}b)\1{130}b";
+/// Three times seven times the 4,352 bytes of the third group, as far as the line has them: just within the budget. The `b` is never there.
+const RULE: &[u8] = br"(a{16})(\1{16})(\2{17})(?!\3{7}b)(?!\3{7}b)\3{7}b";
 const BUDGET: u32 = 100_000;
 
 fn main() -> std::process::ExitCode {
