@@ -8,7 +8,7 @@ use harness::random::explanations;
 use harness::trial::{run, Kinds};
 
 fn main() -> std::process::ExitCode {
-    let arguments = arguments(100_000, 1..4);
+    let arguments = arguments(100_000, 1..3);
     let mut kinds = Kinds::new(&[7, 35, 36]);
     let mut told = Told::default();
     let group = run("random explanations against the independent matcher", &arguments, explanations::case, |case, expected| {

@@ -7,7 +7,7 @@ use harness::random::scans;
 use harness::trial::{run, Kinds, OF_CHECKS};
 
 fn main() -> std::process::ExitCode {
-    let arguments = arguments(100_000, 1..4);
+    let arguments = arguments(100_000, 1..3);
     let mut kinds = Kinds::new(&OF_CHECKS);
     let mut told = Told::default();
     let group = run("random scans against the independent matcher", &arguments, scans::case, |_, expected| {
