@@ -23,8 +23,7 @@ pub enum Behind {
     NoByte,
 }
 
-// Looks behind the repeat that a round of it ends before, if nothing but a byte item follows there: its byte is missing. The node that is read there is tested,
-// since nothing is known of one that does not stand next.
+// Whether the node behind a repeat is a byte item whose byte is missing. What is read is tested here, since nothing is known of a node that does not stand next.
 fn look_onward(code: &[u32], sub: &[u8], onward: usize, at: usize) -> bool
     requires { ⌜ (length (now code) < 2 ^ 32) × (onward < 2 ^ 32) ⌝ }
     ensures { λ r. ⌜ Lacks (now (code .entry)) (now (sub .entry)) onward at r ⌝ }
@@ -41,7 +40,8 @@ fn look_onward(code: &[u32], sub: &[u8], onward: usize, at: usize) -> bool
     !charset::contains(code, onward + 3, sub[at])
 }
 
-// Looks behind a group that took no bytes. If a round ends there, and all of it took none, the repeat is left, unless a round is owed.
+// Looks behind a group's end where no byte item stands. If the group took no bytes, and a round ends there of which that is all, the repeat is left, unless a
+// round is owed; the group then closes in vain if the byte behind the repeat is missing.
 fn look_behind_round(code: &[u32], sub: &[u8], regs: &[u32], m: Machine, behind: usize) -> Behind
     requires { ⌜ (m .pc + 4 ≤ length (now code)) × (getD (now code) (m .pc) 0 ≡ 4) × (behind ≡ getD (now code) (m .pc + 1) 0) × (getD (now code) (m .pc + 2) 0 + 2 ≤ registers) × (getD (now code) (m .pc + 3) 0 + 2 ≤ spansLength) ⌝ }
     requires { ⌜ (length (now regs) ≡ registers) × (length (now code) < 2 ^ 32) ⌝ }
