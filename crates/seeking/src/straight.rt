@@ -21,7 +21,7 @@ const OPEN: u32 = 3;
 const NODE_LENGTH: usize = 11;
 
 // How many nodes of a straight way are looked at. A start that fails mostly does so at the first few, and all that is looked at of another is walked again.
-const LOOKS: u32 = 4;
+const LOOKS: u32 = 5;
 
 // What is seen of a node at a position: it fails after so many steps; or it is one step on the way to another node and position; or it is no node of a
 // straight way.

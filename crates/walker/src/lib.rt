@@ -52,8 +52,34 @@ struct Standing {
     head: Machine,
 }
 
-// One node that is no end, no run, no reference and no branch but the last; `kind` is its first number.
+// One node that is no end, no run, no reference and no branch but the last; `kind` is its first number. It is for those who walk node by node.
 pub fn step(
+    code: &[u32],
+    sub: &[u8],
+    regs: &mut [u32],
+    work: &mut [u32],
+    kind: u32,
+    m: Machine,
+) -> Machine
+    requires { ⌜ (kind ≡ getD (now code) (m .pc) 0) × (kind ≤ 8) × (kind ≡ 5 → ⊥) × (length (now regs) ≡ registers) × (4 * m .height + 8 ≤ length (now work)) × (length (now sub) < 2 ^ 32) × (length (now code) < 2 ^ 32) ⌝ }
+    requires { ⌜ Fits (now code) (m .pc) ⌝ }
+    requires { ⌜ StackFits (now code) (stackOf (now work) (m .height)) ⌝ }
+    ensures { λ r. ⌜ nowOf (now (regs .exit)) (now (work .exit)) r ≡ movedOn (now (code .entry)) (now (sub .entry)) (now (regs .entry)) (now (work .entry)) m ⌝ }
+{
+    match kind {
+        0 => take_byte(code, sub, regs, work, m),
+        1 => test_assertion(code, sub, regs, work, m),
+        3 => open_group(code, regs, work, m),
+        4 => close_group(code, regs, work, m),
+        6 => begin_last_branch(code, m),
+        7 => enter_repeat(code, regs, work, m),
+        _ => end_round(code, regs, work, m),
+    }
+}
+
+// The same for the walk's loop alone. It stands here a second time because a function with one caller is taken into that caller: with `plain` as another, each
+// such node of a walk would be a call, which takes as long as the node.
+fn carry(
     code: &[u32],
     sub: &[u8],
     regs: &mut [u32],
@@ -249,7 +275,7 @@ fn advance(
         height: m.height,
         live: m.live,
     };
-    let next = step(code, sub, regs, work, kind, own);
+    let next = carry(code, sub, regs, work, kind, own);
     let rest = left - 1;
     Standing {
         rest: rest,
@@ -261,7 +287,7 @@ fn advance(
 // the compiler keeps in registers what each step needs. The steps are counted down, since one number is then enough, and the machine is made
 // anew from its fields wherever it is kept, here and in `run_to_end`, so that the seven bytes which only fill it up are not carried along: they would be
 // copied as two words that overlap, and each such copy waits until the stores of the one before it are done. That took half of a short walk's time. It is
-// also made anew where a function is really called (`step`, `take_marked`): what is lent to a call stands in memory, and would be written there at each turn,
+// also made anew before `carry` and `take_marked`, of which the second is really called: what is lent to a call stands in memory, and would be written there at each turn,
 // whatever its kind.
 fn walk(
     code: &[u32],

@@ -51,8 +51,8 @@ returns-3 c =
     let r = c .before .before .before .before .take-branch in
     (omega (arith, r .ensures .0, r .ensures .1), rw (rest-again (s .args .left) (r .result .used) (r .ensures .1)) (r .ensures .2 (now (s .args .regs))))
 
-step-requires : tie.Need-step-requires
-step-requires c κs =
+carry-requires : tie.Need-carry-requires
+carry-requires c κs =
     let s = c .before .before .before .before .before .before .before .before .before in
     let g = stepping-start (now (s .args .code)) (now (s .args .sub)) (now (s .args .regs)) (now (s .args .work)) (s .args .m) (s .args .left) (s .pre .1) in
     let t = s .pre .0 .2 in
@@ -62,15 +62,15 @@ sub-rest : tie.Need-sub-rest
 sub-rest c = omega (arith, c .before .before .before .before .before .before .before .before .before .before .before .before .before .before .pre .0 .3)
 
 same-length-6 : tie.Need-same-length-6
-same-length-6 c = c .before .before .before .before .step .kept .1 .1 .0
+same-length-6 c = c .before .before .before .before .carry .kept .1 .1 .0
 
 same-length-7 : tie.Need-same-length-7
-same-length-7 c = c .before .before .before .before .step .kept .1 .1 .1 .0
+same-length-7 c = c .before .before .before .before .carry .kept .1 .1 .1 .0
 
 returns-4 : tie.Need-returns-4
 returns-4 c =
     let s = c .before .before .before .before .before .before .before .before .before .before .before .before .before .before in
-    let r = c .before .before .before .before .step in
+    let r = c .before .before .before .before .carry in
     (omega (arith, s .pre .0 .3), rw (rest-again (s .args .left) 1 (s .pre .0 .3)) (one-node (now (s .args .code)) (now (s .args .sub)) (now (s .args .regs)) (now (s .args .work)) (r .last .1 .1 .0) (r .last .1 .1 .1 .0) (s .args .m) (r .result) (s .pre .0 .2) (omega (arith, s .pre .0 .0, s .pre .0 .1)) (r .ensures)))
 
 pub advance-spec : {M : Type 1} → statement M
@@ -89,7 +89,7 @@ advance-spec =
     sub-fewer
     same-length-5
     returns-3
-    step-requires
+    carry-requires
     sub-rest
     same-length-6
     same-length-7
