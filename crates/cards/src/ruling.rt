@@ -1,11 +1,11 @@
 // What both calls do with a rule: the refusals before it is read, and its own; or the number of its groups.
 use frame::FLAGS_LIMIT;
-use frame::Fitness;
 use frame::RULE_AREA_NEED;
 use frame::RULE_LIMIT;
 use frame::clear;
 use reader::Compilation;
 use reader::compile;
+use refusals::Fitness;
 use syntax::Reason;
 use syntax::Refusal;
 ghost use mathlib.Core.Path.{_≡_};
@@ -13,7 +13,7 @@ ghost use Prim.Native.Nat.{_≤_};
 ghost use lib.ListN.{length};
 ghost use Rattle.syntax.specs.Limits.{ruleLimit, ruleAreaNeed};
 ghost use Rattle.semantics.specs.Calls.{cleared};
-ghost use Rattle.frame.specs.Fitness.{fitnessOf};
+ghost use Rattle.refusals.specs.Fitness.{fitnessOf};
 ghost use Rattle.card_format.specs.Cards.{unfit as unfitting};
 ghost use Rattle.cards.specs.Answers.{Counts};
 

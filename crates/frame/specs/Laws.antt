@@ -1,5 +1,4 @@
 -- Facts for whoever makes a call of its inside.
-pub mod Refusals
 pub mod Areas
 pub mod Calls
 pub mod Compiled

@@ -1,6 +1,6 @@
 // Clearing the areas that a call is lent.
-use crate::refusals::RULE_AREA_NEED;
-use crate::refusals::WORK_PER_STEP;
+use refusals::RULE_AREA_NEED;
+use refusals::WORK_PER_STEP;
 ghost use mathlib.Core.Path.{_≡_};
 ghost use Prim.Native.Nat.{_≤_};
 ghost use lib.ListN.{length};

@@ -6,7 +6,6 @@
 // nothing need be cleared between two insides.
 mod areas;
 mod preparing;
-mod refusals;
 
 pub use areas::clear;
 pub use areas::finish;
@@ -14,7 +13,6 @@ pub use preparing::Preparation;
 pub use preparing::prepare;
 pub use refusals::BUDGET_LIMIT;
 pub use refusals::FLAGS_LIMIT;
-pub use refusals::Fitness;
 pub use refusals::RULE_AREA_NEED;
 pub use refusals::RULE_LIMIT;
 pub use refusals::SUBJECT_LIMIT;

@@ -1,12 +1,12 @@
 // Preparing a call: what refuses it, or its rule compiled.
 use crate::areas::finish;
-use crate::refusals::Fitness;
-use crate::refusals::RULE_AREA_NEED;
-use crate::refusals::unfit;
 use naming::fill;
 use reader::Compilation;
 use reader::TABLE_START;
 use reader::compile;
+use refusals::Fitness;
+use refusals::RULE_AREA_NEED;
+use refusals::unfit;
 use syntax::Refusal;
 ghost use mathlib.Core.Path.{_≡_};
 ghost use mathlib.Core.List.{List};

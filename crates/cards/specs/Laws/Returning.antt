@@ -19,9 +19,9 @@ use Rattle.semantics.specs.Laws.Areas.{over-nothing}
 use Rattle.reader.specs.declared.compiling.Compilation.{Compilation}
 use Rattle.reader.specs.declared.compiling.Compilation.the-variants.{Sound as Compiled}
 use Rattle.reader.specs.Compiles.{Says, Compiles, Stands}
-use Rattle.frame.specs.declared.refusals.Fitness.{Fitness}
-use Rattle.frame.specs.declared.refusals.Fitness.the-variants.{Fits, Unfit}
-use Rattle.frame.specs.Fitness.{fitnessOf}
+use Rattle.refusals.specs.declared.Fitness.{Fitness}
+use Rattle.refusals.specs.declared.Fitness.the-variants.{Fits, Unfit}
+use Rattle.refusals.specs.Fitness.{fitnessOf}
 use Rattle.cards.specs.declared.ruling.Counting.{Counting}
 use Rattle.card_format.specs.Cards.{Card, written, cardNeed, untouched, leaving, unfit, fails, cardIn, ruleIn, Wrote, WriteRefused, writes, writeCall, Holds, ReadRefused, reads, readScan, readCall, ruleBytesNeed}
 use Rattle.card_format.specs.CardDemands.{Bytes, cardOf, Fitting, Sound}

@@ -11,9 +11,9 @@ use Rattle.syntax.specs.Read.{sound, refused}
 use Rattle.syntax.specs.Tree.{Rule}
 use Rattle.syntax.specs.Reading.{reading}
 use Rattle.semantics.specs.Calls.{Call, Return, unacceptable, untouched, declined, withReading, unlessRefused, call}
-use Rattle.frame.specs.declared.refusals.Fitness.{Fitness}
-use Rattle.frame.specs.declared.refusals.Fitness.the-variants.{Fits, Unfit}
-use Rattle.frame.specs.Fitness.{fitnessOf, Sized}
+use Rattle.refusals.specs.declared.Fitness.{Fitness}
+use Rattle.refusals.specs.declared.Fitness.the-variants.{Fits, Unfit}
+use Rattle.refusals.specs.Fitness.{fitnessOf, Sized}
 use Rattle.frame.specs.Inputs.{callOf}
 
 -- the sizes of a call are those of the code's arguments

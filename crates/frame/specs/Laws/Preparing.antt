@@ -22,7 +22,7 @@ use Rattle.frame.specs.declared.preparing.Preparation.the-variants.{Read
 use Rattle.frame.specs.Inputs.{Returned, Told, Held}
 use Rattle.frame.specs.Preparing.{Denied, unread, unsound, unfollowed, Readied, Prepares}
 use Rattle.frame.specs.Laws.Areas.{cleared-alike}
-use Rattle.frame.specs.Laws.Refusals.{Acceptable, accepted}
+use Rattle.refusals.specs.Laws.{Acceptable, accepted}
 use Rattle.frame.specs.Laws.Calls.{refused-call, accepted-call, refused-rule, sound-rule}
 
 -- what preparing says, once its answer is known

@@ -10,7 +10,7 @@ use Rattle.syntax.specs.Limits.{subjectLimit, budgetLimit, ruleAreaNeed, workPe
 use Rattle.semantics.specs.Calls.{Call, workAreaNeed}
 use Rattle.frame.specs.Inputs.{Held}
 use Rattle.frame.specs.Preparing.{Readied}
-use Rattle.frame.specs.Laws.Refusals.{accepted}
+use Rattle.refusals.specs.Laws.{accepted}
 use Rattle.fields_line.specs.Promises.{Lent}
 use Rattle.page_lines.specs.Rules.{Holds}
 

@@ -2,7 +2,7 @@
 use mathlib.Core.Path.{sym}
 use native.Mathlib.Omega.{arith}
 use Rattle.syntax.specs.Limits.{ruleLimit, ruleAreaNeed, flagBits}
-use Rattle.frame.specs.Fitness.{fitnessOf}
+use Rattle.refusals.specs.Fitness.{fitnessOf}
 use Rattle.card_format.specs.Laws.Ruling.{rule-long, flag-unknown, budget-large, area-short, fit}
 use Rattle.cards.proofs.ruling.unfit.Statement.{statement}
 use Rattle.cards.proofs.ruling.unfit.Tie as tie

@@ -7,7 +7,7 @@ use lib.ListN.{replicate, length-replicate}
 use Rattle.frame.specs.Inputs.{callOf}
 use Rattle.frame.specs.Preparing.{unread}
 use Rattle.frame.specs.Laws.Calls.{sized, some-results, is-fit, is-unfit}
-use Rattle.frame.specs.Laws.Refusals.{accepted}
+use Rattle.refusals.specs.Laws.{accepted}
 use borrow.Author.Needs.{needs}
 use Rattle.frame.proofs.preparing.prepare.Statement.{statement}
 use Rattle.frame.proofs.preparing.prepare.Tie as tie

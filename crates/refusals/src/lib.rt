@@ -1,10 +1,13 @@
-// What is refused before the rule is read.
+// What is refused before the rule is read: the limits on what is handed in, tested in the order of the refusals' numbers.
+//
+// All calls share it. It looks at lengths, flags and budget alone, and stands by itself, so that a wrong limit or a wrong order is refused without
+// looking at what is made of a rule.
 use syntax::NAME_INDEX_NEED;
 use syntax::Reason;
 ghost use mathlib.Core.Path.{_≡_};
 ghost use Prim.Native.Nat.{ℕ};
 ghost use Rattle.semantics.specs.Calls.{Call, unacceptable};
-ghost use Rattle.frame.specs.Fitness.{fitnessOf, Sized};
+ghost use Rattle.refusals.specs.Fitness.{fitnessOf, Sized};
 
 pub const RULE_LIMIT: usize = 1000;
 

@@ -8,8 +8,8 @@ use lib.ListN.{length}
 use lib.Dec.{ltb}
 use Rattle.syntax.specs.declared.Reason.{Reason}
 use Rattle.semantics.specs.Calls.{Call}
-use Rattle.frame.specs.declared.refusals.Fitness.{Fitness}
-use Rattle.frame.specs.declared.refusals.Fitness.the-variants.{Fits, Unfit}
+use Rattle.refusals.specs.declared.Fitness.{Fitness}
+use Rattle.refusals.specs.declared.Fitness.the-variants.{Fits, Unfit}
 
 -- the reason that an answer names
 unfoldable pub fitnessOf : Fitness → Option Reason

@@ -3,10 +3,10 @@ use mathlib.Core.Path.{_∙_}
 use native.Mathlib.Omega.{arith}
 use Rattle.syntax.specs.Limits.{ruleLimit, subjectLimit, budgetLimit, ruleAreaNeed, workPerStep, flagBits, groupLimit, nameLimit, nameEntry, nameIndexNeed}
 use Rattle.semantics.specs.Calls.{workAreaNeed}
-use Rattle.frame.specs.Fitness.{fitnessOf}
-use Rattle.frame.specs.Laws.Refusals.{rule-long, subject-long, flag-unknown, budget-large, rule-area-short, work-area-short, results-short, names-short, acceptable}
-use Rattle.frame.proofs.refusals.unfit.Statement.{statement}
-use Rattle.frame.proofs.refusals.unfit.Tie as tie
+use Rattle.refusals.specs.Fitness.{fitnessOf}
+use Rattle.refusals.specs.Laws.{rule-long, subject-long, flag-unknown, budget-large, rule-area-short, work-area-short, results-short, names-short, acceptable}
+use Rattle.refusals.proofs.unfit.Statement.{statement}
+use Rattle.refusals.proofs.unfit.Tie as tie
 
 returns : tie.Need-returns
 unfolding fitnessOf ruleLimit
