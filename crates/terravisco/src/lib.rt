@@ -1,173 +1,25 @@
-// The C interface: the calls, with each outcome as six numbers, or eleven for an explanation, the field lookup, and rule cards. `include/terravisco.h` is
-// its header.
-use batching::Batch;
-use batching::high_half;
-use batching::low_half;
-use cards::ReadAnswer;
-use cards::WriteAnswer;
-use checking::Verdict;
-use explaining::Explanation;
-use failures::Failed;
-use listing::Listing;
+// The C interface: the calls, with each outcome as six numbers, or eleven for an explanation (`answers`), the field lookup, and rule cards.
+// `include/terravisco.h` is its header.
+use answers::tell_batch;
+use answers::tell_check;
+use answers::tell_explanation;
+use answers::tell_listing;
+use answers::tell_match;
+use answers::tell_read;
+use answers::tell_written;
 use lookup::Found;
-use matching::Outcome;
-use syntax::Refusal;
 ghost use mathlib.Core.Path.{_≡_};
-ghost use mathlib.Core.List.{_++_};
-ghost use Prim.Native.Nat.{_≤_};
 ghost use lib.ListN.{length};
-ghost use Rattle.syntax.specs.Limits.{ruleLimit};
-ghost use Rattle.semantics.specs.Explanations.{nowhere as nothing};
 ghost use Rattle.semantics.specs.Calls.{matchCall, listCall, scanCall, explainCall};
 ghost use Rattle.semantics.specs.Batches.{batchCall};
 ghost use Rattle.semantics.specs.Checks.{checkCall};
 ghost use Rattle.frame.specs.Inputs.{callOf};
-ghost use Rattle.finding.specs.Outcomes.{outcomeOf};
-ghost use Rattle.listing.specs.Listing.{listingOf};
-ghost use Rattle.batching.specs.Batches.{batchOf};
-ghost use Rattle.failures.specs.Best.{failureOf};
-ghost use Rattle.explaining.specs.Explanations.{explanationOf};
-ghost use Rattle.checking.specs.Verdicts.{verdictOf};
 ghost use Rattle.lookup.specs.Lookup.{lookup};
 ghost use Rattle.card_format.specs.Cards.{writeCall, readCall};
-ghost use Rattle.cards.specs.Answers.{writtenOf, readOf};
-ghost use Rattle.terravisco.specs.Answers.{numbers, refusalNumbers, matchNumbers, listNumbers, batchNumbers, checkNumbers, failureNumbers, explainNumbers, fieldNumbers, Answered};
-ghost use Rattle.terravisco.specs.Laws.{MatchPlaced, ListPlaced, BatchPlaced, CheckPlaced, ExplainPlaced};
-ghost use Rattle.terravisco.specs.Cards.{writeNumbers, readNumbers, CardAnswered};
-ghost use Rattle.terravisco.specs.CardLaws.{WritePlaced, ReadPlaced};
-
-// Writes an answer: the kind, the start or refusal number, the place, the steps in two halves and the rows.
-fn tell(answer: &mut [u32; 6], kind: u32, which: u32, place: u32, steps: u64, rows: usize)
-    ensures { λ _. ⌜ now (answer .exit) ≡ numbers kind which place steps rows ⌝ }
-{
-    *answer = [
-        kind,
-        which,
-        place,
-        low_half(steps),
-        high_half(steps),
-        low_half(rows as u64),
-    ];
-}
-
-// A refusal has the same numbers from a match, a listing, a check and a day's lines.
-fn tell_refusal(answer: &mut [u32; 6], f: Refusal)
-    requires { ⌜ f .place ≤ ruleLimit ⌝ }
-    ensures { λ _. ⌜ now (answer .exit) ≡ refusalNumbers (f .place) (f .reason) ⌝ }
-{
-    let reason = f.reason;
-    tell(answer, 3, syntax::number(reason), f.place as u32, 0, 0);
-}
-
-fn tell_match(answer: &mut [u32; 6], outcome: Outcome)
-    requires { ⌜ MatchPlaced (outcomeOf outcome) ⌝ }
-    ensures { λ _. ⌜ now (answer .exit) ≡ matchNumbers (outcomeOf outcome) ⌝ }
-{
-    match outcome {
-        Outcome::Matched(steps) => tell(answer, 0, 0, 0, steps, 1),
-        Outcome::NotMatched(steps) => tell(answer, 1, 0, 0, steps, 0),
-        Outcome::Exhausted(start, steps) => tell(answer, 2, start, 0, steps, 0),
-        Outcome::Refused(f) => tell_refusal(answer, f),
-    }
-}
-
-fn tell_listing(answer: &mut [u32; 6], outcome: Listing)
-    requires { ⌜ ListPlaced (listingOf outcome) ⌝ }
-    ensures { λ _. ⌜ now (answer .exit) ≡ listNumbers (listingOf outcome) ⌝ }
-{
-    match outcome {
-        Listing::Complete(rows, steps) => tell(answer, 0, 0, 0, steps, rows),
-        Listing::Full(rows, steps) => tell(answer, 1, 0, 0, steps, rows),
-        Listing::Exhausted(start, rows, steps) => tell(answer, 2, start, 0, steps, rows),
-        Listing::Refused(f) => tell_refusal(answer, f),
-    }
-}
-
-fn tell_batch(answer: &mut [u32; 6], outcome: Batch)
-    requires { ⌜ BatchPlaced (batchOf outcome) ⌝ }
-    ensures { λ _. ⌜ now (answer .exit) ≡ batchNumbers (batchOf outcome) ⌝ }
-{
-    match outcome {
-        Batch::Done(lines) => tell(answer, 0, 0, 0, 0, lines),
-        Batch::Refused(f) => tell_refusal(answer, f),
-    }
-}
-
-fn tell_check(answer: &mut [u32; 6], outcome: Verdict)
-    requires { ⌜ CheckPlaced (verdictOf outcome) ⌝ }
-    ensures { λ _. ⌜ now (answer .exit) ≡ checkNumbers (verdictOf outcome) ⌝ }
-{
-    match outcome {
-        Verdict::Reading(steps) => tell(answer, 0, 0, 0, steps, 1),
-        Verdict::Nothing(steps) => tell(answer, 1, 0, 0, steps, 0),
-        Verdict::Exhausted(start, steps) => tell(answer, 2, start, 0, steps, 0),
-        Verdict::Refused(f) => tell_refusal(answer, f),
-    }
-}
-
-// Nothing failed that could be told.
-fn nowhere() -> Failed
-    ensures { λ r. ⌜ failureOf r ≡ nothing ⌝ }
-{
-    Failed {
-        start: 0,
-        at: 0,
-        place: 0,
-    }
-}
-
-// Writes an explanation's numbers: those of an answer without rows, then the furthest failure and the closest attempt.
-fn tell_failures(
-    answer: &mut [u32; 11],
-    kind: u32,
-    which: u32,
-    place: u32,
-    steps: u64,
-    furthest: Failed,
-    closest: Failed,
-)
-    ensures { λ _. ⌜ now (answer .exit) ≡ numbers kind which place steps 0 ++ failureNumbers (failureOf furthest) (failureOf closest) ⌝ }
-{
-    *answer = [
-        kind,
-        which,
-        place,
-        low_half(steps),
-        high_half(steps),
-        0,
-        furthest.at,
-        furthest.place,
-        closest.start,
-        closest.at,
-        closest.place,
-    ];
-}
-
-// The numbers of an explanation that has no failure to tell.
-fn tell_no_failure(answer: &mut [u32; 11], kind: u32, which: u32, place: u32, steps: u64)
-    ensures { λ _. ⌜ now (answer .exit) ≡ numbers kind which place steps 0 ++ failureNumbers nothing nothing ⌝ }
-{
-    let none = nowhere();
-    tell_failures(answer, kind, which, place, steps, none, none);
-}
-
-fn tell_explanation(answer: &mut [u32; 11], outcome: Explanation)
-    requires { ⌜ ExplainPlaced (explanationOf outcome) ⌝ }
-    ensures { λ _. ⌜ now (answer .exit) ≡ explainNumbers (explanationOf outcome) ⌝ }
-{
-    match outcome {
-        Explanation::Matched(steps) => tell_no_failure(answer, 0, 0, 0, steps),
-        Explanation::NotMatched(steps, furthest, closest) => {
-            tell_failures(answer, 1, 0, 0, steps, furthest, closest);
-        }
-        Explanation::Exhausted(start, steps) => tell_no_failure(answer, 2, start, 0, steps),
-        Explanation::Refused(f) => {
-            let reason = f.reason;
-            let number = syntax::number(reason);
-            tell_no_failure(answer, 3, number, f.place as u32, 0);
-        }
-    }
-}
+ghost use Rattle.answers.specs.Answers.{matchNumbers, listNumbers, batchNumbers, checkNumbers, explainNumbers};
+ghost use Rattle.answers.specs.Cards.{writeNumbers, readNumbers};
+ghost use Rattle.terravisco.specs.Answers.{fieldNumbers, Answered};
+ghost use Rattle.terravisco.specs.Cards.{CardAnswered};
 
 // One match.
 #[no_mangle]
@@ -356,34 +208,6 @@ pub extern "C" fn terravisco_field(
         Found::Taken(from, to) => *field = [0, from as u64, to as u64],
         Found::Standing => *field = [1, 0, standing.len() as u64],
         Found::Nothing => *field = [1, 0, 0],
-    }
-}
-
-fn tell_written(answer: &mut [u32; 6], outcome: WriteAnswer)
-    requires { ⌜ WritePlaced (writtenOf outcome) ⌝ }
-    ensures { λ _. ⌜ now (answer .exit) ≡ writeNumbers (writtenOf outcome) ⌝ }
-{
-    match outcome {
-        WriteAnswer::Wrote(n) => tell(answer, 0, 0, 0, 0, n),
-        WriteAnswer::Refused(f) => tell_refusal(answer, f),
-    }
-}
-
-fn tell_read(answer: &mut [u32; 9], outcome: ReadAnswer)
-    requires { ⌜ ReadPlaced (readOf outcome) ⌝ }
-    ensures { λ _. ⌜ now (answer .exit) ≡ readNumbers (readOf outcome) ⌝ }
-{
-    match outcome {
-        ReadAnswer::Holds(size, flags, budget, groups) => {
-            let length = low_half(size as u64);
-            *answer = [0, 0, 0, 0, 0, length, flags, budget, groups];
-        }
-        ReadAnswer::Refused(f) => {
-            let reason = f.reason;
-            let number = syntax::number(reason);
-            let place = f.place as u32;
-            *answer = [3, number, place, 0, 0, 0, 0, 0, 0];
-        }
     }
 }
 

@@ -4,7 +4,7 @@ use native.Mathlib.Omega.{arith}
 use denote.Ref.{now}
 use borrow.Author.Needs.{needs}
 use Rattle.card_format.specs.CardDemands.{Bytes}
-use Rattle.terravisco.specs.Cards.{readNumbers}
+use Rattle.answers.specs.Cards.{readNumbers}
 use Rattle.terravisco.specs.CardLaws.{read-told}
 use Rattle.terravisco.proofs.terravisco_card_read.Statement.{statement}
 use Rattle.terravisco.proofs.terravisco_card_read.Tie as tie

@@ -2,7 +2,7 @@
 use mathlib.Core.Path.{_∙_, ap}
 use denote.Ref.{now}
 use borrow.Author.Needs.{needs}
-use Rattle.terravisco.specs.Cards.{writeNumbers}
+use Rattle.answers.specs.Cards.{writeNumbers}
 use Rattle.terravisco.specs.CardLaws.{write-told}
 use Rattle.terravisco.proofs.terravisco_card_write.Statement.{statement}
 use Rattle.terravisco.proofs.terravisco_card_write.Tie as tie

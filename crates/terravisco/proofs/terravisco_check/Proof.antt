@@ -1,6 +1,6 @@
 -- `terravisco_check` meets its contract: the call's own promise, with its outcome in numbers.
 use mathlib.Core.Path.{_∙_, ap}
-use Rattle.terravisco.specs.Answers.{checkNumbers}
+use Rattle.answers.specs.Answers.{checkNumbers}
 use denote.Ref.{now}
 use Rattle.frame.specs.Inputs.{callOf}
 use Rattle.terravisco.specs.Laws.{check-told}
@@ -10,7 +10,7 @@ use Rattle.terravisco.proofs.terravisco_check.Tie as tie
 use Rattle.terravisco.proofs.terravisco_check.Reads as reads
 use Rattle.terravisco.proofs.terravisco_check.Lts as lts
 use Rattle.checking.proofs.check.Reads as check-reads
-use Rattle.terravisco.proofs.tell_check.Reads as tell-check-reads
+use Rattle.answers.proofs.tell_check.Reads as tell-check-reads
 
 check-requires : tie.Need-check-requires
 check-requires c κs = search needs

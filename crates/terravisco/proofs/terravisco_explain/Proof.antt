@@ -1,6 +1,6 @@
 -- `terravisco_explain` meets its contract: the call's own promise, with its outcome in numbers.
 use mathlib.Core.Path.{_∙_, ap}
-use Rattle.terravisco.specs.Answers.{explainNumbers}
+use Rattle.answers.specs.Answers.{explainNumbers}
 use denote.Ref.{now}
 use Rattle.frame.specs.Inputs.{callOf}
 use Rattle.terravisco.specs.Laws.{explain-told}
@@ -10,7 +10,7 @@ use Rattle.terravisco.proofs.terravisco_explain.Tie as tie
 use Rattle.terravisco.proofs.terravisco_explain.Reads as reads
 use Rattle.terravisco.proofs.terravisco_explain.Lts as lts
 use Rattle.explaining.proofs.explain.Reads as explain-reads
-use Rattle.terravisco.proofs.tell_explanation.Reads as tell-explanation-reads
+use Rattle.answers.proofs.tell_explanation.Reads as tell-explanation-reads
 
 explain-requires : tie.Need-explain-requires
 explain-requires c κs = search needs

@@ -1,6 +1,6 @@
 -- `terravisco_list` meets its contract: the call's own promise, with its outcome in numbers.
 use mathlib.Core.Path.{_∙_, ap}
-use Rattle.terravisco.specs.Answers.{listNumbers}
+use Rattle.answers.specs.Answers.{listNumbers}
 use denote.Ref.{now}
 use Rattle.frame.specs.Inputs.{callOf}
 use Rattle.terravisco.specs.Laws.{list-told}
@@ -10,7 +10,7 @@ use Rattle.terravisco.proofs.terravisco_list.Tie as tie
 use Rattle.terravisco.proofs.terravisco_list.Reads as reads
 use Rattle.terravisco.proofs.terravisco_list.Lts as lts
 use Rattle.listing.proofs.list_readings.Reads as list-readings-reads
-use Rattle.terravisco.proofs.tell_listing.Reads as tell-listing-reads
+use Rattle.answers.proofs.tell_listing.Reads as tell-listing-reads
 
 list-readings-requires : tie.Need-list-readings-requires
 list-readings-requires c κs = search needs

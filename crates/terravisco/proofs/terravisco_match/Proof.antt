@@ -1,6 +1,6 @@
 -- `terravisco_match` meets its contract: the call's own promise, with its outcome in numbers.
 use mathlib.Core.Path.{_∙_, ap}
-use Rattle.terravisco.specs.Answers.{matchNumbers}
+use Rattle.answers.specs.Answers.{matchNumbers}
 use denote.Ref.{now}
 use Rattle.frame.specs.Inputs.{callOf}
 use Rattle.terravisco.specs.Laws.{match-told}
@@ -10,7 +10,7 @@ use Rattle.terravisco.proofs.terravisco_match.Tie as tie
 use Rattle.terravisco.proofs.terravisco_match.Reads as reads
 use Rattle.terravisco.proofs.terravisco_match.Lts as lts
 use Rattle.matching.proofs.match_line.Reads as match-line-reads
-use Rattle.terravisco.proofs.tell_match.Reads as tell-match-reads
+use Rattle.answers.proofs.tell_match.Reads as tell-match-reads
 
 match-line-requires : tie.Need-match-line-requires
 match-line-requires c κs = search needs

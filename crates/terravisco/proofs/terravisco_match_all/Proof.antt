@@ -1,6 +1,6 @@
 -- `terravisco_match_all` meets its contract: the call's own promise, with its outcome in numbers.
 use mathlib.Core.Path.{_∙_, ap}
-use Rattle.terravisco.specs.Answers.{listNumbers}
+use Rattle.answers.specs.Answers.{listNumbers}
 use denote.Ref.{now}
 use Rattle.frame.specs.Inputs.{callOf}
 use Rattle.terravisco.specs.Laws.{scan-told}
