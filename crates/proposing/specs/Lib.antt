@@ -1,4 +1,2 @@
 -- What a proposal that is made is: the check accepts it, with the row that it was made for.
-pub mod Logs
-pub mod Walks
 pub mod Promises

@@ -1,10 +1,10 @@
 // A proposal for a row, checked before it is handed out.
 use crate::Proposed;
-use crate::rows::same_numbers;
-use crate::walking::Walk;
-use crate::walking::walk_to;
 use checking::Verdict;
 use checking::check_held;
+use choosing::Walk;
+use choosing::same_numbers;
+use choosing::walk_to;
 use index::ROW_LENGTH;
 use index::UNSET;
 use syntax::REGISTERS;

@@ -6,7 +6,7 @@ use lib.ListN.{length, length-take}
 use denote.Ref.{now}
 use borrow.Author.Needs.{needs}
 use Rattle.syntax.specs.Limits.{unset, registers, heightLimit, nestingLimit, spansLength, groupLimit, rowLength, ruleAreaNeed, subjectLimit}
-use Rattle.proposing.specs.Walks.{Noted}
+use Rattle.choosing.specs.Walks.{Noted}
 use Rattle.proposing.proofs.Accepting.{held-ready, proposes}
 use Rattle.proposing.proofs.proposals.propose_held.Statement.{statement}
 use Rattle.proposing.proofs.proposals.propose_held.Tie as tie

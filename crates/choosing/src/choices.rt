@@ -16,7 +16,7 @@ ghost use Prim.Native.Nat.{_+_, _≤_, _<_, _^_};
 ghost use lib.ListN.{length, getD};
 ghost use Rattle.syntax.specs.Limits.{registers};
 ghost use Rattle.machine.specs.Code.{Fits};
-ghost use Rattle.proposing.specs.Logs.{Within};
+ghost use Rattle.choosing.specs.Logs.{Within};
 
 // The kinds of the nodes at which a repeat is entered and a round of it ends.
 const ENTER: u32 = 7;

@@ -25,8 +25,8 @@ ghost use Rattle.machine.specs.Code.{Fits};
 ghost use Rattle.machine.specs.Moves.{go};
 ghost use Rattle.machine.specs.Words.{stackOf, nowOf, movedOn};
 ghost use Rattle.machine.specs.Ready.{StackFits, Ready};
-ghost use Rattle.proposing.specs.Logs.{Within};
-ghost use Rattle.proposing.specs.Walks.{Noted};
+ghost use Rattle.choosing.specs.Logs.{Within};
+ghost use Rattle.choosing.specs.Walks.{Noted};
 
 // How the walk went: to an end with the row, with so many bytes written; or the steps are spent, or there is no room for what is chosen, or there is
 // no such end, or a node that no check follows.

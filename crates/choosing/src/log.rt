@@ -4,7 +4,7 @@
 // one, and what was chosen behind that is forgotten.
 ghost use Prim.Native.Nat.{_≤_, _<_};
 ghost use lib.ListN.{length};
-ghost use Rattle.proposing.specs.Logs.{Within};
+ghost use Rattle.choosing.specs.Logs.{Within};
 
 // What is left of a choice: nothing, the other of going on and another round, or the next branch.
 pub const SETTLED: u8 = 0;

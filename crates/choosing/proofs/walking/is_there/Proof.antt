@@ -3,8 +3,8 @@ use native.Mathlib.Omega.{arith}
 use borrow.Author.Needs.{needs}
 use Rattle.syntax.specs.Limits.{groupLimit, spansLength, rowLength}
 use Rattle.machine.specs.Laws.Code.{spans-in-registers}
-use Rattle.proposing.proofs.walking.is_there.Statement.{statement}
-use Rattle.proposing.proofs.walking.is_there.Tie as tie
+use Rattle.choosing.proofs.walking.is_there.Statement.{statement}
+use Rattle.choosing.proofs.walking.is_there.Tie as tie
 
 returns : tie.Need-returns
 returns c = search needs

@@ -4,9 +4,9 @@ use native.Mathlib.Omega.{arith}
 use denote.Ref.{now}
 use borrow.Author.Needs.{needs}
 use Rattle.syntax.specs.Limits.{rowLength}
-use Rattle.proposing.proofs.Going.{Going, ready-start, fits-here, stack-here, high-here, room-here, moves-on}
-use Rattle.proposing.proofs.walking.walk_to.Statement.{statement}
-use Rattle.proposing.proofs.walking.walk_to.Tie as tie
+use Rattle.choosing.proofs.Going.{Going, ready-start, fits-here, stack-here, high-here, room-here, moves-on}
+use Rattle.choosing.proofs.walking.walk_to.Statement.{statement}
+use Rattle.choosing.proofs.walking.walk_to.Tie as tie
 
 abbrev Inv-loop : tie.InvT-loop
 Inv-loop code sub regs₀ work₀ entry budget wanted proposal₀ ways₀ first rest₀ head₀ log₀ regs work proposal ways rest head log = Going code sub regs₀ work₀ proposal₀ ways₀ regs work proposal ways rest head log

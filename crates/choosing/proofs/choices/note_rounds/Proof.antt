@@ -3,9 +3,9 @@ use mathlib.Core.Path.{_≡_, refl, _∙_}
 use native.Mathlib.Omega.{arith}
 use lib.ListN.{length}
 use borrow.Author.Needs.{needs}
-use Rattle.proposing.specs.Logs.{Within}
-use Rattle.proposing.proofs.choices.note_rounds.Statement.{statement}
-use Rattle.proposing.proofs.choices.note_rounds.Tie as tie
+use Rattle.choosing.specs.Logs.{Within}
+use Rattle.choosing.proofs.choices.note_rounds.Statement.{statement}
+use Rattle.choosing.proofs.choices.note_rounds.Tie as tie
 
 abbrev Inv-loop : tie.InvT-loop
 Inv-loop proposal₀ ways₀ rounds left₀ on₀ proposal ways left on = Within proposal ways on × (length proposal ≡ length proposal₀) × (length ways ≡ length ways₀)

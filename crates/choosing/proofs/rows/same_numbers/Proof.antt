@@ -11,8 +11,8 @@ use lib.Seq.{ext-getD}
 use denote.Ref.{now}
 use borrow.Author.Count.{below-none, below-more}
 use borrow.Author.Needs.{needs}
-use Rattle.proposing.proofs.rows.same_numbers.Statement.{statement}
-use Rattle.proposing.proofs.rows.same_numbers.Tie as tie
+use Rattle.choosing.proofs.rows.same_numbers.Statement.{statement}
+use Rattle.choosing.proofs.rows.same_numbers.Tie as tie
 
 abbrev Alike : List ℕ → List ℕ → ℕ → Type 0
 Alike a b k = getD a k 0 ≡ getD b k 0

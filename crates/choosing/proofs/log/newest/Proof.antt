@@ -2,8 +2,8 @@
 use Prim.Native.Nat.{_≤_}
 use native.Mathlib.Omega.{arith}
 use borrow.Author.Needs.{needs}
-use Rattle.proposing.proofs.log.newest.Statement.{statement}
-use Rattle.proposing.proofs.log.newest.Tie as tie
+use Rattle.choosing.proofs.log.newest.Statement.{statement}
+use Rattle.choosing.proofs.log.newest.Tie as tie
 
 abbrev Inv-loop : tie.InvT-loop
 Inv-loop ways n i₀ i = i ≤ n

@@ -3,8 +3,8 @@ use native.Mathlib.Omega.{arith}
 use denote.Ref.{now}
 use borrow.Author.Needs.{needs}
 use Rattle.machine.specs.Laws.Code.{fits-at}
-use Rattle.proposing.proofs.choices.falls_back.Statement.{statement}
-use Rattle.proposing.proofs.choices.falls_back.Tie as tie
+use Rattle.choosing.proofs.choices.falls_back.Statement.{statement}
+use Rattle.choosing.proofs.choices.falls_back.Tie as tie
 
 cast-pc : tie.Need-cast-pc
 cast-pc c = search needs

@@ -5,9 +5,9 @@ use denote.Ref.{now}
 use borrow.Author.Needs.{needs}
 use Rattle.machine.specs.Words.{configurationOf}
 use Rattle.plain.specs.Telling.{leads-plain}
-use Rattle.proposing.proofs.Going.{moved-end}
-use Rattle.proposing.proofs.walking.move_on.Statement.{statement}
-use Rattle.proposing.proofs.walking.move_on.Tie as tie
+use Rattle.choosing.proofs.Going.{moved-end}
+use Rattle.choosing.proofs.walking.move_on.Statement.{statement}
+use Rattle.choosing.proofs.walking.move_on.Tie as tie
 
 cast-if1 : tie.Need-cast-if1
 cast-if1 c = search needs

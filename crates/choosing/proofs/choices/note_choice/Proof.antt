@@ -3,8 +3,8 @@ use native.Mathlib.Omega.{arith}
 use denote.Ref.{now}
 use Rattle.machine.specs.Laws.Code.{fits-at}
 use borrow.Author.Needs.{needs}
-use Rattle.proposing.proofs.choices.note_choice.Statement.{statement}
-use Rattle.proposing.proofs.choices.note_choice.Tie as tie
+use Rattle.choosing.proofs.choices.note_choice.Statement.{statement}
+use Rattle.choosing.proofs.choices.note_choice.Tie as tie
 
 cast-pc : tie.Need-cast-pc
 cast-pc c = search needs

@@ -2,8 +2,8 @@
 use mathlib.Core.List.{List}
 use Prim.Native.Nat.{ℕ, _≤_}
 use lib.ListN.{length}
-use Rattle.proposing.specs.declared.walking.Walk.{Walk}
-use Rattle.proposing.specs.declared.walking.Walk.the-variants.{Arrived, Spent, Full, Nothing}
+use Rattle.choosing.specs.declared.walking.Walk.{Walk}
+use Rattle.choosing.specs.declared.walking.Walk.the-variants.{Arrived, Spent, Full, Nothing}
 
 abbrev pub Noted : (proposal : List ℕ) → Walk → Type 0
 Noted proposal (Arrived n) = n ≤ length proposal

@@ -15,8 +15,8 @@ use Rattle.machine.specs.Ready.{StackFits, Ready}
 use Rattle.machine.specs.Laws.Code.{decode-at}
 use Rattle.machine.specs.Laws.Stack.{length-stackOf, move-leaves}
 use Rattle.machine.specs.Laws.Loop.{ReadyForSome, fits-now}
-use Rattle.proposing.specs.declared.log.Log.{Log}
-use Rattle.proposing.specs.Logs.{Within}
+use Rattle.choosing.specs.declared.log.Log.{Log}
+use Rattle.choosing.specs.Logs.{Within}
 
 module _ (p sub : List ℕ) where
   -- what is pending is emitted, whatever it is
