@@ -15,10 +15,10 @@ use Rattle.listing.specs.declared.Listing.{Listing}
 use Rattle.listing.specs.declared.Listing.the-variants.{Complete, Full, Exhausted as Cut, Refused as Denied}
 use Rattle.finding.specs.Outcomes.{outcomeOf}
 use Rattle.listing.specs.Listing.{listingOf}
-use Rattle.failures.specs.declared.greatest.Failed.{Failed}
+use Rattle.greatest.specs.declared.greatest.Failed.{Failed}
 use Rattle.explaining.specs.declared.Explanation.{Explanation}
 use Rattle.explaining.specs.declared.Explanation.the-variants.{Matched as Fitting, NotMatched as Unfitting, Exhausted as Ended, Refused as Declined}
-use Rattle.failures.specs.Best.{failureOf}
+use Rattle.greatest.specs.Best.{failureOf}
 use Rattle.explaining.specs.Explanations.{explanationOf}
 use Rattle.batching.specs.declared.Batch.{Batch}
 use Rattle.batching.specs.declared.Batch.the-variants.{Done as All, Refused as Unmade}

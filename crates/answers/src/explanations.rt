@@ -2,11 +2,11 @@
 use batching::high_half;
 use batching::low_half;
 use explaining::Explanation;
-use failures::Failed;
+use greatest::Failed;
 ghost use mathlib.Core.Path.{_≡_};
 ghost use mathlib.Core.List.{_++_};
 ghost use Rattle.semantics.specs.Explanations.{nowhere as nothing};
-ghost use Rattle.failures.specs.Best.{failureOf};
+ghost use Rattle.greatest.specs.Best.{failureOf};
 ghost use Rattle.explaining.specs.Explanations.{explanationOf};
 ghost use Rattle.answers.specs.Answers.{numbers, failureNumbers, explainNumbers};
 ghost use Rattle.answers.specs.Laws.{ExplainPlaced};

@@ -11,7 +11,7 @@ use Rattle.semantics.specs.Calls.{over, ExplainOutcome, Fits, Unfit, ExplainExh
 use Rattle.machine.specs.Theorem.{Stands}
 use Rattle.explaining.specs.declared.Explanation.{Explanation}
 use Rattle.explaining.specs.declared.Explanation.the-variants.{Matched, NotMatched, Exhausted, Refused}
-use Rattle.failures.specs.Best.{failureOf}
+use Rattle.greatest.specs.Best.{failureOf}
 
 -- what the code's answer means
 unfoldable pub explanationOf : Explanation → ExplainOutcome

@@ -15,13 +15,13 @@ use Rattle.semantics.specs.Laws.Misses.{miss-inside}
 use Rattle.machine.specs.Moves.{Bytes, go}
 use Rattle.machine.specs.Theorem.{Stands, Clear}
 use Rattle.plain.specs.Telling.{hearsAll}
-use Rattle.failures.specs.declared.greatest.Best.{Best}
-use Rattle.failures.specs.declared.leading.Kept.{Kept}
+use Rattle.greatest.specs.declared.greatest.Best.{Best}
+use Rattle.greatest.specs.declared.leading.Kept.{Kept}
 use Rattle.failures.specs.Accounts.{bests}
-use Rattle.failures.specs.Leading.{keptOf, listed}
-use Rattle.failures.specs.Best.{Blank, Keeps, Finds}
+use Rattle.greatest.specs.Leading.{keptOf, listed}
+use Rattle.greatest.specs.Best.{Blank, Keeps, Finds}
 use Rattle.failures.specs.Walks.{Plain, Fruitless}
-use Rattle.failures.specs.Laws.Best.{keeps-none, keeps-more, keeps-finds, keeps-start, walk-since}
+use Rattle.greatest.specs.Laws.Best.{keeps-none, keeps-more, keeps-finds, keeps-start, walk-since}
 use Rattle.failures.specs.Laws.Accounts.{bests-all}
 use Rattle.failures.specs.Laws.Walks.{plain-begins}
 

@@ -12,30 +12,9 @@ use Rattle.syntax.specs.Limits.{unset}
 use Rattle.syntax.specs.Read.{if_then_else_}
 use Rattle.semantics.specs.Explanations.{Failure, greater, position}
 use Rattle.machine.specs.Laws.Run.{Account}
-
-abbrev pub failing : (start at place : ℕ) → Failure
-failing start at place = record { start = start; at = at; place = place }
+use Rattle.greatest.specs.Leading.{failing, better, wouldLead, noteOf, settled}
 
 -- The greatest --------------------------------------------------------------------
-
--- Within one start, the furthest failure and the closest attempt are the same one. No position is 4294967295.
-unfoldable pub better : (start : ℕ) → Option Failure → (place at : ℕ) → Option Failure
-better start x place at = if ltb at unset then greater position x (failing start at place) else x
-
--- whether one tried here would take its place
-unfoldable pub wouldLead : Option Failure → (at : ℕ) → Bool
-wouldLead none at = true
-wouldLead (some y) at = ltb (y .at) at
-
--- The note of a `(?!`: 0 if it would not take its place, else one more than where it was entered.
-unfoldable pub noteOf : Option Failure → (at : ℕ) → ℕ
-noteOf x at = if ltb at unset && wouldLead x at then suc at else 0
-
--- It takes its place then, unless a later one is greater. Of those that are equal it was the first.
-unfoldable pub settled : (start note place : ℕ) → Option Failure → Option Failure
-settled start zero place y = y
-settled start (suc at) place none = some (failing start at place)
-settled start (suc at) place (some y) = some (if ltb at (y .at) then y else failing start at place)
 
 pub settles-now : (start : ℕ) (x : Option Failure) (place n : ℕ) → settled start (noteOf x n) place x ≡ better start x place n
 unfolding settled noteOf better

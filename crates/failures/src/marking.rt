@@ -1,9 +1,9 @@
 // The marks: for each byte of the rule, as far as there is room, 1 where an item begins that failed at the closest attempt's position in that attempt,
 // else 0. Its start is walked once more, and each failure that it tells there is marked.
-use crate::greatest::Best;
-use crate::greatest::Failed;
 use crate::walking::try_next;
 use crate::walking::walk_all;
+use greatest::Best;
+use greatest::Failed;
 use machine::start;
 use plain::Missed;
 ghost use mathlib.Core.Path.{_≡_};
@@ -17,7 +17,7 @@ ghost use Rattle.semantics.specs.Explanations.{failures, marks as marksOf};
 ghost use Rattle.machine.specs.Moves.{go};
 ghost use Rattle.machine.specs.Theorem.{Stands, Clear};
 ghost use Rattle.failures.specs.Accounts.{markedBy, marking};
-ghost use Rattle.failures.specs.Best.{failureOf, Finds};
+ghost use Rattle.greatest.specs.Best.{failureOf, Finds};
 ghost use Rattle.failures.specs.Walks.{Plain, Fruitless, Sized};
 
 // Sets all bytes to 0.

@@ -2,14 +2,14 @@
 // ready for what is left of the walk, and what it told so far is what failed before that.
 //
 // No budget is asked for: a match has shown that there is enough. What is counted down is only more than the moves that are left.
-use crate::greatest::Best;
-use crate::greatest::blank;
-use crate::greatest::consider;
-use crate::leading::Kept;
-use crate::leading::lead;
-use crate::leading::note_of;
-use crate::leading::nothing;
-use crate::leading::settle;
+use greatest::Best;
+use greatest::Kept;
+use greatest::blank;
+use greatest::consider;
+use greatest::lead;
+use greatest::note_of;
+use greatest::nothing;
+use greatest::settle;
 use machine::Machine;
 use machine::start;
 use plain::Missed;
@@ -33,8 +33,8 @@ ghost use Rattle.machine.specs.Ready.{StackFits};
 ghost use Rattle.machine.specs.Theorem.{Stands, Clear};
 ghost use Rattle.plain.specs.Telling.{leads};
 ghost use Rattle.failures.specs.Accounts.{bests};
-ghost use Rattle.failures.specs.Leading.{keptOf, keptBy};
-ghost use Rattle.failures.specs.Best.{Finds};
+ghost use Rattle.greatest.specs.Leading.{keptOf, keptBy};
+ghost use Rattle.greatest.specs.Best.{Finds};
 ghost use Rattle.failures.specs.Walks.{Plain, Fruitless, Sized, Tried};
 
 // What failed in a move, or at its inner end a `(?!`, told by its note; and where the machine stands after it.

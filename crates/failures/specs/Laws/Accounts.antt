@@ -20,8 +20,8 @@ use Rattle.machine.specs.Laws.Run.{Account}
 use Rattle.plain.specs.declared.Missed.{Missed}
 use Rattle.plain.specs.Telling.{notes, hears, hearsAll, hearsBy}
 use Rattle.plain.specs.Misses.{emitted, failedIf, missedOf, OnceOrTwice}
-use Rattle.failures.specs.Accounts.{failing, better, bests, markedIf, markedBy, marking}
-use Rattle.failures.specs.Leading.{betterBy, betterIf}
+use Rattle.greatest.specs.Leading.{failing, better, betterBy, betterIf}
+use Rattle.failures.specs.Accounts.{bests, markedIf, markedBy, marking}
 
 -- By failures ----------------------------------------------------------------------
 

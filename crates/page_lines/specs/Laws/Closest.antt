@@ -9,7 +9,7 @@ use Rattle.syntax.specs.Tree.{Rule}
 use Rattle.semantics.specs.Explanations.{Failure, failures, greatest, nowhere, orNowhere, reach, closest}
 use Rattle.semantics.specs.Laws.Failures.{greatest-in, greatest-some}
 use Rattle.semantics.specs.Laws.Misses.{failure-inside}
-use Rattle.failures.specs.declared.greatest.Failed.{Failed}
+use Rattle.greatest.specs.declared.greatest.Failed.{Failed}
 use Rattle.explaining.specs.declared.Explanation.{Explanation}
 use Rattle.explaining.specs.declared.Explanation.the-variants.{NotMatched}
 use Rattle.explaining.specs.Explanations.{Explains}

@@ -1,6 +1,6 @@
 -- At once, or by its note.
 use borrow.Author.Needs.{needs}
-use Rattle.failures.specs.Leading.{keptBy}
+use Rattle.greatest.specs.Leading.{keptBy}
 use Rattle.failures.proofs.walking.keep_on.Statement.{statement}
 use Rattle.failures.proofs.walking.keep_on.Tie as tie
 

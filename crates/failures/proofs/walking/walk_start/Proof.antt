@@ -5,9 +5,9 @@ use native.Mathlib.Omega.{arith}
 use borrow.Author.Needs.{needs}
 use denote.Ref.{now}
 use Rattle.failures.specs.Accounts.{bests}
-use Rattle.failures.specs.Leading.{keptOf}
+use Rattle.greatest.specs.Leading.{keptOf}
 use Rattle.failures.specs.Laws.Accounts.{bests-steady, bests-missed}
-use Rattle.failures.specs.Laws.Leading.{kept-late, kept-now}
+use Rattle.greatest.specs.Laws.Leading.{kept-late, kept-now}
 use Rattle.failures.proofs.Trying.{Trying, trying-start, trying-end, trying-fits, trying-stack, trying-low, trying-high, trying-no-end, trying-some, trying-on}
 use Rattle.failures.proofs.walking.walk_start.Statement.{statement}
 use Rattle.failures.proofs.walking.walk_start.Tie as tie

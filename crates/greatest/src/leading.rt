@@ -7,8 +7,7 @@ use plain::Missed;
 ghost use mathlib.Core.Path.{_≡_};
 ghost use mathlib.Core.Option.{none};
 ghost use Prim.Native.Nat.{ℕ};
-ghost use Rattle.failures.specs.Accounts.{better, noteOf, settled};
-ghost use Rattle.failures.specs.Leading.{keptOf, betterIf};
+ghost use Rattle.greatest.specs.Leading.{better, noteOf, settled, keptOf, betterIf};
 
 // No position is as great.
 const NOWHERE: u32 = 4294967295;

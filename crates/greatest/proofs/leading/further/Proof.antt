@@ -1,9 +1,9 @@
 -- Each return is one case of `better`.
 use native.Mathlib.Omega.{arith}
 use borrow.Author.Tests.{not-true, not-false}
-use Rattle.failures.specs.Laws.Leading.{lead-nowhere, lead-first, lead-greater, lead-not}
-use Rattle.failures.proofs.leading.further.Statement.{statement}
-use Rattle.failures.proofs.leading.further.Tie as tie
+use Rattle.greatest.specs.Laws.Leading.{lead-nowhere, lead-first, lead-greater, lead-not}
+use Rattle.greatest.proofs.leading.further.Statement.{statement}
+use Rattle.greatest.proofs.leading.further.Tie as tie
 
 returns : tie.Need-returns
 returns c = λ start. lead-nowhere start _ _ _ (c .if1 .taken)

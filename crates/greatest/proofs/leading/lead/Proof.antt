@@ -2,9 +2,9 @@
 use mathlib.Core.Path.{_∙_}
 use borrow.Author.Needs.{needs}
 use borrow.Author.Tests.{not-true, not-false}
-use Rattle.failures.specs.Laws.Leading.{lead-nothing, lead-one}
-use Rattle.failures.proofs.leading.lead.Statement.{statement}
-use Rattle.failures.proofs.leading.lead.Tie as tie
+use Rattle.greatest.specs.Laws.Leading.{lead-nothing, lead-one}
+use Rattle.greatest.proofs.leading.lead.Statement.{statement}
+use Rattle.greatest.proofs.leading.lead.Tie as tie
 
 returns : tie.Need-returns
 returns c = λ start. lead-nothing start _ _ (not-true _ (c .if1 .taken))

@@ -1,8 +1,8 @@
 -- The fields as they are written.
 use mathlib.Core.Path.{refl}
 use Rattle.semantics.specs.Explanations.{nowhere}
-use Rattle.failures.proofs.greatest.blank.Statement.{statement}
-use Rattle.failures.proofs.greatest.blank.Tie as tie
+use Rattle.greatest.proofs.greatest.blank.Statement.{statement}
+use Rattle.greatest.proofs.greatest.blank.Tie as tie
 
 returns : tie.Need-returns
 unfolding nowhere

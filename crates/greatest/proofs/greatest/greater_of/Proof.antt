@@ -1,9 +1,9 @@
 -- Each return is one case of `greater`.
 use native.Mathlib.Omega.{arith}
 use borrow.Author.Tests.{not-true, not-false}
-use Rattle.failures.specs.Laws.Best.{first-one, greater-one, no-greater}
-use Rattle.failures.proofs.greatest.greater_of.Statement.{statement}
-use Rattle.failures.proofs.greatest.greater_of.Tie as tie
+use Rattle.greatest.specs.Laws.Best.{first-one, greater-one, no-greater}
+use Rattle.greatest.proofs.greatest.greater_of.Statement.{statement}
+use Rattle.greatest.proofs.greatest.greater_of.Tie as tie
 
 returns : tie.Need-returns
 returns c by e f = first-one by _ _ _ (not-true _ (c .if1 .taken))

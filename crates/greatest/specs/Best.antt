@@ -5,8 +5,8 @@ use mathlib.Core.List.{List}
 use mathlib.Core.Bool.{Bool, true, false}
 use mathlib.Core.Option.{Option, none, some}
 use Rattle.semantics.specs.Explanations.{Failure, greatest, nowhere, position, furthest, reach, closest}
-use Rattle.failures.specs.declared.greatest.Failed.{Failed}
-use Rattle.failures.specs.declared.greatest.Best.{Best}
+use Rattle.greatest.specs.declared.greatest.Failed.{Failed}
+use Rattle.greatest.specs.declared.greatest.Best.{Best}
 
 -- what the code's failure means
 abbrev pub failureOf : Failed → Failure

@@ -13,11 +13,11 @@ use Rattle.semantics.specs.Walk.{step, miss, end, Trace}
 use Rattle.semantics.specs.Explanations.{Failure, failed, greater, greatest, nowhere, orNowhere, position, furthest, reach, closest}
 use Rattle.semantics.specs.Demands.{In}
 use Rattle.semantics.specs.Laws.Failures.{greatest-append}
-use Rattle.failures.specs.declared.greatest.Failed.{Failed}
-use Rattle.failures.specs.declared.greatest.Best.{Best}
-use Rattle.failures.specs.declared.leading.Kept.{Kept}
-use Rattle.failures.specs.Leading.{keptIf, keptOf, listed}
-use Rattle.failures.specs.Best.{failureOf, kept, Blank, Keeps, Finds}
+use Rattle.greatest.specs.declared.greatest.Failed.{Failed}
+use Rattle.greatest.specs.declared.greatest.Best.{Best}
+use Rattle.greatest.specs.declared.leading.Kept.{Kept}
+use Rattle.greatest.specs.Leading.{keptIf, keptOf, listed}
+use Rattle.greatest.specs.Best.{failureOf, kept, Blank, Keeps, Finds}
 
 -- One more failure ----------------------------------------------------------------
 

@@ -9,9 +9,8 @@ use borrow.Author.Tests.{lt-ltb, le-ltb}
 use Rattle.syntax.specs.Limits.{unset}
 use Rattle.semantics.specs.Explanations.{Failure, greater}
 use Rattle.plain.specs.declared.Missed.{Missed}
-use Rattle.failures.specs.declared.leading.Kept.{Kept}
-use Rattle.failures.specs.Accounts.{better, wouldLead, noteOf, settled}
-use Rattle.failures.specs.Leading.{keptIf, keptOf, betterBy, betterIf, keptBy}
+use Rattle.greatest.specs.declared.leading.Kept.{Kept}
+use Rattle.greatest.specs.Leading.{better, wouldLead, noteOf, settled, keptIf, keptOf, betterBy, betterIf, keptBy}
 
 module _ (start : ℕ) (k : Kept) where
   pub kept-none : k .any ≡ false → keptOf start k ≡ none

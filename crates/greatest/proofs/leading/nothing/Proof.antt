@@ -1,8 +1,8 @@
 -- The fields as they are written.
 use mathlib.Core.Path.{refl}
-use Rattle.failures.specs.Laws.Leading.{kept-none}
-use Rattle.failures.proofs.leading.nothing.Statement.{statement}
-use Rattle.failures.proofs.leading.nothing.Tie as tie
+use Rattle.greatest.specs.Laws.Leading.{kept-none}
+use Rattle.greatest.proofs.leading.nothing.Statement.{statement}
+use Rattle.greatest.proofs.leading.nothing.Tie as tie
 
 returns : tie.Need-returns
 returns c = λ start. kept-none start _ refl

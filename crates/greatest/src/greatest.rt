@@ -8,8 +8,8 @@ ghost use mathlib.Core.List.{_∷_, []};
 ghost use mathlib.Core.Option.{some};
 ghost use Prim.Native.Nat.{ℕ};
 ghost use Rattle.semantics.specs.Explanations.{Failure, greater, reach};
-ghost use Rattle.failures.specs.Best.{failureOf, kept, Blank, Keeps};
-ghost use Rattle.failures.specs.Leading.{keptOf, listed};
+ghost use Rattle.greatest.specs.Best.{failureOf, kept, Blank, Keeps};
+ghost use Rattle.greatest.specs.Leading.{keptOf, listed};
 
 // An item that failed: the start of the attempt, where in the subject it was tried, and its place in the rule.
 pub struct Failed {

@@ -2,9 +2,9 @@
 use mathlib.Core.Path.{refl}
 use borrow.Author.Needs.{needs}
 use Rattle.semantics.specs.Explanations.{position, reach}
-use Rattle.failures.specs.Laws.Best.{keeps-one}
-use Rattle.failures.proofs.greatest.keep.Statement.{statement}
-use Rattle.failures.proofs.greatest.keep.Tie as tie
+use Rattle.greatest.specs.Laws.Best.{keeps-one}
+use Rattle.greatest.proofs.greatest.keep.Statement.{statement}
+use Rattle.greatest.proofs.greatest.keep.Tie as tie
 
 greater-of-requires : tie.Need-greater-of-requires
 greater-of-requires c κs = search needs

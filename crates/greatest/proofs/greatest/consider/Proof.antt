@@ -1,9 +1,9 @@
 -- Nothing failed, and nothing changes; or one failure more is kept.
 use borrow.Author.Needs.{needs}
 use borrow.Author.Tests.{not-true, not-false}
-use Rattle.failures.specs.Laws.Best.{keeps-none, listed-none, listed-one}
-use Rattle.failures.proofs.greatest.consider.Statement.{statement}
-use Rattle.failures.proofs.greatest.consider.Tie as tie
+use Rattle.greatest.specs.Laws.Best.{keeps-none, listed-none, listed-one}
+use Rattle.greatest.proofs.greatest.consider.Statement.{statement}
+use Rattle.greatest.proofs.greatest.consider.Tie as tie
 
 returns : tie.Need-returns
 returns c = rw (listed-none _ (c .before .before .args .kept) (not-true _ (c .if1 .taken))) (keeps-none _)

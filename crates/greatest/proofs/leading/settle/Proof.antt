@@ -1,9 +1,9 @@
 -- Each return is one case of `settled`.
 use native.Mathlib.Omega.{arith}
 use borrow.Author.Tests.{not-true, not-false}
-use Rattle.failures.specs.Laws.Leading.{settle-none, settle-first, settle-later, settle-here}
-use Rattle.failures.proofs.leading.settle.Statement.{statement}
-use Rattle.failures.proofs.leading.settle.Tie as tie
+use Rattle.greatest.specs.Laws.Leading.{settle-none, settle-first, settle-later, settle-here}
+use Rattle.greatest.proofs.leading.settle.Statement.{statement}
+use Rattle.greatest.proofs.leading.settle.Tie as tie
 
 returns : tie.Need-returns
 returns c = λ start. settle-none start _ _ _ (c .if1 .taken)

@@ -1,9 +1,9 @@
 -- Each return is one case of `noteOf`.
 use native.Mathlib.Omega.{arith}
 use borrow.Author.Tests.{not-true, not-false}
-use Rattle.failures.specs.Laws.Leading.{note-nowhere, note-first, note-greater, note-not}
-use Rattle.failures.proofs.leading.note_of.Statement.{statement}
-use Rattle.failures.proofs.leading.note_of.Tie as tie
+use Rattle.greatest.specs.Laws.Leading.{note-nowhere, note-first, note-greater, note-not}
+use Rattle.greatest.proofs.leading.note_of.Statement.{statement}
+use Rattle.greatest.proofs.leading.note_of.Tie as tie
 
 returns : tie.Need-returns
 returns c = λ start. note-nowhere start _ _ (c .if1 .taken)

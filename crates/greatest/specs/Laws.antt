@@ -1,0 +1,3 @@
+-- Facts about the failures that are kept.
+pub mod Leading
+pub mod Best
