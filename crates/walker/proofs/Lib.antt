@@ -1,4 +1,3 @@
 -- The laws that the functions' proofs cite.
 pub mod Stepping
-pub mod Vain
 pub mod Walking

@@ -2,9 +2,8 @@
 //
 // `run_to_end` stops at the rule's end, where nothing is left to try or where the steps are spent, and tells which as the rule's trace does. Before
 // each step the machine is ready for all that are left. It costs what its nodes cost: nothing is looked up, copied or cleared between them.
-mod behind;
-
 use behind::Behind;
+use behind::ROUND_END;
 use behind::look_behind;
 use branches::take_branch;
 use machine::BRANCH;
@@ -41,10 +40,8 @@ ghost use Rattle.machine.specs.Code.{Fits};
 ghost use Rattle.machine.specs.Words.{stackOf, nowOf, movedOn};
 ghost use Rattle.machine.specs.Ready.{until, Several, Leads, RanBy, StackFits, Ready, Agrees};
 
-// The kinds of a group's opening and of the end of a round.
+// The kind of a group's opening.
 const OPEN: u32 = 3;
-
-const ROUND_END: u32 = 8;
 
 // Where the machine stands, and the steps that are left. They are handed on in place of those used, so that the loops keep one number and not two.
 struct Standing {

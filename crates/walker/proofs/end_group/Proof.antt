@@ -7,7 +7,7 @@ use denote.Ref.{now}
 use Rattle.machine.specs.Words.{stackOf}
 use Rattle.machine.specs.Laws.Code.{spans-in-registers, fits-at}
 use Rattle.walker.proofs.Stepping.{live-closed, pc-closed, rest-again, stepping-start, stepping-node, stepping-two, stepping-fits, stepping-stack, stepping-low}
-use Rattle.walker.proofs.Vain.{closed-fits}
+use Rattle.behind.proofs.Vain.{closed-fits}
 use borrow.Author.Needs.{needs}
 use Rattle.walker.proofs.end_group.Statement.{statement}
 use Rattle.walker.proofs.end_group.Tie as tie

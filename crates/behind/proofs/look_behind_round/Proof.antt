@@ -3,10 +3,10 @@ use mathlib.Core.List.{[]}
 use Prim.Native.Nat.{_+_}
 use native.Mathlib.Omega.{arith}
 use denote.Ref.{now}
-use Rattle.walker.proofs.Vain.{round-fits, leads-vain}
+use Rattle.behind.proofs.Vain.{round-fits, leads-vain}
 use borrow.Author.Needs.{needs}
-use Rattle.walker.proofs.behind.look_behind_round.Statement.{statement}
-use Rattle.walker.proofs.behind.look_behind_round.Tie as tie
+use Rattle.behind.proofs.look_behind_round.Statement.{statement}
+use Rattle.behind.proofs.look_behind_round.Tie as tie
 
 cast-pc : tie.Need-cast-pc
 cast-pc c = search needs

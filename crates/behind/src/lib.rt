@@ -1,8 +1,7 @@
 // What stands behind a group's end, and whether the group closes in vain.
 //
 // A group that is repeated closes once for each way through it, and mostly for nothing: the byte that follows is not there. To see that takes a look at a
-// node or two; to close the group and fall back takes a frame that is written and read again.
-use crate::ROUND_END;
+// node or two; to close the group and fall back takes a frame that is written and read again. The walk alone looks there (`walker`).
 use machine::BYTE;
 use machine::Machine;
 ghost use mathlib.Core.Path.{_≡_};
@@ -10,7 +9,10 @@ ghost use Prim.Native.Nat.{_+_, _≤_, _<_, _^_};
 ghost use lib.ListN.{length, getD};
 ghost use Rattle.syntax.specs.Limits.{spansLength, registers};
 ghost use Rattle.machine.specs.Code.{Fits};
-ghost use Rattle.walker.specs.Behind.{Lacks, Told};
+ghost use Rattle.behind.specs.Behind.{Lacks, Told};
+
+// The kind of the end of a round.
+pub const ROUND_END: u32 = 8;
 
 // The longest node, a byte item: its class is the last eight numbers.
 const NODE_LENGTH: usize = 11;

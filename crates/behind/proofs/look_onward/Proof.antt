@@ -7,10 +7,10 @@ use denote.Ref.{now}
 use Rattle.charset.specs.Class.{has}
 use Rattle.machine.specs.Laws.Ends.{asks-byte}
 use Rattle.machine.specs.Laws.Extent.{takes-here, takes-past}
-use Rattle.walker.proofs.Vain.{lacks-byte}
+use Rattle.behind.proofs.Vain.{lacks-byte}
 use borrow.Author.Needs.{needs}
-use Rattle.walker.proofs.behind.look_onward.Statement.{statement}
-use Rattle.walker.proofs.behind.look_onward.Tie as tie
+use Rattle.behind.proofs.look_onward.Statement.{statement}
+use Rattle.behind.proofs.look_onward.Tie as tie
 
 add-if1 : tie.Need-add-if1
 add-if1 c = search needs

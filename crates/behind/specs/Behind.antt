@@ -7,8 +7,8 @@ use lib.ListN.{getD}
 use Rattle.machine.specs.declared.Machine.{Machine}
 use Rattle.machine.specs.Moves.{Stack, go, fall}
 use Rattle.machine.specs.Ready.{Leads}
-use Rattle.walker.specs.declared.behind.Behind.{Behind}
-use Rattle.walker.specs.declared.behind.Behind.the-variants.{Missing, There, NoByte}
+use Rattle.behind.specs.declared.Behind.{Behind}
+use Rattle.behind.specs.declared.Behind.the-variants.{Missing, There, NoByte}
 
 -- a node of one step fails here, with any registers
 abbrev pub Lacks : (p sub : List ℕ) → (pc at : ℕ) → Bool → Type 0

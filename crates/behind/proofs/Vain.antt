@@ -22,7 +22,7 @@ use Rattle.machine.specs.Laws.Run.{fall-saved}
 use Rattle.machine.specs.Laws.Loop.{ready-led, leads-join, fits-now}
 use Rattle.machine.specs.Laws.Branches.{leads-on}
 use Rattle.machine.specs.Laws.Ends.{asks-byte}
-use Rattle.walker.specs.Behind.{Lacks}
+use Rattle.behind.specs.Behind.{Lacks}
 
 allowed-still : (full : Bool) (g : Greed) → allowed false full true g ≡ leave
 unfolding allowed

@@ -9,8 +9,8 @@ use Rattle.machine.specs.Laws.Code.{fits-at}
 use Rattle.machine.specs.Laws.Ends.{asks-byte, asks-close}
 use Rattle.machine.specs.Laws.Extent.{takes-here, takes-past}
 use borrow.Author.Needs.{needs}
-use Rattle.walker.proofs.behind.look_behind.Statement.{statement}
-use Rattle.walker.proofs.behind.look_behind.Tie as tie
+use Rattle.behind.proofs.look_behind.Statement.{statement}
+use Rattle.behind.proofs.look_behind.Tie as tie
 
 cast-pc : tie.Need-cast-pc
 cast-pc c = search needs
