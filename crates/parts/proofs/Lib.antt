@@ -1,5 +1,4 @@
 -- What the proofs of several functions use. Standing is cited above too.
 pub mod Standing
 mod Parentheses
-mod Heads
 mod Items

@@ -18,7 +18,8 @@ use Rattle.lexemes.specs.Says.{Peeked}
 use Rattle.parts.specs.declared.Cursor.{Cursor}
 use Rattle.parts.specs.declared.Answer.the-variants.{Sound, Refused}
 use Rattle.writer.specs.Wrote.{Wrote}
-use Rattle.parts.specs.Says.{behindNode, Ready, FormFits, Closes}
+use Rattle.brackets.specs.Says.{FormFits}
+use Rattle.parts.specs.Says.{behindNode, Ready, Closes}
 use Rattle.parts.proofs.Standing.{group-part, held-part, ahead-part, not-ahead-part, plain-part}
 
 closing-yes : {s : List ℕ} {at b : ℕ} (opening : ℕ) (t : Rule) (n : Names) → Peeked s at b → b ≡ 41 → closing s opening t n at ≡ sound (t, n) (at + 1)

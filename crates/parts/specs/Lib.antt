@@ -1,2 +1,2 @@
--- What the readers of parts and of the openings and ends of groups promise.
+-- What the readers of parts and of the ends of groups promise.
 pub mod Says

@@ -40,7 +40,8 @@ ghost use Prim.Native.Nat.{_+_, _≤_, _<_};
 ghost use lib.ListN.{length};
 ghost use Rattle.syntax.specs.Read.{byte, refused};
 ghost use Rattle.syntax.specs.Grammar.{Sequence, unfitFor};
-ghost use Rattle.parts.specs.Says.{Ready, kindOf, Items, PlainItems, Others, Repeats, FormFits, Closes};
+ghost use Rattle.brackets.specs.Says.{FormFits};
+ghost use Rattle.parts.specs.Says.{Ready, kindOf, Items, PlainItems, Others, Repeats, Closes};
 
 // The refusal of a repeat whose bounds do not fit.
 fn unfit(at: usize, kind: u32) -> Refusal

@@ -20,9 +20,10 @@ use Rattle.parts.specs.declared.Answer.{Answer}
 use Rattle.parts.specs.declared.Answer.the-variants.{Sound, Refused}
 use Rattle.parts.specs.declared.Turn.{Turn}
 use Rattle.parts.specs.declared.Turn.the-variants.{Goes, Ends}
-use Rattle.parts.specs.declared.Opening.{Opening}
-use Rattle.parts.specs.declared.Opening.the-variants.{Opens, Unopened}
-use Rattle.parts.specs.Says.{Ready, PartAfter, Begun, Opened, SaysOpening, Closes, Others}
+use Rattle.brackets.specs.declared.Opening.{Opening}
+use Rattle.brackets.specs.declared.Opening.the-variants.{Opens, Unopened}
+use Rattle.brackets.specs.Says.{Begun, Opened, SaysOpening}
+use Rattle.parts.specs.Says.{Ready, PartAfter, Closes, Others}
 use Rattle.reader.specs.Says.{Groups, Turns, Alternates}
 use Rattle.reader.proofs.Answers.{said, moved, named, names-stay, names-stay-turn, says-as, moved-on}
 use Rattle.parts.proofs.Standing.{so-far-more, so-far-chain}

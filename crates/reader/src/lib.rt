@@ -1,5 +1,7 @@
 // Reads a rule's alternations, sequences, items and groups, and appends a node for each part to a lent area. The names of its groups go to a table of
 // their own: two numbers for each, where the name begins in the rule, and its length.
+use brackets::Opening;
+use brackets::opening_at;
 use lexemes::END;
 use lexemes::behind_blanks;
 use lexemes::peek;
@@ -7,12 +9,10 @@ use parts::Answer;
 use parts::CLOSING;
 use parts::Cursor;
 use parts::NOTHING;
-use parts::Opening;
 use parts::REPEATABLE;
 use parts::Turn;
 use parts::behind;
 use parts::close;
-use parts::opening_at;
 use parts::other;
 use syntax::NESTING_LIMIT;
 use syntax::Reason;

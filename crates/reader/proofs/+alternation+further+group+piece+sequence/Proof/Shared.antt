@@ -22,7 +22,7 @@ use Rattle.lexemes.proofs.peek.Reads as peek-reads
 use Rattle.parts.proofs.behind.Reads as behind-reads
 use Rattle.writer.proofs.put_branch.Reads as put-branch-reads
 use Rattle.writer.proofs.put_three.Reads as put-three-reads
-use Rattle.parts.proofs.opening_at.Reads as opening-at-reads
+use Rattle.brackets.proofs.opening_at.Reads as opening-at-reads
 use Rattle.parts.proofs.close.Reads as close-reads
 use Rattle.parts.proofs.other.Reads as other-reads
 use Rattle.reader.proofs.stops.Reads as stops-reads

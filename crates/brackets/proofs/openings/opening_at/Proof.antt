@@ -2,9 +2,9 @@
 use borrow.Author.Needs.{needs}
 use native.Mathlib.Omega.{arith}
 use Rattle.syntax.specs.Limits.{groupLimit}
-use Rattle.parts.proofs.Heads.{begun, opening-unknown, form-deep, opening-form, capture-deep, opening-named, opening-unnamed}
-use Rattle.parts.proofs.openings.opening_at.Statement.{statement}
-use Rattle.parts.proofs.openings.opening_at.Tie as tie
+use Rattle.brackets.proofs.Heads.{begun, opening-unknown, form-deep, opening-form, capture-deep, opening-named, opening-unnamed}
+use Rattle.brackets.proofs.openings.opening_at.Statement.{statement}
+use Rattle.brackets.proofs.openings.opening_at.Tie as tie
 
 bracket-requires : tie.Need-bracket-requires
 bracket-requires c κs = search needs

@@ -1,9 +1,9 @@
 -- By the byte behind `(?`: one law for each return.
 use borrow.Author.Needs.{needs}
 use Rattle.syntax.specs.Limits.{groupLimit}
-use Rattle.parts.proofs.Heads.{bracket-plain, bracket-held, bracket-ahead, bracket-not-ahead, bracket-unknown, bracket-named, named-many}
-use Rattle.parts.proofs.openings.marked.Statement.{statement}
-use Rattle.parts.proofs.openings.marked.Tie as tie
+use Rattle.brackets.proofs.Heads.{bracket-plain, bracket-held, bracket-ahead, bracket-not-ahead, bracket-unknown, bracket-named, named-many}
+use Rattle.brackets.proofs.openings.marked.Statement.{statement}
+use Rattle.brackets.proofs.openings.marked.Tie as tie
 
 add-t5 : tie.Need-add-t5
 add-t5 c = search needs

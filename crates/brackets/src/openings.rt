@@ -24,7 +24,7 @@ ghost use Rattle.syntax.specs.Limits.{groupLimit, spansLength};
 ghost use Rattle.linker.specs.Table.{namesIn, NamesFit};
 ghost use Rattle.lexemes.specs.Says.{Peeked};
 ghost use Rattle.writer.specs.Wrote.{Wrote};
-ghost use Rattle.parts.specs.Says.{headOf, SaysBracket, SaysHead, SaysOpening};
+ghost use Rattle.brackets.specs.Says.{headOf, SaysBracket, SaysHead, SaysOpening};
 
 // What group opens at a bracket with a `?` and the byte `d` behind it.
 fn marked(d: u32, at: usize, opened: u32) -> Bracket

@@ -25,12 +25,12 @@ use Rattle.lexemes.specs.declared.NameRead.{NameRead}
 use Rattle.lexemes.specs.declared.NameRead.the-variants.{Named, BadName}
 use Rattle.lexemes.specs.Says.{Peeked, SaysName, SaysNameUpTo}
 use Rattle.linker.specs.Table.{namesIn, NamesFit, length-names}
-use Rattle.parts.specs.declared.Bracket.{Bracket}
-use Rattle.parts.specs.declared.Bracket.the-variants.{Captures, Begins, Unknown}
-use Rattle.parts.specs.declared.Opening.{Opening}
-use Rattle.parts.specs.declared.Opening.the-variants.{Opens, Unopened}
+use Rattle.brackets.specs.declared.Bracket.{Bracket}
+use Rattle.brackets.specs.declared.Bracket.the-variants.{Captures, Begins, Unknown}
+use Rattle.brackets.specs.declared.Opening.{Opening}
+use Rattle.brackets.specs.declared.Opening.the-variants.{Opens, Unopened}
 use Rattle.writer.specs.Wrote.{Wrote}
-use Rattle.parts.specs.Says.{FormFits, headOf, Bracketed, SaysBracket, SaysHead, SaysOpening}
+use Rattle.brackets.specs.Says.{FormFits, headOf, Bracketed, SaysBracket, SaysHead, SaysOpening}
 
 -- What group it is ------------------------------------------------------------------
 

@@ -1,10 +1,10 @@
 -- The name of a group: one law for each return.
 use native.Mathlib.Omega.{arith}
 use Rattle.syntax.specs.Limits.{groupLimit}
-use Rattle.parts.proofs.Heads.{name-in, name-bad, name-twice, name-new}
+use Rattle.brackets.proofs.Heads.{name-in, name-bad, name-twice, name-new}
 use borrow.Author.Needs.{needs}
-use Rattle.parts.proofs.openings.name.Statement.{statement}
-use Rattle.parts.proofs.openings.name.Tie as tie
+use Rattle.brackets.proofs.openings.name.Statement.{statement}
+use Rattle.brackets.proofs.openings.name.Tie as tie
 
 name-at-requires : tie.Need-name-at-requires
 name-at-requires c κs = search needs

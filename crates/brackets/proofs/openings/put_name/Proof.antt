@@ -6,8 +6,8 @@ use lib.ListN.{length-set}
 use Rattle.syntax.specs.Limits.{groupLimit, spansLength}
 use Rattle.writer.proofs.Writing.{wrote-none, wrote-one}
 use borrow.Author.Needs.{needs}
-use Rattle.parts.proofs.openings.put_name.Statement.{statement}
-use Rattle.parts.proofs.openings.put_name.Tie as tie
+use Rattle.brackets.proofs.openings.put_name.Statement.{statement}
+use Rattle.brackets.proofs.openings.put_name.Tie as tie
 
 mul-at : tie.Need-mul-at
 mul-at c = search needs

@@ -1,9 +1,9 @@
 -- What group opens: behind a `?` by the next byte, which `marked` reads, and else one law for each return.
 use borrow.Author.Needs.{needs}
 use Rattle.syntax.specs.Limits.{groupLimit}
-use Rattle.parts.proofs.Heads.{bracket-capture, capture-too-many}
-use Rattle.parts.proofs.openings.bracket.Statement.{statement}
-use Rattle.parts.proofs.openings.bracket.Tie as tie
+use Rattle.brackets.proofs.Heads.{bracket-capture, capture-too-many}
+use Rattle.brackets.proofs.openings.bracket.Statement.{statement}
+use Rattle.brackets.proofs.openings.bracket.Tie as tie
 
 add-peek : tie.Need-add-peek
 add-peek c = search needs

@@ -1,0 +1,2 @@
+-- What the readers of the openings of groups promise.
+pub mod Says
