@@ -1,3 +1,2 @@
--- What `\R` does at a position, in numbers (Breaks), and how negative looking ahead is entered (Notes).
-pub mod Breaks
+-- How negative looking ahead is entered.
 pub mod Notes

@@ -1,4 +1,4 @@
-// The nodes of held parts and of looking ahead, and `\R` (02, request l).
+// The nodes of held parts and of looking ahead (02, request l).
 //
 // Where such a part is entered, its registers take the height of the stack and the position. At its inner end the choices made since are given up, and the
 // frames that undo changes of registers are kept: falling back is then what it is everywhere, and no frame of a new kind is needed. An inner end looks at
@@ -17,12 +17,6 @@ ghost use Rattle.machine.specs.Code.{Fits};
 ghost use Rattle.machine.specs.Words.{stackOf, nowOf, movedOn, carried};
 ghost use Rattle.machine.specs.Ready.{StackFits};
 ghost use Rattle.marks.specs.Notes.{forbidden};
-
-mod breaks;
-
-pub use breaks::Break;
-pub use breaks::break_at;
-pub use breaks::take_break;
 
 // A held part or looking ahead is entered.
 fn enter_part(code: &[u32], regs: &mut [u32], work: &mut [u32], m: Machine) -> Machine

@@ -22,9 +22,9 @@ use Rattle.machine.specs.Code.{Program, Test, inSet, holding, sameAs, tests, fo
 use Rattle.machine.specs.Moves.{Stack, Move, paid, state, tested, takes, strides, stopped, tried, ran, isReturn, isFeed, isBreak, brokeAlone, broke, bytesOf, carryOut, move}
 use Rattle.machine.specs.Words.{stackOf, configurationOf}
 use Rattle.machine.specs.Laws.Loop.{move-run}
-use Rattle.marks.specs.declared.breaks.Break.{Break}
-use Rattle.marks.specs.Breaks.{breakSteps, breakBytes, BreaksAs}
-use Rattle.marks.proofs.Breaking.{return-breaks}
+use Rattle.breaks.specs.declared.Break.{Break}
+use Rattle.breaks.specs.Breaks.{breakSteps, breakBytes, BreaksAs}
+use Rattle.breaks.proofs.Breaking.{return-breaks}
 use Rattle.plain.specs.declared.Missed.{Missed}
 use Rattle.plain.specs.declared.Referred.{Referred}
 use Rattle.plain.specs.Misses.{emitted, failedIf, missedOf, OnceOrTwice, Tells, RefersAs}

@@ -12,9 +12,9 @@ use Rattle.machine.specs.Code.{repeatAt}
 use Rattle.machine.specs.Moves.{Stack, go, below, fall, tried, bytesOf, carryOut}
 use Rattle.machine.specs.Words.{stackOf, configurationOf, movedOn, carried}
 use Rattle.machine.specs.Laws.Stack.{paid-after}
-use Rattle.marks.specs.declared.breaks.Break.{Break}
-use Rattle.marks.specs.Breaks.{BreaksAs}
-use Rattle.marks.proofs.Breaking.{break-back as falling, break-on as going}
+use Rattle.breaks.specs.declared.Break.{Break}
+use Rattle.breaks.specs.Breaks.{BreaksAs}
+use Rattle.breaks.proofs.Breaking.{break-back as falling, break-on as going}
 use Rattle.runs.proofs.Leaving.{ran-few, ran-enough}
 use Rattle.walker.proofs.Stepping.{moved-as}
 use Rattle.plain.specs.declared.Referred.{Referred}

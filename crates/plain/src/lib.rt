@@ -7,6 +7,7 @@
 // ahead looks at the frames pushed since that was entered.
 //
 // Whether a `(?!` fails is seen only at its inner end. So it keeps a note of the explanation's where it is entered, and is told by that (`tell_refuted`).
+use breaks::break_at;
 use charset::contains;
 use machine::BRANCH;
 use machine::BREAK;
@@ -16,7 +17,6 @@ use machine::RUN;
 use machine::fall_back;
 use machine::go_down;
 use machine::push_explore;
-use marks::break_at;
 use marks::forbid;
 use marks::take_marked;
 use nodes::Compared;

@@ -2,13 +2,13 @@
 use native.Mathlib.Omega.{arith}
 use borrow.Author.Needs.{needs}
 use denote.Ref.{now}
-use Rattle.marks.proofs.Breaking.{break-goes, break-falls, break-long, break-some}
-use Rattle.marks.proofs.breaks.take_break.Statement.{statement}
-use Rattle.marks.proofs.breaks.take_break.Tie as tie
-use Rattle.marks.proofs.breaks.take_break.Reads as reads
-use Rattle.marks.proofs.breaks.take_break.Lts as lts
+use Rattle.breaks.proofs.Breaking.{break-goes, break-falls, break-long, break-some}
+use Rattle.breaks.proofs.take_break.Statement.{statement}
+use Rattle.breaks.proofs.take_break.Tie as tie
+use Rattle.breaks.proofs.take_break.Reads as reads
+use Rattle.breaks.proofs.take_break.Lts as lts
 use Rattle.machine.proofs.fall_back.Reads as fall-back-reads
-use Rattle.marks.proofs.breaks.break_at.Reads as break-at-reads
+use Rattle.breaks.proofs.break_at.Reads as break-at-reads
 
 -- src/breaks.rt:87:14
 cast-pc : tie.Need-cast-pc

@@ -2,13 +2,13 @@
 use mathlib.Core.Path.{refl}
 use borrow.Author.Needs.{needs}
 use denote.Ref.{now}
-use Rattle.marks.proofs.Breaking.{break-past}
-use Rattle.marks.proofs.breaks.break_at.Statement.{statement}
-use Rattle.marks.proofs.breaks.break_at.Tie as tie
-use Rattle.marks.proofs.breaks.break_at.Reads as reads
-use Rattle.marks.proofs.breaks.break_at.Lts as lts
-use Rattle.marks.proofs.breaks.break_at_other.Reads as break-at-other-reads
-use Rattle.marks.proofs.breaks.break_at_return.Reads as break-at-return-reads
+use Rattle.breaks.proofs.Breaking.{break-past}
+use Rattle.breaks.proofs.break_at.Statement.{statement}
+use Rattle.breaks.proofs.break_at.Tie as tie
+use Rattle.breaks.proofs.break_at.Reads as reads
+use Rattle.breaks.proofs.break_at.Lts as lts
+use Rattle.breaks.proofs.break_at_other.Reads as break-at-other-reads
+use Rattle.breaks.proofs.break_at_return.Reads as break-at-return-reads
 
 -- src/breaks.rt:68:17
 shared-slice-read-b : tie.Need-shared-slice-read-b

@@ -6,7 +6,7 @@ use mathlib.Core.Bool.{Bool, true, false}
 use Prim.Native.Nat.{ℕ, suc, _+_, _≤_}
 use lib.ListN.{length}
 use Rattle.machine.specs.Moves.{takes, isReturn, isFeed, isBreak}
-use Rattle.marks.specs.declared.breaks.Break.{Break}
+use Rattle.breaks.specs.declared.Break.{Break}
 
 unfoldable pub breakSteps : (return feed alone : Bool) → ℕ
 breakSteps true true alone = 5

@@ -1,4 +1,4 @@
-// `\R`, which is taken as a whole: a return with a feed behind it, or else one byte that breaks a line, with the steps of the held part that it stands for.
+// `\R` (02, request l), which is taken as a whole: a return with a feed behind it, or else one byte that breaks a line, with the steps of the held part that it stands for.
 use machine::Machine;
 use machine::Ran;
 use machine::fall_back;
@@ -10,7 +10,7 @@ ghost use lib.ListN.{length, getD};
 ghost use Rattle.syntax.specs.Limits.{registers};
 ghost use Rattle.machine.specs.Words.{stackOf, nowOf};
 ghost use Rattle.machine.specs.Ready.{StackFits, RanBy};
-ghost use Rattle.marks.specs.Breaks.{BreaksAs};
+ghost use Rattle.breaks.specs.Breaks.{BreaksAs};
 
 const RETURN: u8 = 0x0D;
 

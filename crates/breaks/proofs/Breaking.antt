@@ -20,8 +20,8 @@ use Rattle.machine.specs.Ready.{Leads, Overruns}
 use Rattle.machine.specs.Laws.Code.{decode-at}
 use Rattle.machine.specs.Laws.Extent.{takes-here, takes-past}
 use Rattle.machine.specs.Laws.Loop.{leads-several}
-use Rattle.marks.specs.declared.breaks.Break.{Break}
-use Rattle.marks.specs.Breaks.{breakSteps, breakBytes, BreaksAs}
+use Rattle.breaks.specs.declared.Break.{Break}
+use Rattle.breaks.specs.Breaks.{breakSteps, breakBytes, BreaksAs}
 
 -- Bytes -------------------------------------------------------------------------
 

@@ -1,10 +1,10 @@
 -- `break_at_other` meets its contract: one law for each return.
 use native.Mathlib.Omega.{arith}
-use Rattle.marks.proofs.Breaking.{break-next, break-feed, break-low, break-high}
-use Rattle.marks.proofs.breaks.break_at_other.Statement.{statement}
-use Rattle.marks.proofs.breaks.break_at_other.Tie as tie
-use Rattle.marks.proofs.breaks.break_at_other.Reads as reads
-use Rattle.marks.proofs.breaks.break_at_other.Lts as lts
+use Rattle.breaks.proofs.Breaking.{break-next, break-feed, break-low, break-high}
+use Rattle.breaks.proofs.break_at_other.Statement.{statement}
+use Rattle.breaks.proofs.break_at_other.Tie as tie
+use Rattle.breaks.proofs.break_at_other.Reads as reads
+use Rattle.breaks.proofs.break_at_other.Lts as lts
 
 -- src/breaks.rt:51:9
 returns : tie.Need-returns

@@ -1,11 +1,11 @@
 -- `break_at_return` meets its contract: one law for each return.
 use borrow.Author.Needs.{needs}
 use denote.Ref.{now}
-use Rattle.marks.proofs.Breaking.{break-both, break-other, break-last}
-use Rattle.marks.proofs.breaks.break_at_return.Statement.{statement}
-use Rattle.marks.proofs.breaks.break_at_return.Tie as tie
-use Rattle.marks.proofs.breaks.break_at_return.Reads as reads
-use Rattle.marks.proofs.breaks.break_at_return.Lts as lts
+use Rattle.breaks.proofs.Breaking.{break-both, break-other, break-last}
+use Rattle.breaks.proofs.break_at_return.Statement.{statement}
+use Rattle.breaks.proofs.break_at_return.Tie as tie
+use Rattle.breaks.proofs.break_at_return.Reads as reads
+use Rattle.breaks.proofs.break_at_return.Lts as lts
 
 -- src/breaks.rt:33:16
 add-next : tie.Need-add-next

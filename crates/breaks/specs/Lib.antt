@@ -1,0 +1,2 @@
+-- What `\R` does at a position, in numbers.
+pub mod Breaks
