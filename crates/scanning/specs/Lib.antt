@@ -1,5 +1,3 @@
--- What is told of a search's first try, and what successive matches tell and hold on their way.
+-- What is proved of the call for successive matches. What they tell stands in `scans`.
 -- docs/REFERENCE.md, 16.4
-pub mod Tries
-pub mod Scanning
 pub mod Laws

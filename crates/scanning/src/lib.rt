@@ -4,15 +4,7 @@
 // `match_all` is the call, which compiles its rule and clears what it was lent. `scan_held` is its inside, for a rule that stands compiled: it may be
 // used for one line after another. A start is tried at most twice, once with the empty end barred, so that all searches together cost at most twice what a
 // match that fails may cost; beside its steps a match costs its row and the clearing of its groups' registers. The bytes that the rule can begin with are
-// found once, for all searches.
-//
-// Before each search the rows found so far stand in the result area, the groups' registers are clear, and the searches from this one on make what is left
-// of the whole. Only the first try of a search can be barred. So that try has a loop of its own, which falls back from a barred end, and the starts behind
-// it are sought as a match seeks them, and may be passed over. A search tells an outcome and writes no row: the scan goes on from a match alone.
-mod scans;
-mod searching;
-mod tries;
-
+// found once, for all searches. How one search follows another stands in `scans`.
 use frame::Preparation;
 use frame::REGISTERS;
 use frame::RULE_AREA_NEED;
@@ -30,7 +22,7 @@ ghost use Rattle.semantics.specs.Calls.{workAreaNeed, scanCall};
 ghost use Rattle.machine.specs.Theorem.{Stands};
 ghost use Rattle.frame.specs.Inputs.{callOf, Returned, Held};
 ghost use Rattle.listing.specs.Listing.{listingOf};
-ghost use Rattle.scanning.specs.Scanning.{Scans};
+ghost use Rattle.scans.specs.Scanning.{Scans};
 
 // The successive matches of a rule that stands compiled, one row each.
 pub fn scan_held(

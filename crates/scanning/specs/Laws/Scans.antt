@@ -10,7 +10,7 @@ use Rattle.semantics.specs.Calls.{Call, workAreaNeed, over, cleared, leaving, s
 use Rattle.listing.specs.declared.Listing.{Listing}
 use Rattle.frame.specs.Inputs.{Told}
 use Rattle.listing.specs.Listing.{listingOf}
-use Rattle.scanning.specs.Scanning.{Scans}
+use Rattle.scans.specs.Scanning.{Scans}
 
 -- after every answer the areas are clear, and the index is filled
 pub scan-clears : (c : Call) (x : Rule) → (scanRule c x .ruleArea ≡ cleared ruleAreaNeed (c .ruleArea)) × (scanRule c x .workArea ≡ cleared (workAreaNeed (c .budget)) (c .workArea)) × (scanRule c x .names ≡ over (nameIndex (namesOf (c .rule) (c .flags))) (c .names))

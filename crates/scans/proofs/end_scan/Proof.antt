@@ -3,10 +3,10 @@ use mathlib.Core.Path.{refl}
 use native.Mathlib.Omega.{arith}
 use Rattle.semantics.specs.Calls.{listOutcome}
 use Rattle.listing.specs.Listing.{listingOf}
-use Rattle.scanning.specs.Scanning.{lastOf, stepsOf}
+use Rattle.scans.specs.Scanning.{lastOf, stepsOf}
 use borrow.Author.Needs.{needs}
-use Rattle.scanning.proofs.scans.end_scan.Statement.{statement}
-use Rattle.scanning.proofs.scans.end_scan.Tie as tie
+use Rattle.scans.proofs.end_scan.Statement.{statement}
+use Rattle.scans.proofs.end_scan.Tie as tie
 
 enum-known-last : tie.Need-enum-known-last
 enum-known-last c = search needs

@@ -22,7 +22,7 @@ use Rattle.machine.specs.Words.{stackOf}
 use Rattle.machine.specs.Ready.{until, StackFits, Ready, Agrees}
 use Rattle.machine.specs.Theorem.{Stands, Clear, begins, at-end, at-nothing, at-spent}
 use Rattle.machine.specs.Laws.Loop.{until-ended, until-nothing, until-spent}
-use Rattle.scanning.specs.Tries.{Tried}
+use Rattle.searching.specs.Tries.{Tried}
 
 -- with so many steps left, the machine is ready to go on, and so is the try
 pub record Trying (p sub : List ℕ) (x : Rule) (budget from : ℕ) (barred : Bool) (first : List ℕ) (wide : ℕ) (now : Now) (left : ℕ) : Type 0 where

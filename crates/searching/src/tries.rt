@@ -13,7 +13,7 @@ ghost use lib.ListN.{length};
 ghost use Rattle.syntax.specs.Tree.{Rule};
 ghost use Rattle.machine.specs.Theorem.{Stands, Clear};
 ghost use Rattle.frame.specs.Inputs.{Held};
-ghost use Rattle.scanning.specs.Tries.{Tried};
+ghost use Rattle.searching.specs.Tries.{Tried};
 
 // Walks from a start to the first end that is not there. The steps that are told are those of the whole walk.
 fn run_past(

@@ -8,8 +8,8 @@ use Rattle.semantics.specs.Calls.{workAreaNeed}
 use Rattle.semantics.specs.Scans.{search as searched}
 use Rattle.frame.specs.Laws.Parts.{between-all}
 use Rattle.seeking.specs.Laws.Starts.{seeks-behind, Lent, seeks-from, near-from}
-use Rattle.scanning.proofs.searching.search.Statement.{statement}
-use Rattle.scanning.proofs.searching.search.Tie as tie
+use Rattle.searching.proofs.searching.search.Statement.{statement}
+use Rattle.searching.proofs.searching.search.Tie as tie
 
 try-first-requires : tie.Need-try-first-requires
 try-first-requires c κs = let p = c .before .before .before .before .before .before .pre in (p .0 .0, p .0 .1, p .1)

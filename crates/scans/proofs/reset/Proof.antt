@@ -10,8 +10,8 @@ use lib.Seq.{take-at}
 use Rattle.syntax.specs.Limits.{unset, spansLength, registers}
 use Rattle.machine.specs.Theorem.{Clear}
 use Rattle.machine.specs.Laws.Code.{spans-in-registers}
-use Rattle.scanning.proofs.scans.reset.Statement.{statement}
-use Rattle.scanning.proofs.scans.reset.Tie as tie
+use Rattle.scans.proofs.reset.Statement.{statement}
+use Rattle.scans.proofs.reset.Tie as tie
 
 -- all groups' registers are unset
 cleared : (i : ℕ) (regs rest : List ℕ) → i ≡ spansLength → length regs ≡ registers → regs ≡ replicate i unset ++ rest → Clear regs

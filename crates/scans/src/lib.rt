@@ -1,12 +1,15 @@
-// One search after another. The loop keeps the rows that were found, one behind another in the result area, and that the searches from the next one on
-// make what is left of the whole. Each match leaves fewer tries, so that it ends.
-use crate::searching::search;
+// One search after another, for successive matches of a rule that stands compiled.
+//
+// Before each search the rows found so far stand in the result area, one behind another, the groups' registers are clear, and the searches from this one on make
+// what is left of the whole. A search (`searching`) tells an outcome and writes no row: the scan goes on from a match alone. Each match leaves fewer tries, so
+// that it ends.
 use index::ROW_LENGTH;
 use index::SPANS_LENGTH;
 use index::UNSET;
 use index::write_row;
 use listing::Listing;
 use openings::find_opening;
+use searching::search;
 use seeking::Sought;
 ghost use mathlib.Core.Path.{_≡_};
 ghost use Prim.Native.Nat.{_+_, _<_, _^_};
@@ -17,7 +20,7 @@ ghost use Rattle.semantics.specs.Calls.{listOutcome};
 ghost use Rattle.machine.specs.Theorem.{Stands, Clear};
 ghost use Rattle.frame.specs.Inputs.{Held};
 ghost use Rattle.listing.specs.Listing.{listingOf};
-ghost use Rattle.scanning.specs.Scanning.{Scans, lastOf, stepsOf};
+ghost use Rattle.scans.specs.Scanning.{Scans, lastOf, stepsOf};
 
 // Clears the groups of the match before.
 fn reset(regs: &mut [u32])

@@ -12,11 +12,11 @@ use Rattle.semantics.specs.Scans.{triesLeft}
 use Rattle.semantics.specs.Calls.{room, workAreaNeed}
 use Rattle.machine.specs.Theorem.{Stands, Clear}
 use Rattle.machine.specs.Laws.Code.{spans-in-registers}
-use Rattle.scanning.specs.Scanning.{Scanning}
+use Rattle.scans.specs.Scanning.{Scanning}
 use Rattle.noting.specs.Laws.Holding.{rows-fit}
-use Rattle.scanning.proofs.Rows.{scanning-start, not-found, ends-few, scanning-end, scanning-fewer, row-few, scanning-row}
-use Rattle.scanning.proofs.scans.scan_searches.Statement.{statement}
-use Rattle.scanning.proofs.scans.scan_searches.Tie as tie
+use Rattle.scans.proofs.Rows.{scanning-start, not-found, ends-few, scanning-end, scanning-fewer, row-few, scanning-row}
+use Rattle.scans.proofs.scan_searches.Statement.{statement}
+use Rattle.scans.proofs.scan_searches.Tie as tie
 
 abbrev Inv-loop : tie.InvT-loop
 Inv-loop code subject regs₀ work₀ results₀ entry budget cost any set from₀ barred₀ rows₀ steps₀ regs work results from barred rows steps =

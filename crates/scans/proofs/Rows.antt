@@ -31,7 +31,7 @@ use Rattle.seeking.specs.declared.Sought.the-variants.{Found, Nothing, Spent}
 use Rattle.seeking.proofs.Sought.{the-type}
 use Rattle.seeking.specs.Starts.{Answers}
 use Rattle.seeking.specs.Laws.Starts.{match-row}
-use Rattle.scanning.specs.Scanning.{Scans, lastOf, stepsOf, Scanning}
+use Rattle.scans.specs.Scanning.{Scans, lastOf, stepsOf, Scanning}
 
 pub scanning-start : (sub : List ℕ) (x : Rule) (budget : ℕ) (area : List ℕ) → Scanning sub x budget area area 0 0 0 false
 unfolding joined

@@ -7,9 +7,9 @@ use mathlib.Core.Bool.{false}
 use Rattle.syntax.specs.Limits.{subjectLimit, ruleAreaNeed}
 use Rattle.semantics.specs.Calls.{workAreaNeed}
 use Rattle.machine.specs.Theorem.{enough-room}
-use Rattle.scanning.proofs.Trying.{trying-start, tried-free}
-use Rattle.scanning.proofs.tries.try_first.Statement.{statement}
-use Rattle.scanning.proofs.tries.try_first.Tie as tie
+use Rattle.searching.proofs.Trying.{trying-start, tried-free}
+use Rattle.searching.proofs.tries.try_first.Statement.{statement}
+use Rattle.searching.proofs.tries.try_first.Tie as tie
 
 run-past-requires : tie.Need-run-past-requires
 run-past-requires c κs = c .before .before .before .before .before .before .before .pre

@@ -11,9 +11,9 @@ use Rattle.syntax.specs.Tree.{Rule}
 use Rattle.semantics.specs.Calls.{workAreaNeed}
 use Rattle.machine.specs.Words.{nowOf}
 use Rattle.machine.specs.Theorem.{Stands, enough-room}
-use Rattle.scanning.proofs.Trying.{Trying, trying-start, trying-spent, trying-few, trying-nothing, trying-end, trying-found, trying-on, trying-wide}
-use Rattle.scanning.proofs.tries.run_past.Statement.{statement}
-use Rattle.scanning.proofs.tries.run_past.Tie as tie
+use Rattle.searching.proofs.Trying.{Trying, trying-start, trying-spent, trying-few, trying-nothing, trying-end, trying-found, trying-on, trying-wide}
+use Rattle.searching.proofs.tries.run_past.Statement.{statement}
+use Rattle.searching.proofs.tries.run_past.Tie as tie
 
 abbrev Inv-loop : tie.InvT-loop
 Inv-loop code subject regs₀ work₀ entry budget from head₀ left₀ regs work head left =
