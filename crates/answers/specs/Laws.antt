@@ -11,10 +11,10 @@ use Rattle.semantics.specs.Batches.{BatchOutcome, Done, BatchRefused}
 use Rattle.semantics.specs.Checks.{CheckOutcome, AReading, NoReading, CheckExhausted, CheckRefused}
 use Rattle.finding.specs.declared.Outcome.{Outcome}
 use Rattle.finding.specs.declared.Outcome.the-variants.{Matched, NotMatched, Exhausted, Refused}
-use Rattle.listing.specs.declared.Listing.{Listing}
-use Rattle.listing.specs.declared.Listing.the-variants.{Complete, Full, Exhausted as Cut, Refused as Denied}
+use Rattle.gathering.specs.declared.Listing.{Listing}
+use Rattle.gathering.specs.declared.Listing.the-variants.{Complete, Full, Exhausted as Cut, Refused as Denied}
 use Rattle.finding.specs.Outcomes.{outcomeOf}
-use Rattle.listing.specs.Listing.{listingOf}
+use Rattle.gathering.specs.Listing.{listingOf}
 use Rattle.greatest.specs.declared.greatest.Failed.{Failed}
 use Rattle.explaining.specs.declared.Explanation.{Explanation}
 use Rattle.explaining.specs.declared.Explanation.the-variants.{Matched as Fitting, NotMatched as Unfitting, Exhausted as Ended, Refused as Declined}

@@ -14,7 +14,7 @@ ghost use Rattle.syntax.specs.Limits.{rowLength};
 ghost use Rattle.semantics.specs.Calls.{room};
 ghost use Rattle.semantics.specs.Demands.{rowsReported};
 ghost use Rattle.index.specs.Rows.{rowsAt};
-ghost use Rattle.listing.specs.Listing.{listingOf};
+ghost use Rattle.gathering.specs.Listing.{listingOf};
 ghost use Rattle.fields_columns.specs.Columns.{namesFrom};
 ghost use Rattle.fields_columns.specs.Promises.{Columned};
 ghost use Rattle.fields_line.specs.Answers.{lastStart};

@@ -1,4 +1,3 @@
--- What a listing tells and holds on its way.
+-- What is proved of a listing's call. What a listing tells stands in `gathering`.
 -- docs/REFERENCE.md, 16.3
-pub mod Listing
 pub mod Laws

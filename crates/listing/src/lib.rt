@@ -1,35 +1,25 @@
 // A listing: the readings of all starts, each written as a row when it is met for the first time, in the order in which the walks meet them.
 //
 // `list_readings` is the call, which compiles its rule and clears what it was lent. `list_held` is its inside, for a rule that stands compiled, one line
-// after another. How the readings of one start are noted stands in `noting`.
-mod walking;
-
+// after another. How the starts are gone over stands in `gathering`, and what a listing answers.
 use frame::Preparation;
 use frame::REGISTERS;
 use frame::RULE_AREA_NEED;
 use frame::WORK_PER_STEP;
 use frame::finish;
 use frame::prepare;
+pub use gathering::Listing;
+use gathering::list_starts;
 use index::ROW_LENGTH;
 use index::UNSET;
 use noting::spans_of;
-use syntax::Refusal;
-use walking::list_starts;
 ghost use mathlib.Core.Path.{_≡_};
 ghost use lib.ListN.{drop};
 ghost use Rattle.syntax.specs.Tree.{Rule};
 ghost use Rattle.semantics.specs.Calls.{workAreaNeed, listCall};
 ghost use Rattle.machine.specs.Theorem.{Stands};
 ghost use Rattle.frame.specs.Inputs.{callOf, Returned, Held};
-ghost use Rattle.listing.specs.Listing.{listingOf, Lists};
-
-// What a listing answers: the rows written and the steps, before them the start that was cut short; or why it is refused.
-pub enum Listing {
-    Complete(usize, u64),
-    Full(usize, u64),
-    Exhausted(u32, usize, u64),
-    Refused(Refusal),
-}
+ghost use Rattle.gathering.specs.Listing.{listingOf, Lists};
 
 // Lists the readings of a rule that stands compiled and has so many groups, one row each.
 pub fn list_held(

@@ -11,9 +11,9 @@ use frame::RULE_AREA_NEED;
 use frame::WORK_PER_STEP;
 use frame::finish;
 use frame::prepare;
+use gathering::Listing;
 use index::ROW_LENGTH;
 use index::UNSET;
-use listing::Listing;
 use scans::scan_searches;
 ghost use mathlib.Core.Path.{_≡_};
 ghost use lib.ListN.{drop};
@@ -21,7 +21,7 @@ ghost use Rattle.syntax.specs.Tree.{Rule};
 ghost use Rattle.semantics.specs.Calls.{workAreaNeed, scanCall};
 ghost use Rattle.machine.specs.Theorem.{Stands};
 ghost use Rattle.frame.specs.Inputs.{callOf, Returned, Held};
-ghost use Rattle.listing.specs.Listing.{listingOf};
+ghost use Rattle.gathering.specs.Listing.{listingOf};
 ghost use Rattle.scans.specs.Scanning.{Scans};
 
 // The successive matches of a rule that stands compiled, one row each.

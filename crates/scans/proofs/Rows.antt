@@ -20,8 +20,8 @@ use Rattle.semantics.specs.Laws.Loops.{afterRows}
 use Rattle.semantics.specs.Laws.Scans.{scan-demand, search-fewer}
 use Rattle.semantics.specs.Laws.ScanSteps.{scan-steps}
 use Rattle.semantics.specs.Laws.ScanLoops.{ScanAt, scan-begin, scan-row, scan-full, scan-over, scan-last}
-use Rattle.listing.specs.declared.Listing.{Listing}
-use Rattle.listing.specs.Listing.{listingOf}
+use Rattle.gathering.specs.declared.Listing.{Listing}
+use Rattle.gathering.specs.Listing.{listingOf}
 use Rattle.noting.specs.Laws.Holding.{same-room, holds-more}
 use Rattle.index.specs.Rows.{rowOf}
 use Rattle.index.specs.Laws.Rows.{rowOf-length}

@@ -11,8 +11,8 @@ use Rattle.semantics.specs.Answers.{Ending, complete, full, exhaustedAt}
 use Rattle.semantics.specs.Scans.{scan}
 use Rattle.semantics.specs.Calls.{over, joined, room, listOutcome}
 use Rattle.semantics.specs.Laws.ScanLoops.{ScanAt}
-use Rattle.listing.specs.declared.Listing.{Listing}
-use Rattle.listing.specs.Listing.{listingOf}
+use Rattle.gathering.specs.declared.Listing.{Listing}
+use Rattle.gathering.specs.Listing.{listingOf}
 use Rattle.noting.specs.Noting.{Holds}
 use Rattle.seeking.specs.declared.Sought.{Sought}
 use Rattle.seeking.specs.declared.Sought.the-variants.{Found, Nothing, Spent}

@@ -3,11 +3,11 @@
 // Before each search the rows found so far stand in the result area, one behind another, the groups' registers are clear, and the searches from this one on make
 // what is left of the whole. A search (`searching`) tells an outcome and writes no row: the scan goes on from a match alone. Each match leaves fewer tries, so
 // that it ends.
+use gathering::Listing;
 use index::ROW_LENGTH;
 use index::SPANS_LENGTH;
 use index::UNSET;
 use index::write_row;
-use listing::Listing;
 use openings::find_opening;
 use searching::search;
 use seeking::Sought;
@@ -19,7 +19,7 @@ ghost use Rattle.syntax.specs.Tree.{Rule};
 ghost use Rattle.semantics.specs.Calls.{listOutcome};
 ghost use Rattle.machine.specs.Theorem.{Stands, Clear};
 ghost use Rattle.frame.specs.Inputs.{Held};
-ghost use Rattle.listing.specs.Listing.{listingOf};
+ghost use Rattle.gathering.specs.Listing.{listingOf};
 ghost use Rattle.scans.specs.Scanning.{Scans, lastOf, stepsOf};
 
 // Clears the groups of the match before.

@@ -20,9 +20,9 @@ use Rattle.semantics.specs.Demands.{Faultless, ruleTooLong, Refuses, itself, it
 use Rattle.semantics.specs.DemandsHold.{match-meets-demands, list-meets-demands, scan-meets-demands, explain-meets-demands}
 use Rattle.semantics.specs.Laws.Batches.{batch-demand-1}
 use Rattle.finding.specs.declared.Outcome.{Outcome}
-use Rattle.listing.specs.declared.Listing.{Listing}
+use Rattle.gathering.specs.declared.Listing.{Listing}
 use Rattle.finding.specs.Outcomes.{outcomeOf}
-use Rattle.listing.specs.Listing.{listingOf}
+use Rattle.gathering.specs.Listing.{listingOf}
 use Rattle.explaining.specs.declared.Explanation.{Explanation}
 use Rattle.explaining.specs.Explanations.{explanationOf}
 use Rattle.batching.specs.declared.Batch.{Batch}

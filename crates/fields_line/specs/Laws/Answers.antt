@@ -16,8 +16,8 @@ use Rattle.frame.specs.Inputs.{Held}
 use Rattle.finding.specs.declared.Outcome.{Outcome as Reported}
 use Rattle.finding.specs.declared.Outcome.the-variants.{Matched as Found, NotMatched as Missed, Exhausted as Spent, Refused as Denied}
 use Rattle.finding.specs.Outcomes.{Reports}
-use Rattle.listing.specs.declared.Listing.{Listing as Listed}
-use Rattle.listing.specs.Listing.{listingOf, Lists}
+use Rattle.gathering.specs.declared.Listing.{Listing as Listed}
+use Rattle.gathering.specs.Listing.{listingOf, Lists}
 use Rattle.lookup.specs.Laws.Lookup.{not-matched}
 use Rattle.text.specs.Numbers.{decimal}
 use Rattle.fields_text.specs.Table.{opening, tableRow}

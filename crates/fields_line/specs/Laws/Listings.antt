@@ -19,8 +19,8 @@ use Rattle.semantics.specs.Laws.Listings.{demand-3}
 use Rattle.semantics.specs.Laws.Rows.{row-facts}
 use Rattle.semantics.specs.Laws.Areas.{room-holds}
 use Rattle.index.specs.Rows.{rowsAt, Whole}
-use Rattle.listing.specs.declared.Listing.{Listing as Answer}
-use Rattle.listing.specs.Listing.{listingOf, Lists}
+use Rattle.gathering.specs.declared.Listing.{Listing as Answer}
+use Rattle.gathering.specs.Listing.{listingOf, Lists}
 use Rattle.noting.specs.Laws.Rows.{rows-written}
 use Rattle.fields_line.specs.Answers.{lastStart, isCut, verdict}
 use Rattle.fields_line.specs.Promises.{cutBy, verdictBy}

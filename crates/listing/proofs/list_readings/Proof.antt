@@ -6,7 +6,7 @@ use Rattle.syntax.specs.Limits.{ruleAreaNeed, workPerStep, rowLength}
 use Rattle.semantics.specs.Calls.{workAreaNeed, ListRefused, listRule, listCall}
 use Rattle.frame.specs.Inputs.{callOf}
 use Rattle.frame.specs.Laws.Preparing.{is-ready, is-denied, rule-area-long, work-area-long, readied-held, denied-returns, readied-returns}
-use Rattle.listing.specs.Listing.{listingOf}
+use Rattle.gathering.specs.Listing.{listingOf}
 use Rattle.listing.specs.Laws.Listings.{list-clears, lists-told}
 use borrow.Author.Needs.{needs}
 use Rattle.listing.proofs.list_readings.Statement.{statement}

@@ -7,9 +7,9 @@ use Rattle.syntax.specs.Tree.{Rule}
 use Rattle.syntax.specs.Reading.{namesOf}
 use Rattle.semantics.specs.NameIndex.{nameIndex}
 use Rattle.semantics.specs.Calls.{Call, workAreaNeed, over, cleared, leaving, listRule}
-use Rattle.listing.specs.declared.Listing.{Listing}
+use Rattle.gathering.specs.declared.Listing.{Listing}
 use Rattle.frame.specs.Inputs.{Told}
-use Rattle.listing.specs.Listing.{listingOf, Lists}
+use Rattle.gathering.specs.Listing.{listingOf, Lists}
 
 -- after every listing the areas are clear, and the index is filled
 pub list-clears : (c : Call) (x : Rule) → (listRule c x .ruleArea ≡ cleared ruleAreaNeed (c .ruleArea)) × (listRule c x .workArea ≡ cleared (workAreaNeed (c .budget)) (c .workArea)) × (listRule c x .names ≡ over (nameIndex (namesOf (c .rule) (c .flags))) (c .names))

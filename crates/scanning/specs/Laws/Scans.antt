@@ -7,9 +7,9 @@ use Rattle.syntax.specs.Tree.{Rule}
 use Rattle.syntax.specs.Reading.{namesOf}
 use Rattle.semantics.specs.NameIndex.{nameIndex}
 use Rattle.semantics.specs.Calls.{Call, workAreaNeed, over, cleared, leaving, scanRule}
-use Rattle.listing.specs.declared.Listing.{Listing}
+use Rattle.gathering.specs.declared.Listing.{Listing}
 use Rattle.frame.specs.Inputs.{Told}
-use Rattle.listing.specs.Listing.{listingOf}
+use Rattle.gathering.specs.Listing.{listingOf}
 use Rattle.scans.specs.Scanning.{Scans}
 
 -- after every answer the areas are clear, and the index is filled

@@ -2,7 +2,7 @@
 use mathlib.Core.Path.{refl}
 use native.Mathlib.Omega.{arith}
 use Rattle.semantics.specs.Calls.{listOutcome}
-use Rattle.listing.specs.Listing.{listingOf}
+use Rattle.gathering.specs.Listing.{listingOf}
 use Rattle.scans.specs.Scanning.{lastOf, stepsOf}
 use borrow.Author.Needs.{needs}
 use Rattle.scans.proofs.end_scan.Statement.{statement}

@@ -1,5 +1,5 @@
 -- By cases on the listing.
-use Rattle.listing.specs.Listing.{listingOf}
+use Rattle.gathering.specs.Listing.{listingOf}
 use Rattle.fields_line.specs.Promises.{cutBy}
 use borrow.Author.Needs.{needs}
 use Rattle.fields_line.proofs.asking.is_cut.Statement.{statement}

@@ -1,5 +1,5 @@
 -- By cases on the listing.
-use Rattle.listing.specs.Listing.{listingOf}
+use Rattle.gathering.specs.Listing.{listingOf}
 use borrow.Author.Needs.{needs}
 use Rattle.fields_line.proofs.asking.rows_of.Statement.{statement}
 use Rattle.fields_line.proofs.asking.rows_of.Tie as tie

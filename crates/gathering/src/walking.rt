@@ -10,7 +10,7 @@ ghost use lib.ListN.{length};
 ghost use Rattle.syntax.specs.Limits.{subjectLimit, budgetLimit, spansLength};
 ghost use Rattle.syntax.specs.Tree.{Rule};
 ghost use Rattle.machine.specs.Theorem.{Stands, Clear};
-ghost use Rattle.listing.specs.Listing.{Lists};
+ghost use Rattle.gathering.specs.Listing.{Lists};
 
 // Lists all starts, in their order.
 pub fn list_starts(

@@ -21,10 +21,10 @@ use Rattle.openings.specs.declared.Opening.{Opening}
 use Rattle.openings.specs.Openings.{Outside, Opens, Passed}
 use Rattle.noting.specs.declared.walking.Ends.{Ends}
 use Rattle.noting.specs.declared.walking.Ends.the-variants.{Done, Full, Spent}
-use Rattle.listing.specs.declared.Listing.{Listing}
-use Rattle.listing.specs.declared.Listing.the-variants.{Complete, Full as NoneLeft, Exhausted}
+use Rattle.gathering.specs.declared.Listing.{Listing}
+use Rattle.gathering.specs.declared.Listing.the-variants.{Complete, Full as NoneLeft, Exhausted}
 use Rattle.noting.specs.Noting.{Course, Going, Tells, Through, Listed, allListed, noneLeft, cutShort}
-use Rattle.listing.specs.Listing.{listingOf, Lists, Between}
+use Rattle.gathering.specs.Listing.{listingOf, Lists, Between}
 use Rattle.frame.specs.Laws.Areas.{over-none}
 use Rattle.openings.specs.Laws.Passing.{passes}
 

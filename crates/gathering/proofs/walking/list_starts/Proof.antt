@@ -8,9 +8,9 @@ use borrow.Author.Needs.{needs}
 use denote.Ref.{now}
 use lib.ListN.{length, take}
 use Rattle.syntax.specs.Limits.{subjectLimit, budgetLimit}
-use Rattle.listing.proofs.Starts.{between-first, Turning, turn-begins, turn-few, turn-last, turn-next, turn-full, turn-spent, turning-from}
-use Rattle.listing.proofs.walking.list_starts.Statement.{statement}
-use Rattle.listing.proofs.walking.list_starts.Tie as tie
+use Rattle.gathering.proofs.Starts.{between-first, Turning, turn-begins, turn-few, turn-last, turn-next, turn-full, turn-spent, turning-from}
+use Rattle.gathering.proofs.walking.list_starts.Statement.{statement}
+use Rattle.gathering.proofs.walking.list_starts.Tie as tie
 
 cheap : (budget : ℕ) → budget ≤ budgetLimit → 2 * budget < 2 ^ 32
 unfolding budgetLimit

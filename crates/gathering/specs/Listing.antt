@@ -10,8 +10,8 @@ use Rattle.semantics.specs.Walk.{trace}
 use Rattle.semantics.specs.Answers.{listing}
 use Rattle.semantics.specs.Calls.{over, joined, room, ListOutcome, Complete, Full, ListExhausted, ListRefused, listOutcome}
 use Rattle.semantics.specs.Laws.Loops.{ListAt}
-use Rattle.listing.specs.declared.Listing.{Listing}
-use Rattle.listing.specs.declared.Listing.the-variants.{Complete as Listed·whole, Full as Listed·full, Exhausted, Refused}
+use Rattle.gathering.specs.declared.Listing.{Listing}
+use Rattle.gathering.specs.declared.Listing.the-variants.{Complete as Listed·whole, Full as Listed·full, Exhausted, Refused}
 use Rattle.noting.specs.Noting.{Holds}
 
 -- The answer ------------------------------------------------------------------
