@@ -1,4 +1,3 @@
--- Facts about where a line ends, about the parts of lines, and about what a day's lines tell.
-pub mod Lines
+-- Facts about the parts that the call is to write, and about what a day's lines tell.
 pub mod Parts
 pub mod Batches

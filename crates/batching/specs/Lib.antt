@@ -1,5 +1,4 @@
--- What stands for the lines of a rule that stands compiled (Parts), and what a day's lines tell (Batches).
+-- What a day's lines tell. What stands for the lines of a rule that stands compiled is in `line_parts`.
 -- docs/REFERENCE.md, 16.6
-pub mod Parts
 pub mod Batches
 pub mod Laws

@@ -1,29 +1,19 @@
 // A day's lines in one call (02, request h): one rule, a buffer of lines split at 0A, and for each line its part of the result area, a row and then
-// four numbers that tell its outcome. `match_lines` is the call, and `match_lines_held` its inside, for a rule that stands compiled.
-//
-// The rule is compiled once, its opening is found once, the registers are written once, and what was lent is cleared once. Beyond that a line costs the search for its end, its match
-// and four stores, and its row only if it is matched: whatever stands before it, so that the whole grows in proportion to the buffer.
-//
-// Before each line the parts of those before it stand, everything behind them is as it was lent, and what is left of the buffer has the lines that are
-// left. What a line's match leaves in the work area is never looked at by the next, so that nothing is cleared between them and no line can change what
-// is told of another.
+// four numbers that tell its outcome. `match_lines` is the call. Its inside `match_lines_held`, for a rule that stands compiled, stands in `batch_lines`.
+// The rule is compiled once, and what was lent is cleared once.
 //
 // The buffer is gone over twice. That the lines outnumber the parts is a refusal in its place among the others, before the rule is read, so the lines are
-// counted first: a small part of what their matches cost. No line counts for the refusals of the call, since one that is too long is told in its own part.
-mod counting;
-mod halves;
-mod lines;
-mod parts;
-
+// counted first (`counting`): a small part of what their matches cost. No line counts for the refusals of the call, since one that is too long is told in its
+// own part.
+pub use batch_lines::match_lines_held;
 pub use counting::count_lines;
 use frame::Preparation;
 use frame::RULE_AREA_NEED;
 use frame::finish;
 use frame::prepare;
-pub use halves::high_half;
-pub use halves::low_half;
-pub use lines::match_lines_held;
-pub use parts::PART_LENGTH;
+pub use line_parts::PART_LENGTH;
+pub use line_parts::high_half;
+pub use line_parts::low_half;
 use syntax::Refusal;
 ghost use Rattle.semantics.specs.Batches.{batchCall};
 ghost use Rattle.frame.specs.Inputs.{callOf, Returned};

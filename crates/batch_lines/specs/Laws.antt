@@ -1,0 +1,2 @@
+-- Facts about where a line ends.
+pub mod Lines

@@ -1,0 +1,2 @@
+-- Facts about the lines of a buffer, as they are counted.
+pub mod Lines

@@ -1,0 +1,2 @@
+-- Facts about the parts of lines.
+pub mod Parts

@@ -1,0 +1,4 @@
+-- What stands for the lines of a rule that stands compiled.
+-- docs/REFERENCE.md, 16.6
+pub mod Parts
+pub mod Laws
