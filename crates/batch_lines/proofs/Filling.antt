@@ -14,9 +14,9 @@ use Rattle.machine.specs.Theorem.{Stands}
 use Rattle.frame.specs.Inputs.{between}
 use Rattle.text.specs.Lines.{lineLength}
 use Rattle.text.specs.Laws.Lines.{line-least, line-within}
-use Rattle.line_parts.specs.Parts.{filled, Tells, Fills}
+use Rattle.batch_lines.specs.Parts.{filled, Tells, Fills}
 use Rattle.batch_lines.specs.Laws.Lines.{next-line}
-use Rattle.line_parts.specs.Laws.Parts.{part-more, part-filled, none-left}
+use Rattle.batch_lines.specs.Laws.Parts.{part-more, part-filled, none-left}
 
 pub record Filling (code : List ℕ) (entry : ℕ) (buffer : List ℕ) (budget : ℕ) (work₀ results₀ work results : List ℕ) (from at : ℕ) : Type 0 where
   pub wide : length work ≡ length work₀

@@ -1,2 +1,3 @@
--- Facts about where a line ends.
+-- Facts about where a line ends, and about the parts of lines.
 pub mod Lines
+pub mod Parts

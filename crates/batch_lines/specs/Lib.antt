@@ -1,3 +1,4 @@
--- What is proved of the lines of a buffer. What stands for them, over a rule that stands compiled, is in `line_parts`.
+-- What stands for the lines of a rule that stands compiled (Parts), and what is proved of it.
 -- docs/REFERENCE.md, 16.6
+pub mod Parts
 pub mod Laws

@@ -1,4 +1,5 @@
-// The lines of a buffer, one after another, over a rule that stands compiled (02, request h).
+// The lines of a buffer, one after another, over a rule that stands compiled (02, request h), and for each its part of the result area: a row, and then
+// four numbers that tell its outcome.
 //
 // The rule's opening is found once, and the registers are written once. Beyond that a line costs the search for its end, its match and four stores, and its row
 // only if it is matched: whatever stands before it, so that the whole grows in proportion to the buffer.
@@ -6,11 +7,16 @@
 // Before each line the parts of those before it stand, everything behind them is as it was lent, and what is left of the buffer has the lines that are
 // left. What a line's match leaves in the work area is never looked at by the next, so that nothing is cleared between them and no line can change what
 // is told of another.
+mod halves;
+mod parts;
+
 use frame::REGISTERS;
+pub use halves::high_half;
+pub use halves::low_half;
 use index::UNSET;
-use line_parts::PART_LENGTH;
-use line_parts::match_part;
 use openings::find_opening;
+pub use parts::PART_LENGTH;
+use parts::match_part;
 use text::line_end;
 ghost use mathlib.Core.Path.{_≡_};
 ghost use mathlib.Core.List.{[]};
@@ -23,7 +29,7 @@ ghost use Rattle.semantics.specs.Calls.{workAreaNeed};
 ghost use Rattle.semantics.specs.Batches.{linesOf, partsNeed};
 ghost use Rattle.machine.specs.Theorem.{Stands};
 ghost use Rattle.frame.specs.Inputs.{Held};
-ghost use Rattle.line_parts.specs.Parts.{Fills};
+ghost use Rattle.batch_lines.specs.Parts.{Fills};
 
 // Writes the parts of all lines of a buffer, by a rule that stands compiled and has so many groups. The registers are written once, and then only those of
 // the rule's groups for each line.

@@ -5,15 +5,15 @@
 // The buffer is gone over twice. That the lines outnumber the parts is a refusal in its place among the others, before the rule is read, so the lines are
 // counted first (`counting`): a small part of what their matches cost. No line counts for the refusals of the call, since one that is too long is told in its
 // own part.
+pub use batch_lines::PART_LENGTH;
+pub use batch_lines::high_half;
+pub use batch_lines::low_half;
 pub use batch_lines::match_lines_held;
 pub use counting::count_lines;
 use frame::Preparation;
 use frame::RULE_AREA_NEED;
 use frame::finish;
 use frame::prepare;
-pub use line_parts::PART_LENGTH;
-pub use line_parts::high_half;
-pub use line_parts::low_half;
 use syntax::Refusal;
 ghost use Rattle.semantics.specs.Batches.{batchCall};
 ghost use Rattle.frame.specs.Inputs.{callOf, Returned};

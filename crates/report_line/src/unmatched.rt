@@ -20,7 +20,7 @@ ghost use Prim.Native.Nat.{_≤_};
 ghost use lib.ListN.{length};
 
 // One byte more than the longest rule: a rule that fills this is too long, whatever follows.
-pub const RULE: usize = frame::RULE_LIMIT + 1;
+pub const RULE: usize = refusals::RULE_LIMIT + 1;
 
 const BLANK: u8 = b' ';
 

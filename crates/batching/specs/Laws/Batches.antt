@@ -19,7 +19,7 @@ use Rattle.semantics.specs.Laws.Parts.{lines-outnumber-parts}
 use Rattle.semantics.specs.Laws.Refusals.{none-exactly, result-area-enough}
 use Rattle.frame.specs.Inputs.{Told}
 use Rattle.frame.specs.Preparing.{Readied}
-use Rattle.line_parts.specs.Parts.{filled}
+use Rattle.batch_lines.specs.Parts.{filled}
 use Rattle.batching.specs.Laws.Parts.{filled-is}
 
 -- "7 is given here only if lines outnumber parts"

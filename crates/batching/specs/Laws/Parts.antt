@@ -16,8 +16,8 @@ use Rattle.semantics.specs.Laws.Areas.{over-nothing}
 use Rattle.semantics.specs.Laws.Cases.{le-or}
 use Rattle.semantics.specs.Laws.Parts.{row-in-part, fit-first, first-part}
 use Rattle.semantics.specs.Laws.Batches.{part-too-long, part-answered}
-use Rattle.line_parts.specs.Parts.{alone, lineReturn, linePart, filled}
-use Rattle.line_parts.specs.Laws.Parts.{long-return, short-return}
+use Rattle.batch_lines.specs.Parts.{alone, lineReturn, linePart, filled}
+use Rattle.batch_lines.specs.Laws.Parts.{long-return, short-return}
 
 -- of a line's call nothing else is told
 answer-alone : (c : Call) (line row : List ℕ) (o : Outcome) (steps : ℕ) → told (matchReturns (lineCall c line row) o steps) ≡ told (matchReturns (alone line (c .budget) row) o steps)

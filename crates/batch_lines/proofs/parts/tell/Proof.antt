@@ -9,8 +9,8 @@ use Rattle.semantics.specs.Batches.{low, high, outcomeNumbers}
 use Rattle.finding.specs.declared.Outcome.{Outcome}
 use Rattle.finding.specs.declared.Outcome.the-variants.{Matched, NotMatched, Exhausted, Refused}
 use Rattle.finding.specs.Outcomes.{outcomeOf}
-use Rattle.line_parts.proofs.parts.tell.Statement.{statement}
-use Rattle.line_parts.proofs.parts.tell.Tie as tie
+use Rattle.batch_lines.proofs.parts.tell.Statement.{statement}
+use Rattle.batch_lines.proofs.parts.tell.Tie as tie
 
 of-matched : (o : Outcome) (steps : ℕ) → o ≡ Matched steps → 0 ∷ 0 ∷ low steps ∷ high steps ∷ [] ≡ outcomeNumbers (outcomeOf o)
 unfolding outcomeNumbers outcomeOf

@@ -10,9 +10,9 @@ use lib.Seq.{length-take-le}
 use Rattle.syntax.specs.Limits.{groupLimit, spansLength, rowLength, partLength}
 use Rattle.frame.specs.Inputs.{between}
 use Rattle.finding.specs.Outcomes.{outcomeOf}
-use Rattle.line_parts.specs.Laws.Parts.{part-whole, part-told}
-use Rattle.line_parts.proofs.parts.match_part.Statement.{statement}
-use Rattle.line_parts.proofs.parts.match_part.Tie as tie
+use Rattle.batch_lines.specs.Laws.Parts.{part-whole, part-told}
+use Rattle.batch_lines.proofs.parts.match_part.Statement.{statement}
+use Rattle.batch_lines.proofs.parts.match_part.Tie as tie
 
 slice-relend-prefix-match-one : tie.Need-slice-relend-prefix-match-one
 unfolding partLength rowLength spansLength groupLimit

@@ -2,8 +2,8 @@
 use mathlib.Core.Path.{refl}
 use Rattle.semantics.specs.Batches.{high}
 use borrow.Author.Needs.{needs}
-use Rattle.line_parts.proofs.halves.high_half.Statement.{statement}
-use Rattle.line_parts.proofs.halves.high_half.Tie as tie
+use Rattle.batch_lines.proofs.halves.high_half.Statement.{statement}
+use Rattle.batch_lines.proofs.halves.high_half.Tie as tie
 
 cast-result : tie.Need-cast-result
 cast-result c = search needs

@@ -20,7 +20,7 @@ ghost use Rattle.openings.specs.Openings.{Opens};
 ghost use Rattle.frame.specs.Inputs.{between, Held};
 ghost use Rattle.finding.specs.Outcomes.{outcomeOf};
 ghost use Rattle.finding.specs.Registers.{Fresh, Keeps};
-ghost use Rattle.line_parts.specs.Parts.{Answers, Tells};
+ghost use Rattle.batch_lines.specs.Parts.{Answers, Tells};
 
 // all numbers of a part
 pub const PART_LENGTH: usize = ROW_LENGTH + 4;

@@ -6,8 +6,8 @@ use native.Mathlib.Omega.{arith}
 use denote.Ref.{now}
 use lib.ListN.{length, set}
 use borrow.Author.Needs.{needs}
-use Rattle.line_parts.proofs.parts.put.Statement.{statement}
-use Rattle.line_parts.proofs.parts.put.Tie as tie
+use Rattle.batch_lines.proofs.parts.put.Statement.{statement}
+use Rattle.batch_lines.proofs.parts.put.Tie as tie
 
 all-four : (l : List ℕ) (a b x y : ℕ) → length l ≡ 4 → set (set (set (set l 0 a) 1 b) 2 x) 3 y ≡ a ∷ b ∷ x ∷ y ∷ []
 all-four [] a b x y h = absurd (omega arith)

@@ -17,7 +17,7 @@ use Rattle.frame.specs.Inputs.{Told}
 use Rattle.finding.specs.declared.Outcome.{Outcome as Answered}
 use Rattle.finding.specs.Outcomes.{outcomeOf, Reports}
 use Rattle.finding.specs.Laws.Outcomes.{reports-told}
-use Rattle.line_parts.specs.Parts.{alone, lineReturn, linePart, filled}
+use Rattle.batch_lines.specs.Parts.{alone, lineReturn, linePart, filled}
 
 -- One line ------------------------------------------------------------------------
 

@@ -3,8 +3,8 @@ use mathlib.Core.Path.{sym}
 use lib.Seq.{set-getD}
 use denote.Ref.{now}
 use borrow.Author.Needs.{needs}
-use Rattle.line_parts.proofs.parts.change.Statement.{statement}
-use Rattle.line_parts.proofs.parts.change.Tie as tie
+use Rattle.batch_lines.proofs.parts.change.Statement.{statement}
+use Rattle.batch_lines.proofs.parts.change.Tie as tie
 
 mul-if1 : tie.Need-mul-if1
 mul-if1 c = search needs

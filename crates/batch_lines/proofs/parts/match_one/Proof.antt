@@ -7,9 +7,9 @@ use Rattle.syntax.specs.Limits.{subjectLimit}
 use Rattle.frame.specs.Inputs.{between}
 use Rattle.finding.specs.Outcomes.{outcomeOf}
 use Rattle.frame.specs.Laws.Parts.{between-length}
-use Rattle.line_parts.specs.Laws.Parts.{long-told, short-told}
-use Rattle.line_parts.proofs.parts.match_one.Statement.{statement}
-use Rattle.line_parts.proofs.parts.match_one.Tie as tie
+use Rattle.batch_lines.specs.Laws.Parts.{long-told, short-told}
+use Rattle.batch_lines.proofs.parts.match_one.Statement.{statement}
+use Rattle.batch_lines.proofs.parts.match_one.Tie as tie
 
 sub-if1 : tie.Need-sub-if1
 sub-if1 c = c .before .before .before .before .before .pre .2

@@ -1,2 +1,0 @@
--- Facts about the parts of lines.
-pub mod Parts

@@ -1,4 +1,0 @@
--- What stands for the lines of a rule that stands compiled.
--- docs/REFERENCE.md, 16.6
-pub mod Parts
-pub mod Laws
