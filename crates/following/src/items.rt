@@ -68,7 +68,7 @@ pub fn take_reference(
     let slot = code[pc + 3] as usize;
     let from = regs[slot];
     let to = regs[slot + 1];
-    if from == semantics::unset_position() {
+    if from == machine::unset_position() {
         return Pace::Lost(1);
     }
     let n = span_length(from, to);

@@ -11,6 +11,7 @@
 ghost use mathlib.Core.Path.{_≡_};
 ghost use mathlib.Core.List.{List, []};
 ghost use Prim.Native.Nat.{ℕ};
+ghost use Rattle.syntax.specs.Limits.{unset};
 ghost use Rattle.machine.specs.Moves.{go};
 ghost use Rattle.machine.specs.Words.{nowOf};
 
@@ -43,6 +44,13 @@ pub const RUN: u32 = 10;
 pub const REFERENCE: u32 = 11;
 
 pub const BREAK: u32 = 12;
+
+// What stands for the start and the end of a group that is not set, and for a repeat without a greatest number of rounds.
+pub fn unset_position() -> u32
+    ensures { λ r. ⌜ r ≡ unset ⌝ }
+{
+    4294967295
+}
 
 // Where the machine stands: at a node and a position, over so many frames in the work area; or, if it is not live, nothing is left to try.
 pub struct Machine {

@@ -146,7 +146,7 @@ pub fn take_reference(
     let slot = code[pc + 3] as usize;
     let from = regs[slot];
     let to = regs[slot + 1];
-    if from == semantics::unset_position() {
+    if from == machine::unset_position() {
         let fallen = fall_back(code, regs, work, m.height);
         return Ran::Made(1, fallen);
     }

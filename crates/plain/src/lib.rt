@@ -94,7 +94,7 @@ fn refer(code: &[u32], sub: &[u8], regs: &[u32], pc: usize, at: u32) -> Referred
         holds: false,
         behind: at,
     };
-    if from == semantics::unset_position() {
+    if from == machine::unset_position() {
         return fails;
     }
     let n = span_length(from, to);

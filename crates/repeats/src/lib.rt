@@ -34,7 +34,7 @@ fn count_round(n: u32) -> u32
 pub fn is_full(most: u32, n: u32) -> bool
     ensures { λ r. ⌜ r ≡ isFull (mostOf most) n ⌝ }
 {
-    if most == semantics::unset_position() {
+    if most == machine::unset_position() {
         return false;
     }
     most <= n

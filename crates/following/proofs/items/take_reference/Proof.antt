@@ -15,7 +15,7 @@ use Rattle.following.proofs.items.take_reference.Reads as reads
 use Rattle.following.proofs.items.take_reference.Lts as lts
 use Rattle.nodes.proofs.compare.Reads as compare-reads
 use Rattle.nodes.proofs.span_length.Reads as span-length-reads
-use Rattle.semantics.proofs.unset_position.Reads as unset-position-reads
+use Rattle.machine.proofs.unset_position.Reads as unset-position-reads
 
 add-slot : tie.Need-add-slot
 add-slot c = search needs

@@ -1,8 +1,8 @@
 -- The literal is the number that the definition computes to.
 use mathlib.Core.Path.{refl}
 use Rattle.syntax.specs.Limits.{unset}
-use Rattle.semantics.proofs.unset_position.Statement.{statement}
-use Rattle.semantics.proofs.unset_position.Tie as tie
+use Rattle.machine.proofs.unset_position.Statement.{statement}
+use Rattle.machine.proofs.unset_position.Tie as tie
 
 returns : tie.Need-returns
 unfolding unset
