@@ -12,7 +12,7 @@ use Rattle.semantics.specs.Laws.Cases.{clash}
 use Rattle.machine.specs.Code.{Program}
 use Rattle.machine.specs.Laws.Code.{decode-at}
 use Rattle.following.specs.declared.Followed.the-variants.{Arrived, Missed, Spent}
-use Rattle.following.specs.Turns.{Turn, onward, astray, finished, turnBy, turn, Safe, Treads, moves, stops, ended}
+use Rattle.turns.specs.Turns.{Turn, onward, astray, finished, turnBy, turn, Safe, Treads, moves, stops, ended}
 use Rattle.following.specs.Paths.{told, FollowedAs, Follows}
 
 -- The budget ----------------------------------------------------------------------------

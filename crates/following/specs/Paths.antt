@@ -8,7 +8,7 @@ use Rattle.semantics.specs.States.{State}
 use Rattle.semantics.specs.Proposals.{Trail, Finding, aReading, noReading, exhausts, Check, within}
 use Rattle.following.specs.declared.Followed.{Followed}
 use Rattle.following.specs.declared.Followed.the-variants.{Arrived, Missed, Spent}
-use Rattle.following.specs.Turns.{Treads}
+use Rattle.turns.specs.Turns.{Treads}
 
 abbrev pub told : Finding → ℕ → Check
 told f steps = record { finding = f; steps = steps }

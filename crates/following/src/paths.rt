@@ -1,12 +1,12 @@
 // Following a whole path: turn after turn, within the budget.
 use crate::Followed;
-use crate::Pace;
-use crate::turns::take_turn;
+use turns::Pace;
+use turns::take_turn;
 ghost use mathlib.Core.Path.{_≡_};
 ghost use Prim.Native.Nat.{_<_, _^_};
 ghost use lib.ListN.{length};
 ghost use Rattle.semantics.specs.Proposals.{Trail};
-ghost use Rattle.following.specs.Turns.{Treads};
+ghost use Rattle.turns.specs.Turns.{Treads};
 ghost use Rattle.following.specs.Paths.{Follows};
 
 // The end's node.

@@ -35,7 +35,7 @@ use Rattle.machine.specs.Laws.Rounds.{counted, counted-none, bump-counted, deci
 use Rattle.machine.specs.Laws.Run.{Observer, emits}
 use Rattle.machine.specs.Laws.Walk.{Agree, agree-byte, agree-assert, agree-reference, Mirrors, Later, at-once, later-still, mirrors-chose, later-chose, outside, mirrors-set2, closing}
 use Rattle.machine.specs.Theorem.{Stands, Clear}
-use Rattle.following.specs.Turns.{Turn, onward, astray, finished, bodyHere, otherThan, onFrom, bodyOf, branching, choosingBranch, beginning, eitherTurn, settled, deciding, behindItem, turnBy, turn, Safe, Treads, moves, stops, ended}
+use Rattle.turns.specs.Turns.{Turn, onward, astray, finished, bodyHere, otherThan, onFrom, bodyOf, branching, choosingBranch, beginning, eitherTurn, settled, deciding, behindItem, turnBy, turn, Safe, Treads, moves, stops, ended}
 
 -- Paths -----------------------------------------------------------------------
 

@@ -4,13 +4,13 @@ use Prim.Native.Nat.{_<_, _-_}
 use native.Mathlib.Omega.{arith}
 use borrow.Author.Needs.{needs}
 use denote.Ref.{now}
-use Rattle.following.specs.Paces.{saidBy}
+use Rattle.turns.specs.Paces.{saidBy}
 use Rattle.following.proofs.Pathing.{Going, going-start, going-on, safe-here, lost-at, lost-spent, on-spent, end-spent, end-missed, end-arrived}
 use Rattle.following.proofs.paths.follow_path.Statement.{statement}
 use Rattle.following.proofs.paths.follow_path.Tie as tie
 use Rattle.following.proofs.paths.follow_path.Reads as reads
 use Rattle.following.proofs.paths.follow_path.Lts as lts
-use Rattle.following.proofs.turns.take_turn.Reads as take-turn-reads
+use Rattle.turns.proofs.take_turn.Reads as take-turn-reads
 
 abbrev Inv-loop : tie.InvT-loop
 Inv-loop code sub choices regs₀ entry start budget pc₀ at₀ read₀ left₀ regs pc at read left = Going code sub choices regs₀ entry start budget regs pc at read left × (pc < 4294967296) × (at < 4294967296) × (read < 18446744073709551616) × (left < 4294967296)
