@@ -3,7 +3,7 @@
 use mathlib.Core.Path.{_≡_}
 use Prim.Native.Nat.{ℕ, _≤_}
 use native.Mathlib.Omega.{arith}
-use Rattle.gateway_line.specs.Limits.{heldLimit}
+use Rattle.gateway_answers.specs.Limits.{heldLimit}
 use Rattle.gateway.specs.declared.input.Input.{Input}
 use Rattle.gateway.specs.declared.input.Input.the-variants.{Bytes, End, Again, Failed}
 use Rattle.gateway.specs.declared.rule_file.Loading.{Loading}

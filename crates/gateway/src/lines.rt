@@ -10,8 +10,8 @@ use libc::STDIN_FILENO;
 ghost use Prim.Native.Nat.{_+_, _≤_};
 ghost use lib.ListN.{length};
 ghost use Rattle.gateway_text.specs.Limits.{answerRoom};
-ghost use Rattle.gateway_line.specs.Limits.{heldLimit};
-ghost use Rattle.gateway_line.specs.Promises.{Lent};
+ghost use Rattle.gateway_answers.specs.Limits.{heldLimit};
+ghost use Rattle.gateway_answers.specs.Promises.{Lent};
 ghost use Rattle.gateway.specs.Counts.{Held};
 
 // How many bytes wait in the output, and whether it can still be written.

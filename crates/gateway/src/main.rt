@@ -18,7 +18,7 @@ ghost use Prim.Native.Nat.{ℕ, _≤_};
 ghost use lib.ListN.{length};
 ghost use Rattle.syntax.specs.Limits.{ruleAreaNeed};
 ghost use Rattle.gateway_text.specs.Limits.{answerRoom};
-ghost use Rattle.gateway_line.specs.Promises.{Standing};
+ghost use Rattle.gateway_answers.specs.Promises.{Standing};
 
 // One byte more than a rule may have: with so many, it is known to be too long.
 const RULE_ROOM: usize = frame::RULE_LIMIT + 1;

@@ -11,8 +11,8 @@ use Rattle.semantics.specs.Computing.{computing-calls}
 use Rattle.text.specs.Lines.{newline, lineLength}
 use Rattle.text.specs.Numbers.{decimalWithin, decimal}
 use Rattle.gateway_text.specs.Lines.{line, span, spans, matchedLine, notMatchedLine, exhaustedLine, tooLongLine, refusalLine, unreadableLine, outcomeLine}
-use Rattle.gateway_line.specs.Limits.{lineLimit, gatewayBudget, gatewayFlags}
-use Rattle.gateway_line.specs.Answers.{gatewayRule, answerLine}
+use Rattle.gateway_answers.specs.Limits.{lineLimit, gatewayBudget, gatewayFlags}
+use Rattle.gateway_answers.specs.Answers.{gatewayRule, answerLine}
 use Rattle.gateway_line.specs.Gateway.{lastAnswer, answers, withRule, gateway}
 
 unfoldable pub computing-gateway : Unit {0}

@@ -11,7 +11,7 @@ use Rattle.syntax.specs.Read.{if_then_else_, Read, sound, refused}
 use Rattle.syntax.specs.Tree.{Rule}
 use Rattle.text.specs.Lines.{newline, lineLength}
 use Rattle.gateway_text.specs.Lines.{refusalLine, unreadableLine}
-use Rattle.gateway_line.specs.Answers.{gatewayRule, answerLine}
+use Rattle.gateway_answers.specs.Answers.{gatewayRule, answerLine}
 
 -- "A last piece without 0A counts if not empty."
 unfoldable pub lastAnswer : Rule × ℕ → List ℕ → List ℕ

@@ -1,12 +1,9 @@
-// The gateway program's rule, and its answers to lines, also to those that come in pieces.
-mod answering;
-mod rules;
+// The gateway program's answers to lines that come in pieces. The rule, and the answer to one line, stand in `gateway_answers`.
 mod streaming;
 
-pub use answering::BUDGET;
-pub use answering::answer;
-pub use rules::Readiness;
-pub use rules::prepare;
+pub use gateway_answers::BUDGET;
+pub use gateway_answers::Readiness;
+pub use gateway_answers::prepare;
 pub use streaming::HELD_LIMIT;
 pub use streaming::Progress;
 pub use streaming::advance;

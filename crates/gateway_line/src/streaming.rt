@@ -1,13 +1,14 @@
 // An input that comes in pieces: the lines that end in a piece are answered, and the beginning of one that does not is held.
-use crate::answering::LINE_LIMIT;
-use crate::answering::answer;
+use gateway_answers::LINE_LIMIT;
+use gateway_answers::answer;
 use text::gather;
 use text::line_end;
 ghost use Prim.Native.Nat.{_+_, _≤_};
 ghost use lib.ListN.{length, take};
 ghost use Rattle.gateway_text.specs.Limits.{answerRoom};
-ghost use Rattle.gateway_line.specs.Limits.{heldLimit};
-ghost use Rattle.gateway_line.specs.Promises.{Lent, Onward, Advanced, Finished};
+ghost use Rattle.gateway_answers.specs.Limits.{heldLimit};
+ghost use Rattle.gateway_answers.specs.Promises.{Lent};
+ghost use Rattle.gateway_line.specs.Promises.{Onward, Advanced, Finished};
 
 // How many bytes of a line are held: with one more than the limit, a line is known to be over it.
 pub const HELD_LIMIT: usize = LINE_LIMIT + 1;

@@ -21,8 +21,8 @@ use Rattle.semantics.specs.Computing.{computing-calls}
 use Rattle.text.specs.Lines.{newline}
 use Rattle.text.specs.Numbers.{decimalWithin, decimal}
 use Rattle.gateway_text.specs.Lines.{line as lineOf, span, spans, matchedLine, outcomeLine}
-use Rattle.gateway_line.specs.Limits.{lineLimit, gatewayBudget}
-use Rattle.gateway_line.specs.Answers.{answerLine}
+use Rattle.gateway_answers.specs.Limits.{lineLimit, gatewayBudget}
+use Rattle.gateway_answers.specs.Answers.{answerLine}
 
 infixl 60 _⨾_
 unfoldable pub rule : List ℕ

@@ -15,9 +15,9 @@ use frame::RULE_AREA_NEED;
 use frame::RULE_LIMIT;
 use frame::SUBJECT_LIMIT;
 use frame::WORK_PER_STEP;
-use gateway_line::BUDGET;
-use gateway_line::Readiness;
-use gateway_line::prepare;
+use gateway_answers::BUDGET;
+use gateway_answers::Readiness;
+use gateway_answers::prepare;
 use gateway_text::ANSWER_ROOM;
 use index::UNSET;
 use libc::STDIN_FILENO;
@@ -46,8 +46,8 @@ ghost use Rattle.machine.specs.Ready.{StackFits};
 ghost use Rattle.machine.specs.Laws.Loop.{ReadyForSome};
 ghost use Rattle.reader.specs.Areas.{tableStart};
 ghost use Rattle.semantics.specs.Calls.{workAreaNeed};
-ghost use Rattle.gateway_line.specs.Limits.{gatewayBudget};
-ghost use Rattle.gateway_line.specs.Promises.{Standing};
+ghost use Rattle.gateway_answers.specs.Limits.{gatewayBudget};
+ghost use Rattle.gateway_answers.specs.Promises.{Standing};
 
 // What a walk is lent, as the gateway lends it.
 const WORK_AREA: usize = WORK_PER_STEP * BUDGET as usize;
@@ -188,7 +188,7 @@ fn put_answer(code: &[u32], entry: u32, groups: u32, line: &[u8], work_area: &mu
 {
     let mut results = [0u32; ROW_LENGTH];
     let mut out = [0u8; ANSWER_ROOM];
-    let n = gateway_line::answer(
+    let n = gateway_answers::answer(
         code,
         entry,
         groups,

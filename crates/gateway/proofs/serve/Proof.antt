@@ -1,6 +1,6 @@
 -- The areas are as long as is needed.
 use native.Mathlib.Omega.{arith}
-use Rattle.gateway_line.specs.Limits.{lineLimit, heldLimit, gatewayBudget}
+use Rattle.gateway_answers.specs.Limits.{lineLimit, heldLimit, gatewayBudget}
 use Rattle.syntax.specs.Limits.{workPerStep, groupLimit, spansLength, rowLength}
 use Rattle.semantics.specs.Calls.{workAreaNeed}
 use borrow.Author.Needs.{needs}

@@ -17,10 +17,10 @@ use Rattle.semantics.specs.Laws.Cases.{le-or}
 use Rattle.text.specs.Gathering.{Gathered}
 use Rattle.text.specs.Lines.{newline, lineLength}
 use Rattle.text.specs.Laws.Lines.{lineWithin}
-use Rattle.gateway_line.specs.Limits.{lineLimit, heldLimit}
-use Rattle.gateway_line.specs.Answers.{answerLine}
+use Rattle.gateway_answers.specs.Limits.{lineLimit, heldLimit}
+use Rattle.gateway_answers.specs.Answers.{answerLine}
 use Rattle.gateway_line.specs.Gateway.{lastAnswer, answers}
-use Rattle.gateway_line.specs.Laws.Calls.{longAnswer}
+use Rattle.gateway_answers.specs.Laws.Calls.{longAnswer}
 
 -- Parts of lists ------------------------------------------------------------
 

@@ -5,7 +5,7 @@ use borrow.Author.Needs.{needs}
 use lib.ListN.{replicate}
 use Rattle.syntax.specs.Limits.{unset, registers, groupLimit, ruleAreaNeed, workPerStep}
 use Rattle.semantics.specs.Calls.{workAreaNeed}
-use Rattle.gateway_line.specs.Limits.{gatewayBudget}
+use Rattle.gateway_answers.specs.Limits.{gatewayBudget}
 use Rattle.tour.proofs.Turning.{starts}
 use Rattle.tour.proofs.put_line.Statement.{statement}
 use Rattle.tour.proofs.put_line.Tie as tie

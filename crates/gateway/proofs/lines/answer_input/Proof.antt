@@ -4,9 +4,9 @@ use native.Mathlib.Omega.{arith}
 use mathlib.Core.Path.{_≡_, refl}
 use Prim.Native.Nat.{_≤_}
 use lib.ListN.{length, length-take}
-use Rattle.gateway_line.specs.Limits.{heldLimit}
+use Rattle.gateway_answers.specs.Limits.{heldLimit}
 use Rattle.gateway.specs.Counts.{heldOn, heldOver}
-use Rattle.gateway_line.specs.Laws.Calls.{lentStill}
+use Rattle.gateway_answers.specs.Laws.Calls.{lentStill}
 use Rattle.gateway.proofs.lines.answer_input.Statement.{statement}
 use Rattle.gateway.proofs.lines.answer_input.Tie as tie
 

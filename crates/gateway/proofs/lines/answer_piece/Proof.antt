@@ -4,8 +4,8 @@ use mathlib.Core.Path.{_≡_, refl}
 use Prim.Native.Nat.{_+_, _-_, _≤_}
 use lib.ListN.{length, length-take}
 use Rattle.gateway_text.specs.Limits.{answerRoom}
-use Rattle.gateway_line.specs.Limits.{heldLimit}
-use Rattle.gateway_line.specs.Laws.Calls.{lentStill}
+use Rattle.gateway_answers.specs.Limits.{heldLimit}
+use Rattle.gateway_answers.specs.Laws.Calls.{lentStill}
 use Rattle.gateway.proofs.lines.answer_piece.Statement.{statement}
 use Rattle.gateway.proofs.lines.answer_piece.Tie as tie
 

@@ -4,8 +4,8 @@ use denote.Ref.{now}
 use mathlib.Core.List.{[]}
 use lib.ListN.{take, length-take}
 use Rattle.text.specs.Laws.Writing.{wroteNothing}
-use Rattle.gateway_line.specs.Limits.{heldLimit}
-use Rattle.gateway_line.specs.Answers.{answerLine}
+use Rattle.gateway_answers.specs.Limits.{heldLimit}
+use Rattle.gateway_answers.specs.Answers.{answerLine}
 use Rattle.gateway_line.specs.Laws.Streams.{endWithin, heldOn, answeredAt}
 use borrow.Author.Needs.{needs}
 use Rattle.gateway_line.proofs.streaming.advance.Statement.{statement}

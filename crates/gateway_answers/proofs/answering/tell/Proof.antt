@@ -1,9 +1,9 @@
 -- One line for each outcome.
 use Rattle.finding.specs.Outcomes.{outcomeOf}
-use Rattle.gateway_line.specs.Promises.{toldLine}
+use Rattle.gateway_answers.specs.Promises.{toldLine}
 use borrow.Author.Needs.{needs}
-use Rattle.gateway_line.proofs.answering.tell.Statement.{statement}
-use Rattle.gateway_line.proofs.answering.tell.Tie as tie
+use Rattle.gateway_answers.proofs.answering.tell.Statement.{statement}
+use Rattle.gateway_answers.proofs.answering.tell.Tie as tie
 
 enum-known-outcome : tie.Need-enum-known-outcome
 enum-known-outcome c = search needs

@@ -4,10 +4,10 @@ use mathlib.Core.Path.{_∙_}
 use denote.Ref.{now}
 use Rattle.syntax.specs.Limits.{ruleLimit, ruleAreaNeed}
 use Rattle.frame.specs.Laws.Compiled.{compile-near}
-use Rattle.gateway_line.specs.Laws.Rules.{longRule, denied, compiledRefused, compiledSound}
+use Rattle.gateway_answers.specs.Laws.Rules.{longRule, denied, compiledRefused, compiledSound}
 use borrow.Author.Needs.{needs}
-use Rattle.gateway_line.proofs.rules.prepare.Statement.{statement}
-use Rattle.gateway_line.proofs.rules.prepare.Tie as tie
+use Rattle.gateway_answers.proofs.rules.prepare.Statement.{statement}
+use Rattle.gateway_answers.proofs.rules.prepare.Tie as tie
 
 returns : tie.Need-returns
 unfolding ruleLimit

@@ -13,7 +13,7 @@ ghost use Rattle.syntax.specs.Limits.{rowLength, groupLimit};
 ghost use Rattle.finding.specs.Outcomes.{outcomeOf};
 ghost use Rattle.gateway_text.specs.Limits.{answerRoom};
 ghost use Rattle.gateway_text.specs.Promises.{WroteLine};
-ghost use Rattle.gateway_line.specs.Promises.{Lent, toldLine, Answered, Left};
+ghost use Rattle.gateway_answers.specs.Promises.{Lent, toldLine, Answered, Left};
 
 pub const BUDGET: u32 = 1000;
 

@@ -5,11 +5,11 @@ use denote.Ref.{now}
 use Prim.Native.Nat.{_≤_, _<_}
 use lib.ListN.{length, length-take}
 use Rattle.syntax.specs.Limits.{groupLimit, spansLength, rowLength}
-use Rattle.gateway_line.specs.Limits.{lineLimit, gatewayBudget}
-use Rattle.gateway_line.specs.Laws.Calls.{longAnswer, lentHeld, leftLong, leftReported, toldSays}
+use Rattle.gateway_answers.specs.Limits.{lineLimit, gatewayBudget}
+use Rattle.gateway_answers.specs.Laws.Calls.{longAnswer, lentHeld, leftLong, leftReported, toldSays}
 use borrow.Author.Needs.{needs}
-use Rattle.gateway_line.proofs.answering.answer.Statement.{statement}
-use Rattle.gateway_line.proofs.answering.answer.Tie as tie
+use Rattle.gateway_answers.proofs.answering.answer.Statement.{statement}
+use Rattle.gateway_answers.proofs.answering.answer.Tie as tie
 
 write-too-long-requires : tie.Need-write-too-long-requires
 write-too-long-requires c κs = search needs

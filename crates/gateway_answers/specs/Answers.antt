@@ -11,7 +11,7 @@ use Rattle.syntax.specs.Tree.{Rule}
 use Rattle.syntax.specs.Reading.{reading}
 use Rattle.semantics.specs.Answers.{answer}
 use Rattle.gateway_text.specs.Lines.{tooLongLine, outcomeLine}
-use Rattle.gateway_line.specs.Limits.{lineLimit, gatewayBudget, gatewayFlags}
+use Rattle.gateway_answers.specs.Limits.{lineLimit, gatewayBudget, gatewayFlags}
 
 -- The rule that the gateway reads: its tree and its number of groups, or the refusal that a call gives.
 unfoldable pub gatewayRule : List ℕ → Read (Rule × ℕ)

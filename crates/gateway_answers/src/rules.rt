@@ -7,7 +7,7 @@ use syntax::Refusal;
 ghost use mathlib.Core.Path.{_≡_};
 ghost use lib.ListN.{length};
 ghost use Rattle.syntax.specs.Limits.{ruleAreaNeed};
-ghost use Rattle.gateway_line.specs.Promises.{Prepares};
+ghost use Rattle.gateway_answers.specs.Promises.{Prepares};
 
 pub const FLAGS: u32 = 0;
 

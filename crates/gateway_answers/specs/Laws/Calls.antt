@@ -16,9 +16,9 @@ use Rattle.finding.specs.declared.Outcome.{Outcome as Told}
 use Rattle.finding.specs.declared.Outcome.the-variants.{Matched as Found, NotMatched as Missed, Exhausted as Spent, Refused as Denied}
 use Rattle.finding.specs.Outcomes.{outcomeOf, Reports}
 use Rattle.gateway_text.specs.Lines.{matchedLine, tooLongLine, outcomeLine}
-use Rattle.gateway_line.specs.Limits.{lineLimit, gatewayBudget}
-use Rattle.gateway_line.specs.Answers.{answerLine}
-use Rattle.gateway_line.specs.Promises.{Lent, toldLine, rowed, resultsLeft}
+use Rattle.gateway_answers.specs.Limits.{lineLimit, gatewayBudget}
+use Rattle.gateway_answers.specs.Answers.{answerLine}
+use Rattle.gateway_answers.specs.Promises.{Lent, toldLine, rowed, resultsLeft}
 
 -- a line that is too long, and one that is not
 module _ (r : Rule × ℕ) (s : List ℕ) where

@@ -1,0 +1,3 @@
+-- Facts about answers that proofs cite.
+pub mod Rules
+pub mod Calls
