@@ -1,20 +1,20 @@
 -- The line of the table for a line: "its number, one word and each named field by the lookup".
 -- docs/REFERENCE.md, 19.3
 use mathlib.Core.List.{List, [], _∷_}
-use mathlib.Core.Bool.{Bool, true, false, not, _&&_, _||_}
+use mathlib.Core.Bool.{Bool, false}
 use Prim.Native.Nat.{ℕ}
 use lib.Dec.{ltb, eqb}
 use lib.ListN.{length, getD}
 use Rattle.syntax.specs.Limits.{subjectLimit}
 use Rattle.syntax.specs.Read.{if_then_else_}
-use Rattle.syntax.specs.Sets.{sameBytes}
 use Rattle.syntax.specs.Tree.{Rule}
 use Rattle.semantics.specs.States.{Row, row}
 use Rattle.semantics.specs.Answers.{Outcome, matched, notMatched, exhausted, answer, Ending, complete, full, exhaustedAt, Listing, listing}
 use Rattle.fields_text.specs.Table.{tableRow}
 use Rattle.fields_row.specs.declared.words.Word.{Word}
 use Rattle.fields_row.specs.declared.words.Word.the-variants.{Matched, Ambiguous, Undecided, NotMatched, Exhausted, TooLong}
-use Rattle.fields_row.specs.Fields.{fieldNamed, fields, textOf, kindOf}
+use Rattle.fields_row.specs.Fields.{fields, textOf, kindOf}
+use Rattle.fields_compared.specs.Readings.{isAmbiguous}
 
 -- What is the same for all lines: the rule, with its name index, the budget, the room of a listing, the names of the columns, and the standing text.
 pub record Table : Type 0 where
@@ -26,21 +26,6 @@ pub record Table : Type 0 where
   pub standing : List ℕ
 
 -- Readings ----------------------------------------------------------------------
-
-module _ (index line standing : List ℕ) where
-  -- two readings have the same fields
-  unfoldable pub agree : (x y : Row) (names : List (List ℕ)) → Bool
-  agree x y [] = true
-  agree x y (name ∷ names) = sameBytes (fieldNamed index line standing 0 x name) (fieldNamed index line standing 0 y name) && agree x y names
-
-  -- "another reading of the same stretch (the match's start and end) gives a named field another value"
-  unfoldable pub isOther : (names : List (List ℕ)) (x y : Row) → Bool
-  isOther names x y = eqb (getD y 0 0) (getD x 0 0) && eqb (getD y 1 0) (getD x 1 0) && not (agree x y names)
-
-  -- one of the readings listed does; x is the match's
-  unfoldable pub isAmbiguous : (names : List (List ℕ)) (x : Row) (rows : List Row) → Bool
-  isAmbiguous names x [] = false
-  isAmbiguous names x (y ∷ rows) = isOther names x y || isAmbiguous names x rows
 
 -- the start of the last reading listed; the one that is given, if none is
 unfoldable pub lastStart : ℕ → List Row → ℕ

@@ -15,7 +15,8 @@ use Rattle.text.specs.Numbers.{decimalWithin, decimal}
 use Rattle.fields_text.specs.Escaping.{hexDigit, hexed, isPlain, escape, escaped}
 use Rattle.fields_text.specs.Table.{tab, cells, opening, tableRow}
 use Rattle.fields_row.specs.Fields.{fieldNamed, fields, textOf, kindOf}
-use Rattle.fields_line.specs.Answers.{agree, isOther, isAmbiguous, lastStart, isCut, verdict, tells, told, fieldsOf, rowFor}
+use Rattle.fields_compared.specs.Readings.{agree, isOther, isAmbiguous}
+use Rattle.fields_line.specs.Answers.{lastStart, isCut, verdict, tells, told, fieldsOf, rowFor}
 
 unfoldable pub computing-rows : Unit {0}
 unfolding computing-calls computing-lookups newline decimalWithin decimal hexDigit hexed isPlain escape escaped tab cells opening tableRow fieldNamed fields agree isOther isAmbiguous lastStart isCut textOf kindOf verdict tells told fieldsOf rowFor

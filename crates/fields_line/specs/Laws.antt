@@ -1,4 +1,3 @@
 -- Facts that proofs cite.
-pub mod Comparing
 pub mod Listings
 pub mod Answers

@@ -18,7 +18,8 @@ use Rattle.index.specs.Rows.{rowsAt}
 use Rattle.fields_row.specs.declared.words.Word.{Word}
 use Rattle.fields_row.specs.declared.words.Word.the-variants.{Matched, Ambiguous, Undecided}
 use Rattle.fields_row.specs.Fields.{fields, kindOf}
-use Rattle.fields_line.specs.Answers.{Table, isAmbiguous, lastStart, told, fieldsOf}
+use Rattle.fields_compared.specs.Readings.{isAmbiguous}
+use Rattle.fields_line.specs.Answers.{Table, lastStart, told, fieldsOf}
 
 -- The word ----------------------------------------------------------------------
 

@@ -30,8 +30,9 @@ use Rattle.fields_text.specs.Laws.Columns.{Visible, count, columns-of-row, line
 use Rattle.fields_row.specs.declared.words.Word.{Word}
 use Rattle.fields_row.specs.declared.words.Word.the-variants.{Matched, Ambiguous, Undecided, NotMatched, Exhausted, TooLong}
 use Rattle.fields_row.specs.Fields.{fieldNamed, fields, textOf, kindOf}
-use Rattle.fields_line.specs.Answers.{Table, agree, isOther, isAmbiguous, lastStart, isCut, verdict, tells, told, fieldsOf, rowFor}
-use Rattle.fields_line.specs.Laws.Comparing.{same-stretch}
+use Rattle.fields_compared.specs.Readings.{agree, isOther, isAmbiguous}
+use Rattle.fields_line.specs.Answers.{Table, lastStart, isCut, verdict, tells, told, fieldsOf, rowFor}
+use Rattle.fields_compared.specs.Laws.Comparing.{same-stretch}
 
 -- The readings of the match's start --------------------------------------------------
 

@@ -1,5 +1,5 @@
 // The word for a line, and the row of its match.
-use crate::comparing::is_ambiguous;
+use fields_compared::is_ambiguous;
 use fields_row::Word;
 use finding::Outcome;
 use finding::match_held;

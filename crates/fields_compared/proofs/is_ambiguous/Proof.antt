@@ -8,10 +8,10 @@ use lib.ListN.{length-take, length-drop}
 use Rattle.syntax.specs.Limits.{groupLimit, spansLength, rowLength}
 use Rattle.index.specs.Rows.{rowsAt}
 use Rattle.fields_columns.specs.Columns.{namesFrom}
-use Rattle.fields_line.specs.Answers.{isAmbiguous}
-use Rattle.fields_line.specs.Laws.Comparing.{row-part, ambiguous-here, ambiguous-on, ambiguous-none}
-use Rattle.fields_line.proofs.comparing.is_ambiguous.Statement.{statement}
-use Rattle.fields_line.proofs.comparing.is_ambiguous.Tie as tie
+use Rattle.fields_compared.specs.Readings.{isAmbiguous}
+use Rattle.fields_compared.specs.Laws.Comparing.{row-part, ambiguous-here, ambiguous-on, ambiguous-none}
+use Rattle.fields_compared.proofs.is_ambiguous.Statement.{statement}
+use Rattle.fields_compared.proofs.is_ambiguous.Tie as tie
 
 abbrev Inv-loop : tie.InvT-loop
 Inv-loop columns count names line standing x results rows i₀ i = (i ≤ rows) × (isAmbiguous names line standing (namesFrom columns 0 count) x (rowsAt results 0 rows) ≡ isAmbiguous names line standing (namesFrom columns 0 count) x (rowsAt results (i * rowLength) (rows - i)))

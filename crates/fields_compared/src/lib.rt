@@ -1,4 +1,5 @@
-// Whether another reading of a match's stretch has other fields.
+// Whether another reading of a match's stretch has other fields, for the word of a line in the table of fields (`is_ambiguous`): the readings of a listing are
+// compared with the match's, column by column.
 use check::same;
 use fields_columns::column;
 use index::ROW_LENGTH;
@@ -12,7 +13,7 @@ ghost use Rattle.index.specs.Rows.{rowsAt};
 ghost use Rattle.fields_columns.specs.Columns.{namesFrom};
 ghost use Rattle.fields_columns.specs.Promises.{Columned};
 ghost use Rattle.fields_row.specs.Fields.{fieldNamed};
-ghost use Rattle.fields_line.specs.Answers.{agree, isOther, isAmbiguous};
+ghost use Rattle.fields_compared.specs.Readings.{agree, isOther, isAmbiguous};
 
 // Whether two readings have the same field of a name.
 fn agree_on<'a>(

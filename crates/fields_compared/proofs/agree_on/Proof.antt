@@ -3,8 +3,8 @@ use Rattle.lookup.specs.Laws.Names.{same-told}
 use Rattle.lookup.specs.Laws.Lookup.{lent-bytes}
 use Rattle.fields_row.specs.Fields.{fieldNamed}
 use borrow.Author.Needs.{needs}
-use Rattle.fields_line.proofs.comparing.agree_on.Statement.{statement}
-use Rattle.fields_line.proofs.comparing.agree_on.Tie as tie
+use Rattle.fields_compared.proofs.agree_on.Statement.{statement}
+use Rattle.fields_compared.proofs.agree_on.Tie as tie
 
 field-requires : tie.Need-field-requires
 field-requires c κs = search needs

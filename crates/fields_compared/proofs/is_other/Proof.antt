@@ -5,10 +5,10 @@ use native.Mathlib.Omega.{arith}
 use mathlib.Core.Bool.{not}
 use Rattle.syntax.specs.Limits.{groupLimit, spansLength, rowLength}
 use Rattle.fields_columns.specs.Columns.{namesFrom}
-use Rattle.fields_line.specs.Laws.Comparing.{other-start, other-end, same-stretch}
+use Rattle.fields_compared.specs.Laws.Comparing.{other-start, other-end, same-stretch}
 use borrow.Author.Needs.{needs}
-use Rattle.fields_line.proofs.comparing.is_other.Statement.{statement}
-use Rattle.fields_line.proofs.comparing.is_other.Tie as tie
+use Rattle.fields_compared.proofs.is_other.Statement.{statement}
+use Rattle.fields_compared.proofs.is_other.Tie as tie
 
 shared-slice-read-if1 : tie.Need-shared-slice-read-if1
 unfolding rowLength spansLength groupLimit

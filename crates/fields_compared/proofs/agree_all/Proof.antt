@@ -6,10 +6,10 @@ use denote.Ref.{now}
 use native.Mathlib.Numerals.{add-one}
 use borrow.Author.Tests.{not-true, not-false}
 use Rattle.fields_columns.specs.Columns.{namesFrom}
-use Rattle.fields_line.specs.Answers.{agree}
-use Rattle.fields_line.specs.Laws.Comparing.{agree-on, agree-not, agree-end}
-use Rattle.fields_line.proofs.comparing.agree_all.Statement.{statement}
-use Rattle.fields_line.proofs.comparing.agree_all.Tie as tie
+use Rattle.fields_compared.specs.Readings.{agree}
+use Rattle.fields_compared.specs.Laws.Comparing.{agree-on, agree-not, agree-end}
+use Rattle.fields_compared.proofs.agree_all.Statement.{statement}
+use Rattle.fields_compared.proofs.agree_all.Tie as tie
 
 abbrev Inv-loop : tie.InvT-loop
 Inv-loop columns count names line standing x y i₀ i = (i ≤ count) × (agree names line standing x y (namesFrom columns 0 count) ≡ agree names line standing x y (namesFrom columns i (count - i)))

@@ -13,7 +13,7 @@ use Rattle.index.specs.Rows.{rowsAt}
 use Rattle.fields_columns.specs.Columns.{nameAt, namesFrom}
 use Rattle.fields_columns.specs.Laws.Columns.{names-next, names-none}
 use Rattle.fields_row.specs.Fields.{fieldNamed}
-use Rattle.fields_line.specs.Answers.{agree, isOther, isAmbiguous}
+use Rattle.fields_compared.specs.Readings.{agree, isOther, isAmbiguous}
 
 -- a row as the code takes it
 pub row-part : (i : ℕ) (results : List ℕ) → take (i * rowLength + rowLength - i * rowLength) (drop (i * rowLength) results) ≡ take rowLength (drop (i * rowLength) results)

@@ -1,0 +1,2 @@
+-- Facts that proofs cite.
+pub mod Comparing
