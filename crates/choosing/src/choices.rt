@@ -10,7 +10,7 @@ use machine::Machine;
 use machine::RUN;
 use plain::tell_missed;
 use repeats::is_full;
-use runs::run_length;
+use run_ends::run_length;
 ghost use mathlib.Core.Path.{_≡_};
 ghost use Prim.Native.Nat.{_+_, _≤_, _<_, _^_};
 ghost use lib.ListN.{length, getD};

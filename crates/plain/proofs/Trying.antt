@@ -19,7 +19,7 @@ use Rattle.machine.specs.Words.{Measured}
 use Rattle.machine.specs.Laws.Extent.{within}
 use Rattle.nodes.specs.declared.references.Compared.the-variants.{Same, Unlike, TooMany}
 use Rattle.nodes.specs.Comparing.{standsAgain, ComparedAs}
-use Rattle.runs.proofs.Bytes.{extent-low}
+use Rattle.run_ends.proofs.Bytes.{extent-low}
 use Rattle.plain.specs.Misses.{RefersAs}
 
 -- Bytes ---------------------------------------------------------------------------

@@ -24,7 +24,7 @@ use nodes::assertion_holds;
 use nodes::compare;
 use nodes::span_length;
 use repeats::is_full;
-use runs::run_length;
+use run_ends::run_length;
 use walker::step;
 ghost use mathlib.Core.Path.{_≡_};
 ghost use mathlib.Core.List.{List};

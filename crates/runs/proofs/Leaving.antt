@@ -17,7 +17,7 @@ use Rattle.machine.specs.Ready.{Leads, Overruns, Missed, Asks, StackFits}
 use Rattle.machine.specs.Laws.Code.{fits-at}
 use Rattle.machine.specs.Laws.Loop.{Running, before-or, fits-now, move-run, leads-run, leads-join, running-start, ready-led, ReadyForSome, running-fits, running-stack, running-low}
 use Rattle.machine.specs.Laws.Ends.{ends-passed, ends-none}
-use Rattle.runs.proofs.Bytes.{length-strides}
+use Rattle.run_ends.proofs.Bytes.{length-strides}
 
 -- The run's own steps -----------------------------------------------------------
 

@@ -6,7 +6,7 @@ use lib.ListN.{drop, length-drop}
 use denote.Ref.{now}
 use Rattle.charset.specs.Class.{has}
 use Rattle.machine.specs.Words.{stackOf}
-use Rattle.runs.proofs.Bytes.{rest-whole}
+use Rattle.run_ends.proofs.Bytes.{rest-whole}
 use Rattle.runs.proofs.Leaving.{left-some, left-none, left-long}
 use borrow.Author.Needs.{needs}
 use Rattle.runs.proofs.leave_run.Statement.{statement}

@@ -1,9 +1,9 @@
 -- `run_steps` meets its contract: the two cases of whether the byte behind the run was tried.
 use mathlib.Core.Path.{sym, _∙_}
-use Rattle.runs.proofs.Bytes.{steps-full, steps-missed}
+use Rattle.run_ends.proofs.Bytes.{steps-full, steps-missed}
 use borrow.Author.Needs.{needs}
-use Rattle.runs.proofs.run_steps.Statement.{statement}
-use Rattle.runs.proofs.run_steps.Tie as tie
+use Rattle.run_ends.proofs.run_steps.Statement.{statement}
+use Rattle.run_ends.proofs.run_steps.Tie as tie
 
 mul-n : tie.Need-mul-n
 mul-n c = search needs

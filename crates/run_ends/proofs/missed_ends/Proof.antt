@@ -9,9 +9,9 @@ use borrow.Author.Needs.{needs}
 use Rattle.charset.specs.Class.{has}
 use Rattle.machine.specs.Ready.{Missed}
 use Rattle.machine.specs.Laws.Extent.{takes-here, takes-past}
-use Rattle.runs.proofs.Bytes.{missed-more}
-use Rattle.runs.proofs.missed_ends.Statement.{statement}
-use Rattle.runs.proofs.missed_ends.Tie as tie
+use Rattle.run_ends.proofs.Bytes.{missed-more}
+use Rattle.run_ends.proofs.missed_ends.Statement.{statement}
+use Rattle.run_ends.proofs.missed_ends.Tie as tie
 
 abbrev Inv-loop : tie.InvT-loop
 Inv-loop class sub high most n₀ n = (n ≤ most) × Missed sub (has class) high n

@@ -5,10 +5,10 @@ use native.Mathlib.Omega.{arith}
 use lib.ListN.{getD, drop, length-drop}
 use denote.Ref.{now}
 use Rattle.charset.specs.Class.{has}
-use Rattle.runs.proofs.Bytes.{rest-whole, extent-low, run-ends}
+use Rattle.run_ends.proofs.Bytes.{rest-whole, extent-low, run-ends}
 use borrow.Author.Needs.{needs}
-use Rattle.runs.proofs.run_length.Statement.{statement}
-use Rattle.runs.proofs.run_length.Tie as tie
+use Rattle.run_ends.proofs.run_length.Statement.{statement}
+use Rattle.run_ends.proofs.run_length.Tie as tie
 
 add-most : tie.Need-add-most
 add-most c = search needs

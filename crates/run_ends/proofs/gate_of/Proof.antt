@@ -7,8 +7,8 @@ use Rattle.charset.specs.Class.{has}
 use Rattle.machine.specs.Laws.Code.{fits-at}
 use Rattle.machine.specs.Laws.Ends.{asks-close}
 use borrow.Author.Needs.{needs}
-use Rattle.runs.proofs.gate_of.Statement.{statement}
-use Rattle.runs.proofs.gate_of.Tie as tie
+use Rattle.run_ends.proofs.gate_of.Statement.{statement}
+use Rattle.run_ends.proofs.gate_of.Tie as tie
 
 mul-if1 : tie.Need-mul-if1
 mul-if1 c = search needs

@@ -9,9 +9,9 @@ use borrow.Author.Tests.{not-true, not-false}
 use Rattle.charset.specs.Class.{has}
 use Rattle.machine.specs.Moves.{extent}
 use Rattle.machine.specs.Laws.Extent.{takes-here}
-use Rattle.runs.proofs.Bytes.{turn-on, turn-off, turn-past}
-use Rattle.runs.proofs.bytes_end.Statement.{statement}
-use Rattle.runs.proofs.bytes_end.Tie as tie
+use Rattle.run_ends.proofs.Bytes.{turn-on, turn-off, turn-past}
+use Rattle.run_ends.proofs.bytes_end.Statement.{statement}
+use Rattle.run_ends.proofs.bytes_end.Tie as tie
 
 abbrev Inv-loop : tie.InvT-loop
 Inv-loop class sub at stop i₀ i = i + extent sub (has class) (stop - i) i ≡ at + extent sub (has class) (stop - at) at

@@ -4,8 +4,8 @@ use native.Mathlib.Omega.{arith}
 use denote.Ref.{now}
 use Rattle.machine.specs.Laws.Ends.{asks-byte, asks-run}
 use borrow.Author.Needs.{needs}
-use Rattle.runs.proofs.item_gate.Statement.{statement}
-use Rattle.runs.proofs.item_gate.Tie as tie
+use Rattle.run_ends.proofs.item_gate.Statement.{statement}
+use Rattle.run_ends.proofs.item_gate.Tie as tie
 
 add-if1 : tie.Need-add-if1
 add-if1 c = search needs
