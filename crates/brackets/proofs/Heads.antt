@@ -24,7 +24,7 @@ use Rattle.syntax.specs.Laws.Forward.{Given, Past, if-given}
 use Rattle.lexemes.specs.declared.NameRead.{NameRead}
 use Rattle.lexemes.specs.declared.NameRead.the-variants.{Named, BadName}
 use Rattle.lexemes.specs.Says.{Peeked, SaysName, SaysNameUpTo}
-use Rattle.linker.specs.Table.{namesIn, NamesFit, length-names}
+use Rattle.name_table.specs.Table.{namesIn, NamesFit, length-names}
 use Rattle.brackets.specs.declared.Bracket.{Bracket}
 use Rattle.brackets.specs.declared.Bracket.the-variants.{Captures, Begins, Unknown}
 use Rattle.brackets.specs.declared.Opening.{Opening}

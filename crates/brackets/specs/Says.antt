@@ -12,7 +12,7 @@ use Rattle.syntax.specs.Read.{if_then_else_, Read, sound, refused, andThen}
 use Rattle.syntax.specs.Tree.{enclosed}
 use Rattle.syntax.specs.Names.{Names, nameUpTo, fresh}
 use Rattle.syntax.specs.Grammar.{Inner, closing, grouped, alternation, inside}
-use Rattle.linker.specs.Table.{namesIn, NamesFit}
+use Rattle.name_table.specs.Table.{namesIn, NamesFit}
 use Rattle.brackets.specs.declared.Bracket.{Bracket}
 use Rattle.brackets.specs.declared.Bracket.the-variants.{Captures, Begins, Unknown}
 use Rattle.brackets.specs.declared.Opening.{Opening}

@@ -3,7 +3,7 @@
 // to come before linking, since the linked rule does not tell where an alternation ends, and a repeat's place there gives way to its register.
 use linker::before_of;
 use linker::is_bracketed;
-use linker::word;
+use name_table::word;
 use syntax::Reason;
 use syntax::Refusal;
 ghost use mathlib.Core.Path.{_≡_};

@@ -10,7 +10,7 @@ use Rattle.syntax.specs.Reading.{unresolved}
 use Rattle.syntax.specs.Names.{Names}
 use Rattle.syntax.specs.Tree.{Rule, empty, item, seq, alt, group, repeat, held, look, Branches, also}
 use Rattle.linker.specs.declared.Linkage.the-variants.{Entry, NoGroup}
-use Rattle.linker.specs.Table.{Spelled, namesIn, NamesFit, names-are, names-fit}
+use Rattle.name_table.specs.Table.{Spelled, namesIn, NamesFit, names-are, names-fit}
 use Rattle.linker.specs.Nodes.{Branch, Chain, Inside, Several, Preceding}
 use Rattle.linker.specs.Linking.{Fits, FitAll, Stands, StandAll, Linkable, noted, Made, Links, LinksAll, LinksWhole}
 use Rattle.linker.specs.Stores.{PutTwo}

@@ -3,7 +3,6 @@ pub mod Regions
 pub mod Compiled
 mod Made
 mod Stores
-mod Called
 pub mod Trees
 mod Items
 mod Groups

@@ -13,7 +13,7 @@ use Rattle.syntax.specs.WellFormed.{Proper, Propers, height, heights}
 use Rattle.syntax.specs.Compiled.{Compiled, CompiledBranches}
 use Rattle.linker.specs.declared.Linkage.{Linkage}
 use Rattle.linker.specs.declared.Linkage.the-variants.{Entry, NoGroup}
-use Rattle.linker.specs.Table.{Spelled}
+use Rattle.name_table.specs.Table.{Spelled}
 use Rattle.linker.specs.Nodes.{Region, Inside, Several}
 
 -- What is asked ---------------------------------------------------------------

@@ -12,7 +12,7 @@ ghost use Rattle.syntax.specs.Limits.{groupLimit, nameLimit, nameEntry, nameInd
 ghost use Rattle.syntax.specs.Laws.Names.{Short};
 ghost use Rattle.semantics.specs.Calls.{over};
 ghost use Rattle.semantics.specs.NameIndex.{nameOf, entry, nameIndex};
-ghost use Rattle.linker.specs.Table.{namesIn, NamesFit};
+ghost use Rattle.name_table.specs.Table.{namesIn, NamesFit};
 
 // what stands behind a name up to the end of its entry
 const PADDING: u8 = 0;

@@ -16,7 +16,7 @@ use Rattle.syntax.specs.Grammar.{branch, further, alternation, inside}
 use Rattle.syntax.specs.Laws.Forward.{inside-on}
 use Rattle.syntax.specs.Laws.Fuel.{further-turn}
 use Rattle.lexemes.specs.Says.{Peeked}
-use Rattle.linker.specs.Table.{namesIn, NamesFit}
+use Rattle.name_table.specs.Table.{namesIn, NamesFit}
 use Rattle.linker.specs.Nodes.{Chain, Inside}
 use Rattle.linker.proofs.Regions.{preceding-same}
 use Rattle.parts.specs.declared.Cursor.{Cursor}

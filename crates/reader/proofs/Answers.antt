@@ -13,7 +13,7 @@ use Rattle.parts.specs.declared.Answer.{Answer}
 use Rattle.parts.specs.declared.Answer.the-variants.{Sound, Refused}
 use Rattle.parts.specs.declared.Turn.{Turn}
 use Rattle.parts.specs.declared.Turn.the-variants.{Goes, Ends}
-use Rattle.linker.specs.Table.{NamesFit}
+use Rattle.name_table.specs.Table.{NamesFit}
 use Rattle.parts.specs.Says.{price, Ready, Moves, Moved, MovedTurn, Told, NoneOpened, NoneOpenedTurn, Standing, Says, SaysTurn}
 use Rattle.reader.specs.Says.{Naming, Named, NamedTurn}
 

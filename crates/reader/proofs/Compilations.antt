@@ -23,7 +23,7 @@ use Rattle.syntax.specs.WellFormed.{levels, WellFormed}
 use Rattle.syntax.specs.Laws.Formation.{parsed-formed, well-formed}
 use Rattle.linker.specs.declared.Linkage.{Linkage}
 use Rattle.linker.specs.declared.Linkage.the-variants.{Entry, NoGroup}
-use Rattle.linker.specs.Table.{Spelled, namesIn, NamesFit, spelled-same, spelled-next, length-names}
+use Rattle.name_table.specs.Table.{Spelled, namesIn, NamesFit, spelled-same, spelled-next, length-names}
 use Rattle.linker.specs.Linking.{Fits, Linkable, Outside, Entered, Whole, LinksWhole}
 use Rattle.linker.specs.Laws.{fits-whole}
 use Rattle.linker.specs.Nodes.{Inside}

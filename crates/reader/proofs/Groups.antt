@@ -13,7 +13,7 @@ use Rattle.syntax.specs.Names.{Names}
 use Rattle.syntax.specs.Quantifiers.{quantifier}
 use Rattle.syntax.specs.Grammar.{Inner, closing, grouped, Sequence, repeatable, whole, nextItem, part, alternation, inside}
 use Rattle.lexemes.specs.Says.{Peeked}
-use Rattle.linker.specs.Table.{namesIn, NamesFit, length-names}
+use Rattle.name_table.specs.Table.{namesIn, NamesFit, length-names}
 use Rattle.linker.specs.Nodes.{Inside}
 use Rattle.parts.specs.declared.Cursor.{Cursor}
 use Rattle.parts.specs.declared.Answer.{Answer}

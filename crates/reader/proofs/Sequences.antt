@@ -17,7 +17,7 @@ use Rattle.syntax.specs.Laws.Forward.{inside-on}
 use Rattle.syntax.specs.Laws.Fuel.{sequence-turn}
 use Rattle.syntax.specs.Laws.Within.{ends-false}
 use Rattle.lexemes.specs.Says.{Peeked}
-use Rattle.linker.specs.Table.{namesIn, NamesFit}
+use Rattle.name_table.specs.Table.{namesIn, NamesFit}
 use Rattle.parts.specs.declared.Cursor.{Cursor}
 use Rattle.parts.specs.declared.Answer.the-variants.{Sound, Refused}
 use Rattle.parts.specs.declared.Turn.{Turn}

@@ -15,7 +15,7 @@ use Rattle.syntax.specs.Names.{Names}
 use Rattle.syntax.specs.Grammar.{alternation, inside}
 use Rattle.syntax.specs.Reading.{parsed}
 use Rattle.lexemes.specs.Says.{Peeked}
-use Rattle.linker.specs.Table.{namesIn}
+use Rattle.name_table.specs.Table.{namesIn}
 use Rattle.linker.specs.Nodes.{Inside}
 use Rattle.parts.specs.declared.Cursor.{Cursor}
 use Rattle.parts.specs.declared.Answer.{Answer}

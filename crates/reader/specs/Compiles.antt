@@ -14,7 +14,7 @@ use Rattle.syntax.specs.Tree.{Rule}
 use Rattle.syntax.specs.Reading.{namesOf, reading}
 use Rattle.syntax.specs.Checkable.{uncheckable}
 use Rattle.syntax.specs.Compiled.{Compiled}
-use Rattle.linker.specs.Table.{Spelled}
+use Rattle.name_table.specs.Table.{Spelled}
 use Rattle.reader.specs.Areas.{tableStart}
 use Rattle.reader.specs.declared.compiling.Compilation.{Compilation}
 use Rattle.reader.specs.declared.compiling.Compilation.the-variants.{Sound, Refused}

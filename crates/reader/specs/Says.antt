@@ -11,7 +11,7 @@ use Rattle.syntax.specs.Tree.{Rule, one}
 use Rattle.syntax.specs.Names.{Names}
 use Rattle.syntax.specs.Grammar.{grouped, branch, further, alternation, inside}
 use Rattle.syntax.specs.Reading.{parsed}
-use Rattle.linker.specs.Table.{namesIn, NamesFit}
+use Rattle.name_table.specs.Table.{namesIn, NamesFit}
 use Rattle.linker.specs.Nodes.{Chain, Inside}
 use Rattle.parts.specs.declared.Cursor.{Cursor}
 use Rattle.parts.specs.declared.Answer.{Answer}

@@ -17,7 +17,7 @@ use Rattle.syntax.specs.Laws.Names.{namesOf-few}
 use Rattle.reader.specs.declared.compiling.Compilation.{Compilation}
 use Rattle.reader.specs.declared.compiling.Compilation.the-variants.{Sound, Refused}
 use Rattle.reader.specs.Compiles.{Fails, Says, Compiles, Stands as Compiled}
-use Rattle.linker.specs.Table.{namesIn, NamesFit, spelled-same, names-fit, names-are}
+use Rattle.name_table.specs.Table.{namesIn, NamesFit, spelled-same, names-fit, names-are}
 use Rattle.linker.proofs.Compiled.{keep}
 use Rattle.reader.specs.Areas.{tableStart}
 use Rattle.machine.specs.Theorem.{Stands}

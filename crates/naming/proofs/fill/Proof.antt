@@ -9,7 +9,7 @@ use borrow.Rule.Slice.PartMut.{same-len-mid, post-is}
 use Rattle.syntax.specs.Limits.{groupLimit, nameEntry, nameIndexNeed}
 use Rattle.semantics.specs.NameIndex.{entries}
 use Rattle.semantics.specs.Calls.{over}
-use Rattle.linker.specs.Table.{namesIn, length-names}
+use Rattle.name_table.specs.Table.{namesIn, length-names}
 use Rattle.naming.specs.Laws.Entries.{entry-behind, index-padded}
 use borrow.Author.Needs.{needs}
 use Rattle.naming.proofs.fill.Statement.{statement}

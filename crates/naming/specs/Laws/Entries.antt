@@ -17,7 +17,7 @@ use Rattle.syntax.specs.Laws.Names.{Short}
 use Rattle.semantics.specs.NameIndex.{nameOf, entry, entries, nameIndex}
 use Rattle.semantics.specs.Calls.{over}
 use Rattle.semantics.specs.Laws.Areas.{over-more, entry-long, entries-long}
-use Rattle.linker.specs.Table.{namesIn, NamesFit, length-names}
+use Rattle.name_table.specs.Table.{namesIn, NamesFit, length-names}
 
 -- An entry --------------------------------------------------------------------------
 

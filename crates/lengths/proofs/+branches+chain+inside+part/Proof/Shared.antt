@@ -23,7 +23,7 @@ use Rattle.lengths.proofs.repeated.Reads as repeated-reads
 use Rattle.lengths.proofs.single.Reads as single-reads
 use Rattle.linker.proofs.before_of.Reads as before-of-reads
 use Rattle.linker.proofs.is_bracketed.Reads as is-bracketed-reads
-use Rattle.linker.proofs.word.Reads as word-reads
+use Rattle.name_table.proofs.word.Reads as word-reads
 
 abbrev pub μ-branches : Measures 1 branches-kinds.ps ℕ
 μ-branches κs a = 4 * a .1 .1 .1 .0 + 1

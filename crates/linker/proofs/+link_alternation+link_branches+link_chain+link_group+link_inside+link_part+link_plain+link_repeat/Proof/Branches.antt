@@ -5,7 +5,7 @@ use native.Mathlib.Omega.{arith}
 use borrow.Author.Needs.{needs}
 use lib.ListN.{length}
 use Rattle.syntax.specs.Limits.{ruleAreaNeed}
-use Rattle.linker.specs.Table.{namesIn}
+use Rattle.name_table.specs.Table.{namesIn}
 use Rattle.linker.proofs.Made.{links-near}
 use Rattle.linker.proofs.Branches.{AllGoing, all-start, all-turn, all-step, all-end}
 use Rattle.linker.proofs.link_branches.Reads.{Post}

@@ -4,7 +4,7 @@ use Prim.Native.Nat.{ℕ, _≤_}
 use native.Mathlib.Omega.{arith}
 use borrow.Author.Needs.{needs}
 use lib.ListN.{length}
-use Rattle.linker.specs.Table.{namesIn}
+use Rattle.name_table.specs.Table.{namesIn}
 use Rattle.linker.proofs.Chains.{Going, going-start, going-turn, going-step, going-end}
 use Rattle.linker.proofs.Items.{begins}
 use Rattle.linker.proofs.link_chain.Reads.{Post}

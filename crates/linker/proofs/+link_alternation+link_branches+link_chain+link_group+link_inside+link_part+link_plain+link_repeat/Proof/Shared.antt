@@ -35,7 +35,7 @@ use Rattle.linker.proofs.link_reference.Reads as link-reference-reads
 use Rattle.linker.proofs.link_named.Reads as link-named-reads
 use Rattle.linker.proofs.put.Reads as put-reads
 use Rattle.linker.proofs.put_two.Reads as put-two-reads
-use Rattle.linker.proofs.word.Reads as word-reads
+use Rattle.name_table.proofs.word.Reads as word-reads
 
 abbrev pub μ-link-alternation : Measures 3 link-alternation-kinds.ps ℕ
 μ-link-alternation κs a = 4 * a .1 .0 + 2

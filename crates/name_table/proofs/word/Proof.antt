@@ -2,8 +2,8 @@
 use mathlib.Core.Path.{refl}
 use native.Mathlib.Omega.{arith}
 use borrow.Author.Needs.{needs}
-use Rattle.linker.proofs.word.Statement.{statement}
-use Rattle.linker.proofs.word.Tie as tie
+use Rattle.name_table.proofs.word.Statement.{statement}
+use Rattle.name_table.proofs.word.Tie as tie
 
 mul-result : tie.Need-mul-result
 mul-result c = search needs

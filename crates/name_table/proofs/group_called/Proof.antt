@@ -4,10 +4,10 @@ use Prim.Native.Nat.{_+_, _≤_}
 use native.Mathlib.Omega.{arith}
 use lib.Seq.{slice}
 use Rattle.syntax.specs.Names.{groupCalled}
-use Rattle.linker.specs.Table.{namesIn}
-use Rattle.linker.proofs.Called.{called-here, called-below, called-none}
-use Rattle.linker.proofs.group_called.Statement.{statement}
-use Rattle.linker.proofs.group_called.Tie as tie
+use Rattle.name_table.specs.Table.{namesIn}
+use Rattle.name_table.proofs.Called.{called-here, called-below, called-none}
+use Rattle.name_table.proofs.group_called.Statement.{statement}
+use Rattle.name_table.proofs.group_called.Tie as tie
 
 abbrev Inv-loop : tie.InvT-loop
 Inv-loop rule table groups from len g₀ g = (g ≤ groups) × (groupCalled (slice from (from + len) rule) (namesIn rule table groups) ≡ groupCalled (slice from (from + len) rule) (namesIn rule table g))

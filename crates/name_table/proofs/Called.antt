@@ -12,7 +12,7 @@ use lib.ListN.{getD, length, take, length-drop, length-take}
 use lib.Seq.{slice, slice-cons, slice-empty}
 use Rattle.syntax.specs.Names.{Name, groupCalled}
 use Rattle.syntax.specs.Sets.{sameBytes}
-use Rattle.linker.specs.Table.{namesIn, length-names}
+use Rattle.name_table.specs.Table.{namesIn, length-names}
 
 add-suc-one : (n i : ℕ) → suc (n + i) ≡ n + (i + 1)
 add-suc-one n i = omega arith

@@ -4,9 +4,9 @@ use Prim.Native.Nat.{_+_, _-_, _≤_}
 use native.Mathlib.Omega.{arith}
 use lib.Seq.{slice}
 use Rattle.syntax.specs.Sets.{sameBytes}
-use Rattle.linker.proofs.Called.{agree, same-long, same-start, same-not, same-next, same-end}
-use Rattle.linker.proofs.same_name.Statement.{statement}
-use Rattle.linker.proofs.same_name.Tie as tie
+use Rattle.name_table.proofs.Called.{agree, same-long, same-start, same-not, same-next, same-end}
+use Rattle.name_table.proofs.same_name.Statement.{statement}
+use Rattle.name_table.proofs.same_name.Tie as tie
 
 abbrev Inv-loop : tie.InvT-loop
 Inv-loop rule from len other size i₀ i = (i ≤ size) × (sameBytes (slice from (from + len) rule) (slice other (other + size) rule) ≡ agree rule from len other size i)

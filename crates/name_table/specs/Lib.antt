@@ -1,0 +1,2 @@
+-- The table of names, and the laws of it.
+pub mod Table
