@@ -18,7 +18,8 @@ use Rattle.machine.specs.Ready.{nothing, until}
 use Rattle.machine.specs.Theorem.{Stands, Clear, begins}
 use Rattle.machine.specs.Laws.Loop.{until-nothing}
 use Rattle.openings.specs.declared.Opening.{Opening}
-use Rattle.openings.specs.Openings.{Outside, Opens, Passed}
+use Rattle.openings.specs.Openings.{Outside, Opens}
+use Rattle.skipping.specs.Passing.{Passed}
 use Rattle.noting.specs.declared.walking.Ends.{Ends}
 use Rattle.noting.specs.declared.walking.Ends.the-variants.{Done, Full, Spent}
 use Rattle.gathering.specs.declared.Listing.{Listing}
@@ -26,7 +27,7 @@ use Rattle.gathering.specs.declared.Listing.the-variants.{Complete, Full
 use Rattle.noting.specs.Noting.{Course, Going, Tells, Through, Listed, allListed, noneLeft, cutShort}
 use Rattle.gathering.specs.Listing.{listingOf, Lists, Between}
 use Rattle.frame.specs.Laws.Areas.{over-none}
-use Rattle.openings.specs.Laws.Passing.{passes}
+use Rattle.skipping.specs.Laws.{passes}
 
 -- before the first start
 pub between-first : (sub : List ℕ) (x : Rule) (budget : ℕ) (area : List ℕ) → Between sub x budget area area 0 0 0

@@ -3,7 +3,7 @@ use crate::Listing;
 use noting::Ends;
 use noting::list_start;
 use openings::find_opening;
-use openings::pass_starts;
+use skipping::pass_starts;
 ghost use mathlib.Core.Path.{_≡_};
 ghost use Prim.Native.Nat.{_*_, _≤_, _<_, _^_};
 ghost use lib.ListN.{length};

@@ -5,8 +5,7 @@ use mathlib.Core.Path.{_≡_}
 use mathlib.Core.List.{List, []}
 use mathlib.Core.Logic.{_⊎_}
 use mathlib.Core.Bool.{Bool, false}
-use Prim.Native.Nat.{ℕ, _≤_, _<_}
-use lib.ListN.{length}
+use Prim.Native.Nat.{ℕ, _≤_}
 use Rattle.charset.specs.Class.{has}
 use Rattle.semantics.specs.Walk.{Trace}
 use Rattle.machine.specs.Moves.{Bytes, go, takes}
@@ -24,14 +23,3 @@ pub record Skips (p : List ℕ) (entry budget : ℕ) (set : List ℕ) (any : Boo
 -- nothing is known, or a set and its steps
 abbrev pub Opens : (p : List ℕ) (entry budget : ℕ) → Opening → Type 0
 Opens p entry budget o = (o .cost ≡ 0) ⊎ Skips p entry budget (o .set) (o .any) (o .cost)
-
--- no byte from one position up to another is in the set
-abbrev pub Misses : (set sub : List ℕ) (begin from : ℕ) → Type 0
-Misses set sub begin from = (i : ℕ) → begin ≤ i → i < from → takes sub (has set) i ≡ false
-
--- from one start to another, and those between cannot begin
-pub record Passed (set : List ℕ) (any : Bool) (sub : List ℕ) (cost begin from : ℕ) : Type 0 where
-  pub on : begin ≤ from
-  pub inside : (from ≡ begin) ⊎ (from ≤ length sub)
-  pub none : cost ≡ 0 → from ≡ begin
-  pub missed : (i : ℕ) → begin ≤ i → i < from → Outside set any sub i

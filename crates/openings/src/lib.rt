@@ -1,6 +1,6 @@
 // Starts that cannot begin. From a compiled rule comes a set of bytes and a number of steps, such that the walk from a start whose byte is
 // not in the set makes exactly so many steps and reaches no end. A caller that looks for a match then passes over whole stretches of such
-// starts, adds the steps of each, and finds what it would have found by walking them.
+// starts, adds the steps of each, and finds what it would have found by walking them (`skipping`).
 //
 // The set is found by following the machine on a walk in which every byte fails: groups are opened, branches tried one after the other,
 // rounds begun, and the byte item that each way ends at gives its bytes to the set and its steps to the number. At such a start no way takes
@@ -11,11 +11,8 @@
 // its end, to a reference or to an assertion other than the text's start without taking one, has no such set, and every start is walked.
 mod finding;
 mod nodes;
-mod skipping;
 
 pub use finding::find_opening;
-pub use skipping::next_start;
-pub use skipping::pass_starts;
 
 // The bytes that a start from 1 on can begin with, and the steps of one that cannot. No steps: nothing is known. Not any: no byte can begin,
 // so that no start but 0 can.

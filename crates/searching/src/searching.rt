@@ -2,9 +2,9 @@
 // counted.
 use crate::tries::try_first;
 use machine::Stop;
-use openings::next_start;
 use seeking::Sought;
 use seeking::seek;
+use skipping::next_start;
 ghost use Prim.Native.Nat.{_≤_};
 ghost use lib.ListN.{length};
 ghost use Rattle.syntax.specs.Tree.{Rule};

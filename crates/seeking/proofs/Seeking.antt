@@ -14,7 +14,7 @@ use Rattle.machine.specs.Moves.{go}
 use Rattle.machine.specs.Ready.{until, Ready, Agrees}
 use Rattle.machine.specs.Theorem.{Stands, at-end, at-nothing, at-spent}
 use Rattle.openings.specs.declared.Opening.{Opening}
-use Rattle.openings.specs.Openings.{Passed}
+use Rattle.skipping.specs.Passing.{Passed}
 use Rattle.seeking.specs.declared.Sought.{Sought}
 use Rattle.seeking.specs.declared.Sought.the-variants.{Found, Nothing as Missed, Spent as Cut}
 use Rattle.seeking.specs.Starts.{Seeks, Near, Answers}

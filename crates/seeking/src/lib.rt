@@ -8,7 +8,7 @@ mod straight;
 
 use machine::Stop;
 use machine::start;
-use openings::next_start;
+use skipping::next_start;
 use straight::fails_soon;
 use straight::looks_at;
 use walker::run_to_end;

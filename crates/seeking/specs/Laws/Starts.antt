@@ -19,8 +19,9 @@ use Rattle.machine.specs.Ready.{ended, nothing, spent, until, Ready}
 use Rattle.machine.specs.Theorem.{Stands, Clear, begins, enough-room}
 use Rattle.machine.specs.Laws.Loop.{until-ended, until-nothing, until-spent}
 use Rattle.openings.specs.declared.Opening.{Opening}
-use Rattle.openings.specs.Openings.{Outside, Opens, Passed}
-use Rattle.openings.specs.Laws.Passing.{passes}
+use Rattle.openings.specs.Openings.{Outside, Opens}
+use Rattle.skipping.specs.Passing.{Passed}
+use Rattle.skipping.specs.Laws.{passes}
 use Rattle.frame.specs.Inputs.{Held}
 use Rattle.index.specs.Rows.{rowOf}
 use Rattle.index.specs.Laws.Rows.{rowOf-row}

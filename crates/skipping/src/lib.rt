@@ -1,9 +1,9 @@
-// Passing over starts that cannot begin.
+// Passing over starts that cannot begin: those whose byte is not in the set that `openings` finds. Each costs its known steps, and a look at its byte.
 ghost use mathlib.Core.Path.{_≡_};
 ghost use Prim.Native.Nat.{_+_, _-_, _*_, _≤_, _<_, _^_};
 ghost use lib.ListN.{length};
 ghost use Rattle.syntax.specs.Limits.{subjectLimit};
-ghost use Rattle.openings.specs.Openings.{Passed, Misses};
+ghost use Rattle.skipping.specs.Passing.{Passed, Misses};
 
 // Which of the four bytes from `at` on is the first that is in the set, or 4. Four looks in a row nearly halve the time of a skipped byte.
 fn nearby(set: &[u32; 8], subject: &[u8], at: usize) -> usize

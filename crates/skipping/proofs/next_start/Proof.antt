@@ -4,8 +4,8 @@ use mathlib.Core.Logic.{inl}
 use Prim.Native.Nat.{ℕ, _+_, _-_, _*_}
 use native.Mathlib.Omega.{arith}
 use borrow.Author.Needs.{needs}
-use Rattle.openings.proofs.skipping.next_start.Statement.{statement}
-use Rattle.openings.proofs.skipping.next_start.Tie as tie
+use Rattle.skipping.proofs.next_start.Statement.{statement}
+use Rattle.skipping.proofs.next_start.Tie as tie
 
 shared-slice-read-contains : tie.Need-shared-slice-read-contains
 shared-slice-read-contains c = search needs

@@ -3,9 +3,9 @@ use Prim.Native.Nat.{_+_}
 use native.Mathlib.Omega.{arith}
 use borrow.Author.Needs.{needs}
 use denote.Ref.{now}
-use Rattle.openings.proofs.Passing.{misses-none, misses-next}
-use Rattle.openings.proofs.skipping.nearby.Statement.{statement}
-use Rattle.openings.proofs.skipping.nearby.Tie as tie
+use Rattle.skipping.proofs.Passing.{misses-none, misses-next}
+use Rattle.skipping.proofs.nearby.Statement.{statement}
+use Rattle.skipping.proofs.nearby.Tie as tie
 
 shared-slice-read-contains : tie.Need-shared-slice-read-contains
 shared-slice-read-contains c = search needs

@@ -4,10 +4,10 @@ use Prim.Native.Nat.{_+_, _-_, _≤_}
 use native.Mathlib.Omega.{arith}
 use lib.ListN.{length}
 use denote.Ref.{now}
-use Rattle.openings.specs.Openings.{Misses}
-use Rattle.openings.proofs.Passing.{misses-none, misses-then}
-use Rattle.openings.proofs.skipping.skip_fours.Statement.{statement}
-use Rattle.openings.proofs.skipping.skip_fours.Tie as tie
+use Rattle.skipping.specs.Passing.{Misses}
+use Rattle.skipping.proofs.Passing.{misses-none, misses-then}
+use Rattle.skipping.proofs.skip_fours.Statement.{statement}
+use Rattle.skipping.proofs.skip_fours.Tie as tie
 
 abbrev Inv-loop : tie.InvT-loop
 Inv-loop set subject at end i₀ i = (at ≤ i) × (i ≤ length subject) × Misses set subject at i

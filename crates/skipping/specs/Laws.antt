@@ -6,7 +6,8 @@ use mathlib.Core.Bool.{Bool}
 use Prim.Native.Nat.{ℕ, zero, suc, _+_, _-_, _*_, _≤_, _<_}
 use native.Mathlib.Omega.{arith}
 use lib.ListN.{length}
-use Rattle.openings.specs.Openings.{Outside, Passed}
+use Rattle.openings.specs.Openings.{Outside}
+use Rattle.skipping.specs.Passing.{Passed}
 
 -- `P start steps` is what is carried
 module _ (P : ℕ → ℕ → Type 0) (cost : ℕ) where

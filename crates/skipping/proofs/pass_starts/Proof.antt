@@ -9,9 +9,9 @@ use native.Mathlib.Omega.{arith}
 use lib.ListN.{length}
 use borrow.Author.Needs.{needs}
 use Rattle.syntax.specs.Limits.{subjectLimit}
-use Rattle.openings.specs.Openings.{Passed}
-use Rattle.openings.proofs.skipping.pass_starts.Statement.{statement}
-use Rattle.openings.proofs.skipping.pass_starts.Tie as tie
+use Rattle.skipping.specs.Passing.{Passed}
+use Rattle.skipping.proofs.pass_starts.Statement.{statement}
+use Rattle.skipping.proofs.pass_starts.Tie as tie
 
 skip-starts-requires : tie.Need-skip-starts-requires
 unfolding subjectLimit

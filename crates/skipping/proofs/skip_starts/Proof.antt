@@ -5,9 +5,9 @@ use native.Mathlib.Omega.{arith}
 use borrow.Author.Tests.{not-true}
 use borrow.Author.Needs.{needs}
 use denote.Ref.{now}
-use Rattle.openings.proofs.Passing.{misses-then}
-use Rattle.openings.proofs.skipping.skip_starts.Statement.{statement}
-use Rattle.openings.proofs.skipping.skip_starts.Tie as tie
+use Rattle.skipping.proofs.Passing.{misses-then}
+use Rattle.skipping.proofs.skip_starts.Statement.{statement}
+use Rattle.skipping.proofs.skip_starts.Tie as tie
 
 returns : tie.Need-returns
 returns c = record { on = omega arith; inside = inl refl; none = λ _. refl; missed = λ i l m. absurd (omega arith) }

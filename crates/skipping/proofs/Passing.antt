@@ -10,7 +10,7 @@ use borrow.Author.Tests.{ltb-true, ltb-false}
 use Rattle.charset.specs.Class.{has}
 use Rattle.machine.specs.Moves.{takes}
 use Rattle.machine.specs.Laws.Extent.{takes-here}
-use Rattle.openings.specs.Openings.{Misses}
+use Rattle.skipping.specs.Passing.{Misses}
 
 module _ (set sub : List ℕ) where
   pub misses-none : (a b : ℕ) → b ≤ a → Misses set sub a b
