@@ -13,6 +13,8 @@ samples =
     ∷ listing "^" 2 "a\nb\n" 99 9 (Complete 2 7) (rowOf 0 0 [] ∷ rowOf 2 2 [] ∷ [])
     -- S7: a reference to an unset group costs one step
     ∷ matching "\\1(a)" 0 "a" 99 (NotMatched 2) []
+    -- 02 L1: an inner end costs its step
+    ∷ matching "(?=a)" 0 "a" 99 (Matched 4) (rowOf 0 0 [] ∷ [])
     ∷ []
 
 pub samples-hold : map calls samples ≡ map expected samples
