@@ -1,9 +1,8 @@
 -- What stands for the lines of a rule that stands compiled: each line's part, made from what a match of that line alone returns.
 -- docs/REFERENCE.md, 16.6, 18.4
-use Rattle.std.specs.Prelude.{◌≡◌, List, [], ◌∷◌, ◌++◌, ℕ, length, take, drop, ltb}
+use Rattle.std.specs.Prelude.{◌≡◌, List, [], ◌∷◌, ◌++◌, ℕ, length, take, drop, ltb, if◌then◌else◌}
 use Rattle.syntax.specs.declared.Reason.TheVariants.{SubjectTooLong}
 use Rattle.syntax.specs.Limits.{subject_limit, row_length, part_length}
-use Rattle.syntax.specs.Read.{if◌then◌else◌}
 use Rattle.syntax.specs.Tree.{Rule}
 use Rattle.semantics.specs.Calls.{Call, Return, untouched, MatchOutcome, match_refused, match_rule}
 use Rattle.semantics.specs.Batches.{told}

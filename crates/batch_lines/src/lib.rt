@@ -8,7 +8,7 @@
 // left. What a line's match leaves in the work area is never looked at by the next, so that nothing is cleared between them and no line can change what
 // is told of another.
 mod halves;
-mod parts;
+mod line_parts;
 
 ghost use Rattle.std.specs.Prelude.{◌≡◌, [], ◌≤◌, length, drop};
 ghost use Rattle.syntax.specs.Limits.{group_limit};
@@ -23,9 +23,9 @@ ghost use Rattle.batch_lines.specs.Parts.{Fills};
 use frame::REGISTERS;
 pub use halves::{high_half, low_half};
 use index::UNSET;
+pub use line_parts::PART_LENGTH;
+use line_parts::match_part;
 use openings::find_opening;
-pub use parts::PART_LENGTH;
-use parts::match_part;
 use text::line_end;
 
 // Writes the parts of all lines of a buffer, by a rule that stands compiled and has so many groups. The registers are written once, and then only those of

@@ -1,4 +1,5 @@
 -- The opening of a group: which case of the grammar follows from the bytes that the code met, and what the table of names then spells.
+use Rattle.std.specs.Prelude.{if◌then◌else◌}
 use mathlib.Core.Path.{◌≡◌, refl, ap, subst, ◌∙◌}
 use mathlib.Core.Bool.{Bool, true, false, not, ◌&&◌, ◌||◌}
 use mathlib.Core.List.{List, [], ◌∷◌}
@@ -15,7 +16,7 @@ use Rattle.syntax.specs.declared.Form.TheVariants.{Grouped, Captured, Held, Ahea
 use Rattle.syntax.specs.declared.Reason.TheVariants.{UnknownGroup, TooManyGroups, TooDeep, NameTwice}
 use Rattle.syntax.specs.declared.Refusal.{Refusal}
 use Rattle.syntax.specs.Limits.{group_limit, spans_length}
-use Rattle.syntax.specs.Read.{if◌then◌else◌, byte, is, Read, sound, refused, and_then}
+use Rattle.syntax.specs.Read.{byte, is, Read, sound, refused, and_then}
 use Rattle.syntax.specs.Sets.{same_bytes}
 use Rattle.syntax.specs.Tree.{Rule, enclosed}
 use Rattle.syntax.specs.Names.{Name, Names, word_at, is_name, name_up_to, is_used, fresh, group_called}

@@ -1,10 +1,10 @@
 -- What the readers of the openings of groups promise: their answers are those of the grammar, and the names of the groups opened stand in the table.
 -- docs/REFERENCE.md, 9
-use Rattle.std.specs.Prelude.{◌≡◌, Bool, List, [], ◌∷◌, ℕ, ◌+◌, ◌-◌, ◌≤◌, length}
+use Rattle.std.specs.Prelude.{◌≡◌, Bool, List, [], ◌∷◌, ℕ, ◌+◌, ◌-◌, ◌≤◌, length, if◌then◌else◌}
 use Rattle.syntax.specs.declared.Form.{Form}
 use Rattle.syntax.specs.declared.Form.TheVariants.{Grouped, Captured, Held, Ahead, NotAhead}
 use Rattle.syntax.specs.Limits.{group_limit}
-use Rattle.syntax.specs.Read.{if◌then◌else◌, Read, sound, refused, and_then}
+use Rattle.syntax.specs.Read.{Read, sound, refused, and_then}
 use Rattle.syntax.specs.Tree.{enclosed}
 use Rattle.syntax.specs.Names.{Names, name_up_to, fresh}
 use Rattle.syntax.specs.Grammar.{Inner, closing, grouped, alternation, inside}

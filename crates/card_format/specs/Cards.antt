@@ -1,12 +1,12 @@
 -- Rule cards, 02's request i): "A second crate above the matcher reads and writes a rule card: records of one byte of kind and a body whose length the
 -- kind fixes." What a card is made of, how bytes are read as one, and the two calls.
 -- docs/REFERENCE.md, 17
-use Rattle.std.specs.Prelude.{List, [], ◌∷◌, ◌++◌, map, Bool, true, not, ◌&&◌, ℕ, zero, suc, ◌+◌, ◌-◌, ◌*◌, ◌/◌, ◌%◌, ◌^◌, ltb, leb, eqb, length, get_or, take, drop, replicate}
+use Rattle.std.specs.Prelude.{List, [], ◌∷◌, ◌++◌, map, Bool, true, not, ◌&&◌, ℕ, zero, suc, ◌+◌, ◌-◌, ◌*◌, ◌/◌, ◌%◌, ◌^◌, ltb, leb, eqb, length, get_or, take, drop, replicate, if◌then◌else◌}
 use Rattle.std.proofs.Math.Option.{Option, none, some}
 use Rattle.syntax.specs.declared.Reason.{Reason}
 use Rattle.syntax.specs.declared.Reason.TheVariants.{RuleTooLong, UnknownFlag, BudgetTooLarge, RuleAreaShort, WrittenAreaShort, UnknownKind, CardCutShort, WrongRecords, StrayBytes, WrongGroupNumber}
 use Rattle.syntax.specs.Limits.{rule_limit, rule_area_need, flag_bits}
-use Rattle.syntax.specs.Read.{if◌then◌else◌, Read, sound, refused}
+use Rattle.syntax.specs.Read.{Read, sound, refused}
 use Rattle.syntax.specs.Sets.{same_bytes}
 use Rattle.syntax.specs.Tree.{Rule}
 use Rattle.syntax.specs.Reading.{reading}

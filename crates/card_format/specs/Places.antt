@@ -1,7 +1,6 @@
 -- Where the bytes of a card stand, and what stands at a position.
 -- docs/REFERENCE.md, 17.1
-use Rattle.std.specs.Prelude.{List, ℕ, suc, ◌+◌, ◌-◌, ◌*◌, ◌/◌, ◌%◌, eqb, get_or}
-use Rattle.syntax.specs.Read.{if◌then◌else◌}
+use Rattle.std.specs.Prelude.{List, ℕ, suc, ◌+◌, ◌-◌, ◌*◌, ◌/◌, ◌%◌, eqb, get_or, if◌then◌else◌}
 use Rattle.card_format.specs.Cards.{settings_body, piece_kind, piece_body, pieces_for}
 
 -- where the records of a rule's bytes end, behind the settings

@@ -1,7 +1,7 @@
 -- A rule card in words: its rule, what its flags do, its budget and the number of its groups.
 -- docs/REFERENCE.md, 19.4
-use Rattle.std.specs.Prelude.{List, [], ◌∷◌, ◌++◌, Bool, true, false, ℕ, eqb}
-use Rattle.syntax.specs.Read.{if◌then◌else◌, bytes}
+use Rattle.std.specs.Prelude.{List, [], ◌∷◌, ◌++◌, Bool, true, false, ℕ, eqb, if◌then◌else◌}
+use Rattle.syntax.specs.Read.{bytes}
 use Rattle.syntax.specs.Flags.{dot_all, multiline, ignore_case, extended, depot}
 use Rattle.text.specs.Lines.{newline}
 use Rattle.text.specs.Numbers.{decimal}

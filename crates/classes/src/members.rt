@@ -1,7 +1,7 @@
 // The members of a class. `from` is the position of the class's `[`, the place of a class that is not closed; `strict` asks for the depot profile.
-ghost use Rattle.std.specs.Prelude.{◌≡◌, true, not, ◌&&◌, ◌<◌, length};
+ghost use Rattle.std.specs.Prelude.{◌≡◌, true, not, ◌&&◌, ◌<◌, length, if◌then◌else◌};
 ghost use Rattle.syntax.specs.declared.Reason.TheVariants.{BadRange, MixedRange};
-ghost use Rattle.syntax.specs.Read.{if◌then◌else◌, sound, refused, and_then};
+ghost use Rattle.syntax.specs.Read.{sound, refused, and_then};
 ghost use Rattle.syntax.specs.Sets.{range};
 ghost use Rattle.syntax.specs.Classes.{element, range_end, alike, range_of, makes_range, member};
 ghost use Rattle.escapes.specs.Says.{member_of};

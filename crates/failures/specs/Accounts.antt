@@ -1,5 +1,5 @@
 -- The two accounts that an explanation keeps over the walk from a start: the first of its greatest failures, and the marks of those at a position.
-use Rattle.std.specs.Prelude.{◌≡◌, List, [], ◌∷◌, Bool, ◌&&◌, ℕ, zero, suc, ◌≤◌, eqb, set}
+use Rattle.std.specs.Prelude.{◌≡◌, List, [], ◌∷◌, Bool, ◌&&◌, ℕ, zero, suc, ◌≤◌, eqb, set, if◌then◌else◌}
 use Rattle.std.proofs.Math.Path.{refl}
 use Rattle.std.proofs.Common.{ap, arith}
 use Rattle.std.proofs.Math.Bool.{true, false}
@@ -7,7 +7,6 @@ use Rattle.std.proofs.Math.Option.{Option, none, some}
 use borrow.Author.Tests.{lt-ltb, le-ltb, ltb-true, ltb-false}
 use Rattle.std.proofs.Math.Dec.{ltb}
 use Rattle.syntax.specs.Limits.{unset}
-use Rattle.syntax.specs.Read.{if◌then◌else◌}
 use Rattle.semantics.specs.Explanations.{Failure, greater, position}
 use Rattle.machine.specs.Laws.Run.{Account}
 use Rattle.greatest.specs.Leading.{failing, better, would_lead, note_of, settled}

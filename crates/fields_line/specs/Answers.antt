@@ -1,8 +1,7 @@
 -- The line of the table for a line: "its number, one word and each named field by the lookup".
 -- docs/REFERENCE.md, 19.3
-use Rattle.std.specs.Prelude.{List, [], ◌∷◌, Bool, false, ℕ, ltb, eqb, length, get_or}
+use Rattle.std.specs.Prelude.{List, [], ◌∷◌, Bool, false, ℕ, ltb, eqb, length, get_or, if◌then◌else◌}
 use Rattle.syntax.specs.Limits.{subject_limit}
-use Rattle.syntax.specs.Read.{if◌then◌else◌}
 use Rattle.syntax.specs.Tree.{Rule}
 use Rattle.semantics.specs.States.{Row, row}
 use Rattle.semantics.specs.Answers.{Outcome, matched, not_matched, exhausted, answer, Ending, complete, full, exhausted_at, Listing, listing}

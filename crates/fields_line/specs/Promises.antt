@@ -1,8 +1,7 @@
 -- What the functions promise.
 -- docs/REFERENCE.md, 19.3
-use Rattle.std.specs.Prelude.{◌≡◌, Bool, false, List, ℕ, ◌≤◌, eqb, length, get_or}
+use Rattle.std.specs.Prelude.{◌≡◌, Bool, false, List, ℕ, ◌≤◌, eqb, length, get_or, if◌then◌else◌}
 use Rattle.syntax.specs.Limits.{budget_limit, rule_area_need}
-use Rattle.syntax.specs.Read.{if◌then◌else◌}
 use Rattle.syntax.specs.Tree.{Rule}
 use Rattle.syntax.specs.WellFormed.{WellFormed}
 use Rattle.semantics.specs.States.{Row}

@@ -4,7 +4,7 @@
 -- docs/REFERENCE.md, 19.3
 use Rattle.std.proofs.Math.Path.{◌≡◌, refl, ap}
 use Rattle.std.proofs.Common.{sym, ◌∙◌}
-use Rattle.std.specs.Prelude.{Bool, not, ◌&&◌, ◌||◌, ℕ, ◌+◌, ◌≤◌, ◌<◌, leb, eqb, length}
+use Rattle.std.specs.Prelude.{Bool, not, ◌&&◌, ◌||◌, ℕ, ◌+◌, ◌≤◌, ◌<◌, leb, eqb, length, if◌then◌else◌}
 use Rattle.std.proofs.Math.Bool.{true, false}
 use mathlib.Core.List.{List, [], ◌∷◌}
 use Rattle.std.proofs.Math.Logic.{inl, inr}
@@ -14,7 +14,7 @@ use Rattle.std.proofs.Math.Dec.{ltb}
 use Rattle.std.proofs.Math.ListN.{get_or}
 use Rattle.std.proofs.lemmas.List.{length-map}
 use Rattle.syntax.specs.Limits.{subject_limit}
-use Rattle.syntax.specs.Read.{if◌then◌else◌, bytes}
+use Rattle.syntax.specs.Read.{bytes}
 use Rattle.syntax.specs.Sets.{same_bytes}
 use Rattle.syntax.specs.Tree.{Rule}
 use Rattle.semantics.specs.States.{State, Row, row}
@@ -112,6 +112,7 @@ module _ (index line standing : List ℕ) where
   unfolding is_ambiguous
   not-other names x (z ∷ rows) e y (inl i) = rw (← i) (or-false (is_other index line standing names x z) (is_ambiguous index line standing names x rows) e).0
   not-other names x (z ∷ rows) e y (inr i) = not-other names x rows (or-false (is_other index line standing names x z) (is_ambiguous index line standing names x rows) e).1 y i
+  not-other names x [] e y h = elim h [ ]
 
   -- readings that agree have the same fields
   same-fields : (x y : Row) (names : List (List ℕ)) → agree index line standing x y names ≡ true → fields index line standing 0 y names ≡ fields index line standing 0 x names

@@ -1,7 +1,6 @@
 -- A row of the table in parts: a field may be longer than the buffer.
 -- docs/REFERENCE.md, 19.3
-use Rattle.std.specs.Prelude.{List, [], ◌∷◌, ◌++◌, ℕ, eqb, drop}
-use Rattle.syntax.specs.Read.{if◌then◌else◌}
+use Rattle.std.specs.Prelude.{List, [], ◌∷◌, ◌++◌, ℕ, eqb, drop, if◌then◌else◌}
 use Rattle.text.specs.Lines.{newline}
 use Rattle.fields_text.specs.Escaping.{escaped}
 use Rattle.fields_text.specs.Table.{tab, cells}

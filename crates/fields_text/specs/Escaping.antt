@@ -1,8 +1,8 @@
 -- A field as it stands in the table: "Tabs, backslashes and odd bytes in fields are escaped in the usual way, so that a line can never forge a
 -- column." Odd are the bytes below 20 and above 7E (hex).
 -- docs/REFERENCE.md, 19.3
-use Rattle.std.specs.Prelude.{List, [], ◌∷◌, ◌++◌, Bool, ◌&&◌, ℕ, ◌+◌, ◌/◌, ◌%◌, leb, ltb, eqb}
-use Rattle.syntax.specs.Read.{if◌then◌else◌, bytes}
+use Rattle.std.specs.Prelude.{List, [], ◌∷◌, ◌++◌, Bool, ◌&&◌, ℕ, ◌+◌, ◌/◌, ◌%◌, leb, ltb, eqb, if◌then◌else◌}
+use Rattle.syntax.specs.Read.{bytes}
 
 -- `0` to `9`, then `A` to `F`
 unfoldable pub hex_digit : ℕ → ℕ

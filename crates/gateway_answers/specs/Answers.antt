@@ -1,9 +1,9 @@
 -- The rule that the gateway program reads, and its answer to a line: 01, "The gateway program".
 -- docs/REFERENCE.md, 19.1
-use Rattle.std.specs.Prelude.{List, ℕ, length, ltb}
+use Rattle.std.specs.Prelude.{List, ℕ, length, ltb, if◌then◌else◌}
 use Rattle.syntax.specs.declared.Reason.TheVariants.{RuleTooLong}
 use Rattle.syntax.specs.Limits.{rule_limit}
-use Rattle.syntax.specs.Read.{if◌then◌else◌, Read, refused}
+use Rattle.syntax.specs.Read.{Read, refused}
 use Rattle.syntax.specs.Tree.{Rule}
 use Rattle.syntax.specs.Reading.{reading}
 use Rattle.semantics.specs.Answers.{answer}

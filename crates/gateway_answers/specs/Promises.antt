@@ -1,10 +1,10 @@
 -- What the functions promise.
 -- docs/REFERENCE.md, 19.1
-use Rattle.std.specs.Prelude.{◌≡◌, Bool, true, false, ◌⊎◌, List, ℕ, ◌≤◌, length, drop, ltb}
+use Rattle.std.specs.Prelude.{◌≡◌, Bool, true, false, ◌⊎◌, List, ℕ, ◌≤◌, length, drop, ltb, if◌then◌else◌}
 use Rattle.syntax.specs.declared.Refusal.{Refusal}
 use Rattle.syntax.specs.Limits.{rule_area_need, row_length, group_limit}
 use Rattle.syntax.specs.Refusals.{number_of}
-use Rattle.syntax.specs.Read.{if◌then◌else◌, sound, refused}
+use Rattle.syntax.specs.Read.{sound, refused}
 use Rattle.syntax.specs.Tree.{Rule}
 use Rattle.semantics.specs.States.{Row, row}
 use Rattle.semantics.specs.Answers.{Outcome, matched, not_matched, exhausted, answer}

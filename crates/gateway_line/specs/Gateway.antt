@@ -1,10 +1,10 @@
 -- The whole gateway program as a function of what it reads. 01: "It reads `rule.txt` up to its first 0A (flags 0), then standard input line
 -- by line, budget 1,000."
 -- docs/REFERENCE.md, 19.1
-use Rattle.std.specs.Prelude.{List, [], ◌∷◌, ◌++◌, ℕ, take, eqb}
+use Rattle.std.specs.Prelude.{List, [], ◌∷◌, ◌++◌, ℕ, take, eqb, if◌then◌else◌}
 use Rattle.std.proofs.Math.Option.{Option, none, some}
 use Rattle.syntax.specs.Refusals.{number_of}
-use Rattle.syntax.specs.Read.{if◌then◌else◌, Read, sound, refused}
+use Rattle.syntax.specs.Read.{Read, sound, refused}
 use Rattle.syntax.specs.Tree.{Rule}
 use Rattle.text.specs.Lines.{newline, line_length}
 use Rattle.gateway_text.specs.Lines.{refusal_line, unreadable_line}

@@ -1,8 +1,8 @@
 -- The lines that the gateway program writes: 01, "The gateway program".
 -- docs/REFERENCE.md, 19.1
-use Rattle.std.specs.Prelude.{List, [], ◌∷◌, ◌++◌, ℕ, zero, suc, ◌+◌, ◌*◌, get_or, eqb}
+use Rattle.std.specs.Prelude.{List, [], ◌∷◌, ◌++◌, ℕ, zero, suc, ◌+◌, ◌*◌, get_or, eqb, if◌then◌else◌}
 use Rattle.syntax.specs.Limits.{unset}
-use Rattle.syntax.specs.Read.{if◌then◌else◌, bytes}
+use Rattle.syntax.specs.Read.{bytes}
 use Rattle.semantics.specs.States.{Row, row}
 use Rattle.semantics.specs.Answers.{Outcome, matched, not_matched, exhausted}
 use Rattle.text.specs.Lines.{newline}

@@ -1,8 +1,7 @@
 -- What is kept of the walk from one start, and what the code keeps of it, as the failure that it means.
-use Rattle.std.specs.Prelude.{List, [], ◌∷◌, Bool, true, false, ◌&&◌, ℕ, zero, suc, ltb}
+use Rattle.std.specs.Prelude.{List, [], ◌∷◌, Bool, true, false, ◌&&◌, ℕ, zero, suc, ltb, if◌then◌else◌}
 use Rattle.std.proofs.Math.Option.{Option, none, some}
 use Rattle.syntax.specs.Limits.{unset}
-use Rattle.syntax.specs.Read.{if◌then◌else◌}
 use Rattle.semantics.specs.Explanations.{Failure, greater, position}
 use Rattle.plain.specs.declared.Missed.{Missed}
 use Rattle.greatest.specs.declared.leading.Kept.{Kept}

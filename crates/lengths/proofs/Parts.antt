@@ -1,4 +1,5 @@
 -- A part, by its kind: where what it holds stands, that this is no deeper, and what is found of the part from what was found of that.
+use Rattle.std.specs.Prelude.{if◌then◌else◌}
 use mathlib.Core.Path.{◌≡◌, refl, sym, ◌∙◌}
 use mathlib.Core.Bool.{Bool, true, false, ◌&&◌}
 use mathlib.Core.List.{List}
@@ -13,7 +14,6 @@ use Rattle.syntax.specs.declared.Greed.{Greed}
 use Rattle.syntax.specs.declared.Most.{Most}
 use Rattle.syntax.specs.declared.Most.TheVariants.{AtMost, Unlimited}
 use Rattle.syntax.specs.Limits.{unset, bound_limit, byte_limit, length_limit, branch_limit}
-use Rattle.syntax.specs.Read.{if◌then◌else◌}
 use Rattle.syntax.specs.Tree.{Item, byte_in, assert, reference, Rule, item, repeat, held, branch_count, line_break}
 use Rattle.syntax.specs.Compiled.{marked, most_word}
 use Rattle.syntax.specs.Lengths.{capped, item_length, least_length, shortest, unbounded}

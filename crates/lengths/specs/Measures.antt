@@ -1,10 +1,10 @@
 -- What measuring promises: whatever tree stands at a position, the least length that was found is the tree's, and the places are those of its first
 -- reference, its first idle repeat, and of what a check cannot follow: its first held part or looking ahead, and its first bar before a 257th branch.
 -- docs/REFERENCE.md, 10.6, 11.2
-use Rattle.std.specs.Prelude.{◌≡◌, Bool, true, ◌&&◌, ◌||◌, List, ℕ, min, ◌+◌, ◌*◌, ◌≤◌, eqb, ltb, get_or, length}
+use Rattle.std.specs.Prelude.{◌≡◌, Bool, true, ◌&&◌, ◌||◌, List, ℕ, min, ◌+◌, ◌*◌, ◌≤◌, eqb, ltb, get_or, length, if◌then◌else◌}
 use Rattle.std.proofs.Math.Option.{none, some}
 use Rattle.syntax.specs.Limits.{unset}
-use Rattle.syntax.specs.Read.{if◌then◌else◌, Read, refused}
+use Rattle.syntax.specs.Read.{Read, refused}
 use Rattle.syntax.specs.Names.{Names}
 use Rattle.syntax.specs.Tree.{Rule, Branches}
 use Rattle.syntax.specs.Compiled.{marked}

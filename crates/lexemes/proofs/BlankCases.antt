@@ -1,4 +1,5 @@
 -- Laws of what is skipped under `x`, by its first byte.
+use Rattle.std.specs.Prelude.{if◌then◌else◌}
 use mathlib.Core.Path.{◌≡◌, refl, ◌∙◌}
 use mathlib.Core.List.{List, ◌∷◌}
 use mathlib.Core.Logic.{◌⊎◌, inl, inr}
@@ -14,7 +15,6 @@ use borrow.Author.Tests.{eq-eqb, ne_eqb}
 use Rattle.charset.specs.declared.Named.TheVariants.{Space}
 use Rattle.charset.specs.Named.{ranges, in_range, in_ranges, in_named}
 use Rattle.syntax.specs.Limits.{extended_bit}
-use Rattle.syntax.specs.Read.{if◌then◌else◌}
 use Rattle.syntax.specs.Flags.{extended}
 use Rattle.syntax.specs.Grammar.{skipped, behind_blanks}
 use Rattle.lexemes.proofs.Digits.{inside, outside}

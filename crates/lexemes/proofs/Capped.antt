@@ -1,11 +1,11 @@
 -- Laws of capped numbers: below 1000 a cap changes nothing, and a test against a limit below 1000 does not see it. Assumes nothing.
+use Rattle.std.specs.Prelude.{if◌then◌else◌}
 use mathlib.Core.Path.{◌≡◌, refl, sym, ◌∙◌}
 use Prim.Native.Nat.{ℕ, ◌-◌, ◌≤◌, ◌<◌}
 use native.Mathlib.Omega.{arith}
 use native.Mathlib.Decide.{dec_lt}
 use lib.Dec.{leb, eqb}
 use borrow.Author.Tests.{lt-ltb, le-ltb, lt-leb, ne_eqb}
-use Rattle.syntax.specs.Read.{if◌then◌else◌}
 use Rattle.lexemes.specs.Says.{capped}
 
 pub capped-below : (n : ℕ) → n < 1000 → capped n ≡ n

@@ -1,4 +1,5 @@
 -- Which case of a quantifier holds, from the tests, and that a capped bound serves for the bound itself. Assumes nothing.
+use Rattle.std.specs.Prelude.{if◌then◌else◌}
 use mathlib.Core.Path.{◌≡◌, refl, sym, ◌∙◌}
 use mathlib.Core.List.{List}
 use mathlib.Core.Bool.{Bool, true, false, ◌&&◌, and-false}
@@ -12,7 +13,7 @@ use Rattle.syntax.specs.declared.Most.{Most}
 use Rattle.syntax.specs.declared.Most.TheVariants.{AtMost, Unlimited}
 use Rattle.syntax.specs.declared.Quantifier.TheVariants.{Absent, Stray, Unfit, Times}
 use Rattle.syntax.specs.Limits.{bound_limit}
-use Rattle.syntax.specs.Read.{if◌then◌else◌, byte}
+use Rattle.syntax.specs.Read.{byte}
 use Rattle.syntax.specs.Numbers.{digits, value}
 use Rattle.syntax.specs.Quantifiers.{with_greed, at_least, from_to, upper, braces, quantifier}
 use Rattle.syntax.specs.Laws.Fuel.{if-same}

@@ -1,10 +1,10 @@
 -- What the readers of bytes, numbers and names promise: their answers are those of the definitions in `syntax`.
 -- docs/REFERENCE.md, 4, 7.5, 8.1, 9.3
-use Rattle.std.specs.Prelude.{◌≡◌, List, ℕ, ◌+◌, ◌-◌, ◌*◌, ◌≤◌, ◌<◌, length, ltb}
+use Rattle.std.specs.Prelude.{◌≡◌, List, ℕ, ◌+◌, ◌-◌, ◌*◌, ◌≤◌, ◌<◌, length, ltb, if◌then◌else◌}
 use Prim.Native.Char.{Char, code}
 use Rattle.std.proofs.Math.Seq.{slice}
 use Rattle.syntax.specs.Limits.{name_limit}
-use Rattle.syntax.specs.Read.{if◌then◌else◌, byte, Read, sound, refused}
+use Rattle.syntax.specs.Read.{byte, Read, sound, refused}
 use Rattle.syntax.specs.Numbers.{digits, value}
 use Rattle.syntax.specs.Names.{Name, name_up_to}
 use Rattle.lexemes.specs.declared.Number.{Number}

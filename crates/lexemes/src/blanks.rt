@@ -1,8 +1,7 @@
 // What the flag `x` has skipped: blanks, and comments, each up to the end of its line.
-ghost use Rattle.std.specs.Prelude.{◌≡◌, false, not, ◌&&◌, ◌+◌, eqb, drop};
+ghost use Rattle.std.specs.Prelude.{◌≡◌, false, not, ◌&&◌, ◌+◌, eqb, drop, if◌then◌else◌};
 ghost use Rattle.charset.specs.declared.Named.TheVariants.{Space};
 ghost use Rattle.charset.specs.Named.{in_named};
-ghost use Rattle.syntax.specs.Read.{if◌then◌else◌};
 ghost use Rattle.syntax.specs.Grammar.{skipped, behind_blanks};
 
 // A comment begins at the first, and ends at the second.

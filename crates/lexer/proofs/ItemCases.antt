@@ -1,4 +1,5 @@
 -- Single items: the classes of byte items, and which case of an escape or an item holds. Assumes nothing.
+use Rattle.std.specs.Prelude.{if◌then◌else◌}
 use mathlib.Core.Path.{◌≡◌, refl, ap, ◌∙◌}
 use mathlib.Core.List.{List}
 use mathlib.Core.Bool.{Bool, true, false, not, ◌||◌}
@@ -13,7 +14,7 @@ use Rattle.charset.specs.Laws.Cases.{other-before, folding-single}
 use Rattle.syntax.specs.declared.Assertion.TheVariants.{TextStart, LineStart, TextEnd, LastLineEnd, LineEnd, WordBoundary, NoWordBoundary}
 use Rattle.syntax.specs.declared.Refusal.{Refusal}
 use Rattle.syntax.specs.Limits.{dot_all_bit, multiline_bit}
-use Rattle.syntax.specs.Read.{if◌then◌else◌, byte, is, Read, sound, refused, and_then}
+use Rattle.syntax.specs.Read.{byte, is, Read, sound, refused, and_then}
 use Rattle.syntax.specs.Sets.{Member, single, Class, is_member, is_any, in_class, only, not_newline, any_byte}
 use Rattle.syntax.specs.Tree.{Item, byte_in, assert, reference}
 use Rattle.syntax.specs.Flags.{dot_all, multiline, ignore_case, depot}

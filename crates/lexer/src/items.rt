@@ -1,9 +1,9 @@
 // Items that are no group. `at` is the position of an item's first byte. The words of a byte item hold its class, folded under the flag `i`; where
 // that makes no difference, as for `.`, the promise is for both.
-ghost use Rattle.std.specs.Prelude.{◌≡◌, List, Bool, ℕ, ◌+◌, ◌≤◌, ◌<◌, length};
+ghost use Rattle.std.specs.Prelude.{◌≡◌, List, Bool, ℕ, ◌+◌, ◌≤◌, ◌<◌, length, if◌then◌else◌};
 ghost use Rattle.syntax.specs.declared.Assertion.TheVariants.{TextStart, LineStart, LastLineEnd, LineEnd};
 ghost use Rattle.syntax.specs.Limits.{group_limit};
-ghost use Rattle.syntax.specs.Read.{if◌then◌else◌, byte, Read, sound, refused, and_then};
+ghost use Rattle.syntax.specs.Read.{byte, Read, sound, refused, and_then};
 ghost use Rattle.syntax.specs.Sets.{Class, only, not_newline, any_byte};
 ghost use Rattle.syntax.specs.Tree.{byte_in, assert, reference};
 ghost use Rattle.syntax.specs.Flags.{dot_all, multiline, ignore_case, depot};

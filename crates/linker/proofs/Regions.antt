@@ -1,4 +1,5 @@
 -- What stands in a region depends on that region's numbers alone: each relation by its clauses, a part's children in regions below it.
+use Rattle.std.specs.Prelude.{if◌then◌else◌}
 use mathlib.Core.Path.{◌≡◌, refl, sym, ◌∙◌}
 use mathlib.Core.List.{List}
 use mathlib.Core.Logic.{inl, inr}
@@ -10,7 +11,6 @@ use lib.Dec.{eqb}
 use lib.ListN.{get_or, drop}
 use lib.Seq.{get_or-drop}
 use Rattle.charset.specs.Class.{has}
-use Rattle.syntax.specs.Read.{if◌then◌else◌}
 use Rattle.syntax.specs.Names.{Names}
 use Rattle.syntax.specs.Tree.{Item, byte_in, assert, reference, Rule, empty, item, seq, alt, group, repeat, held, look, Branches, one, also}
 use Rattle.linker.specs.Nodes.{before_of, Last, Region, Nothing, Sequence, Branch, Barred, Plain, Marked, ItemPart, Part, Chain, Inside, Several, Preceding}

@@ -18,12 +18,11 @@
 -- `inside` is the last part of a sequence, or the last branch of an alternation. 0 is no node's position: it stands for none.
 -- A reference by name may stand before its group: its number is known only when the whole rule is read.
 -- docs/REFERENCE.md, 4.5
-use Rattle.std.specs.Prelude.{◌≡◌, Bool, true, false, List, ◌⊎◌, ℕ, ◌+◌, ◌≤◌, ◌<◌, get_or, drop, length, eqb}
+use Rattle.std.specs.Prelude.{◌≡◌, Bool, true, false, List, ◌⊎◌, ℕ, ◌+◌, ◌≤◌, ◌<◌, get_or, drop, length, eqb, if◌then◌else◌}
 use Rattle.std.proofs.Math.Seq.{slice}
 use Rattle.charset.specs.Class.{has}
 use Rattle.syntax.specs.Limits.{slot}
 use Rattle.syntax.specs.Names.{Names, group_called}
-use Rattle.syntax.specs.Read.{if◌then◌else◌}
 use Rattle.syntax.specs.Sets.{in_class}
 use Rattle.syntax.specs.Tree.{Item, byte_in, assert, reference, Rule, empty, item, seq, alt, group, repeat, held, look, Branches, one, also, branch_count, line_break}
 use Rattle.syntax.specs.Checkable.{crowded_at}

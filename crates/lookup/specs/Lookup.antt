@@ -2,11 +2,10 @@
 -- that the group took, or the standing text itself when the group is unset. For an unknown field, or when the line didn't match, it is the
 -- standing text's empty beginning. If the answer row breaks 01's row rules for the line, that counts as not matched."
 -- docs/REFERENCE.md, 16.7
-use Rattle.std.specs.Prelude.{◌≡◌, List, [], ◌&&◌, ℕ, ◌+◌, eqb, length, take}
+use Rattle.std.specs.Prelude.{◌≡◌, List, [], ◌&&◌, ℕ, ◌+◌, eqb, length, take, if◌then◌else◌}
 use Rattle.std.specs.Borrow.{Bor}
 use Rattle.std.proofs.Math.Seq.{slice}
 use Rattle.syntax.specs.Limits.{row_length}
-use Rattle.syntax.specs.Read.{if◌then◌else◌}
 use Rattle.semantics.specs.States.{Row}
 use Rattle.semantics.specs.Demands.{span_from, span_to}
 use Rattle.lookup.specs.declared.Found.{Found}

@@ -1,8 +1,7 @@
 -- How a name is found in a name index, whatever stands there. What a call fills it with is in `semantics`, NameIndex.
 -- docs/REFERENCE.md, 16.7
-use Rattle.std.specs.Prelude.{List, Bool, ◌&&◌, ℕ, zero, suc, ◌-◌, ◌*◌, leb, eqb, length, get_or, take, drop}
+use Rattle.std.specs.Prelude.{List, Bool, ◌&&◌, ℕ, zero, suc, ◌-◌, ◌*◌, leb, eqb, length, get_or, take, drop, if◌then◌else◌}
 use Rattle.syntax.specs.Limits.{group_limit, name_limit, name_entry}
-use Rattle.syntax.specs.Read.{if◌then◌else◌}
 use Rattle.syntax.specs.Sets.{same_bytes}
 
 -- the entry of a group, numbered from 1; where the index ends before, what there is of it

@@ -1,2 +1,2 @@
 -- The laws of the loop over the ends of a start, which its proof cites.
-mod Ends
+mod EndsLemmas

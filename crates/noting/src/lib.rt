@@ -2,8 +2,8 @@
 //
 // Half of the work area is the machine's, and in the other half stands the index by which a reading is known to be new.
 mod noting;
-mod parts;
+mod pieces;
 mod walking;
 
-pub use parts::spans_of;
+pub use pieces::spans_of;
 pub use walking::{Ends, list_start};

@@ -5,7 +5,7 @@ ghost use Rattle.machine.specs.Words.{now_of};
 ghost use Rattle.noting.specs.Noting.{Course, Going, Listed};
 
 use crate::noting::{Noted, note};
-use crate::parts::{fall_below, run_below};
+use crate::pieces::{fall_below, run_below};
 use machine::{Machine, Stop};
 
 // How the ends of one start came out, with the rows so far: all are listed, after so many steps of this start; no row was left, after so

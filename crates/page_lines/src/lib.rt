@@ -4,7 +4,7 @@
 // a day's lines. Each line is judged as the program does that writes the page; what is shown of it is the same.
 mod counts;
 mod lines;
-mod parts;
+mod shown_parts;
 mod whole;
 
 pub use lines::{LINE, RESULT_AREA, RULE_AREA, Setting, WORK_AREA};

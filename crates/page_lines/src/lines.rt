@@ -4,7 +4,7 @@ ghost use Rattle.syntax.specs.Limits.{group_limit};
 ghost use Rattle.page_lines.specs.Rules.{Holds};
 
 use crate::counts::{KINDS, LINES, TOO_LONG, count, kind_of, word_of};
-use crate::parts::{show_listing, show_reason};
+use crate::shown_parts::{show_listing, show_reason};
 use explaining::{Explanation, explain_held};
 use fields_line::ask;
 use fields_row::Word;

@@ -1,8 +1,8 @@
 -- What a page shows of a line, of a rule or of a name: "A line's bytes can never become markup: what is shown of a line is a proved function whose
 -- output has none of `<`, `>`, `&`, quotes or control bytes but as references."
 -- docs/REFERENCE.md, 19.5
-use Rattle.std.specs.Prelude.{List, [], ◌∷◌, ◌++◌, ℕ, ◌/◌, ◌%◌, eqb}
-use Rattle.syntax.specs.Read.{if◌then◌else◌, bytes}
+use Rattle.std.specs.Prelude.{List, [], ◌∷◌, ◌++◌, ℕ, ◌/◌, ◌%◌, eqb, if◌then◌else◌}
+use Rattle.syntax.specs.Read.{bytes}
 use Rattle.fields_text.specs.Escaping.{hex_digit, is_plain}
 
 -- A byte by its number, between ‹ and ›, which no byte is shown as: so a backslash, of which rules are full, stands for itself.

@@ -1,12 +1,12 @@
 -- What the readers of parts of a sequence and of the ends of groups promise: their answers are those of the grammar, and the tree of a sound one stands in
 -- the area.
 -- docs/REFERENCE.md, 4.2, 8.2, 9
-use Rattle.std.specs.Prelude.{◌≡◌, Bool, List, ℕ, ◌+◌, ◌*◌, ◌≤◌, ◌<◌, length, get_or}
+use Rattle.std.specs.Prelude.{◌≡◌, Bool, List, ℕ, ◌+◌, ◌*◌, ◌≤◌, ◌<◌, length, get_or, if◌then◌else◌}
 use Rattle.syntax.specs.declared.Form.{Form}
 use Rattle.syntax.specs.declared.Greed.{Greed}
 use Rattle.syntax.specs.declared.Most.{Most}
 use Rattle.syntax.specs.Limits.{group_limit}
-use Rattle.syntax.specs.Read.{if◌then◌else◌, Read, sound, refused, and_then}
+use Rattle.syntax.specs.Read.{Read, sound, refused, and_then}
 use Rattle.syntax.specs.Tree.{Rule, enclosed, line_break}
 use Rattle.syntax.specs.Names.{Names}
 use Rattle.syntax.specs.Quantifiers.{quantifier}

@@ -1,5 +1,6 @@
 -- The failures among the events of a move: an item's, where it does not hold; a run's, where the most rounds are not made; those of the items of `\R`; no
 -- other node has any. Assumes nothing.
+use Rattle.std.specs.Prelude.{if◌then◌else◌}
 use mathlib.Core.Path.{◌≡◌, refl, sym, ◌∙◌}
 use mathlib.Core.Logic.{inl, inr}
 use mathlib.Core.List.{List, []}
@@ -10,7 +11,6 @@ use lib.Dec.{eqb}
 use lib.ListN.{get_or, drop}
 use borrow.Author.Tests.{ne_eqb}
 use Rattle.charset.specs.Class.{has}
-use Rattle.syntax.specs.Read.{if◌then◌else◌}
 use Rattle.semantics.specs.Assertions.{holds as standing}
 use Rattle.semantics.specs.States.{State, moved}
 use Rattle.semantics.specs.Items.{goes, when}

@@ -1,4 +1,5 @@
 -- What trying an item or a run comes to, where no budget cuts it. Assumes nothing.
+use Rattle.std.specs.Prelude.{if◌then◌else◌}
 use mathlib.Core.Path.{◌≡◌, refl, ◌∙◌}
 use mathlib.Core.Logic.{⊎_elim}
 use mathlib.Core.List.{List}
@@ -10,7 +11,7 @@ use lib.Seq.{get_or-take}
 use lib.Dec.{ltb, leb}
 use borrow.Author.Tests.{lt-ltb, le-ltb, ltb-true, leb-true}
 use Rattle.syntax.specs.Limits.{unset, spans_length}
-use Rattle.syntax.specs.Read.{byte, if◌then◌else◌}
+use Rattle.syntax.specs.Read.{byte}
 use Rattle.semantics.specs.States.{State, moved}
 use Rattle.semantics.specs.Items.{goes, when, same_byte, same_at, refer, compared}
 use Rattle.machine.specs.Code.{Program, in_set, same_as, folded_of, repeat_at}

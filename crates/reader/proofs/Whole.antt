@@ -1,4 +1,5 @@
 -- The whole rule: from what the reader of its branches promises, begun behind the end's node, to the rule's reading.
+use Rattle.std.specs.Prelude.{if◌then◌else◌}
 use mathlib.Core.Path.{◌≡◌, refl, ◌∙◌}
 use mathlib.Core.List.{List, []}
 use Prim.Native.Nat.{ℕ, ◌≤◌, ◌<◌}
@@ -9,7 +10,7 @@ use lib.Seq.{get_or-set_same}
 use Rattle.syntax.specs.declared.Reason.TheVariants.{UnopenedGroup}
 use Rattle.syntax.specs.declared.Refusal.{Refusal}
 use Rattle.syntax.specs.Limits.{group_limit, rule_limit, rule_area_need, spans_length, nesting_limit}
-use Rattle.syntax.specs.Read.{byte, is_end, Read, sound, refused, and_then, if◌then◌else◌}
+use Rattle.syntax.specs.Read.{byte, is_end, Read, sound, refused, and_then}
 use Rattle.syntax.specs.Tree.{Rule}
 use Rattle.syntax.specs.Names.{Names}
 use Rattle.syntax.specs.Grammar.{alternation, inside}

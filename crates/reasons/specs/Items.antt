@@ -1,9 +1,9 @@
 -- The own text of an item of a rule, repeats and all.
 -- docs/REFERENCE.md, 19.2
-use Rattle.std.specs.Prelude.{List, [], Bool, ◌&&◌, ℕ, suc, ◌+◌, ◌-◌, take, drop}
+use Rattle.std.specs.Prelude.{List, [], Bool, ◌&&◌, ℕ, suc, ◌+◌, ◌-◌, take, drop, if◌then◌else◌}
 use Rattle.syntax.specs.declared.Quantifier.{Quantifier}
 use Rattle.syntax.specs.declared.Quantifier.TheVariants.{Absent, Stray, Unfit, Times}
-use Rattle.syntax.specs.Read.{if◌then◌else◌, byte, is, Read, sound, refused}
+use Rattle.syntax.specs.Read.{byte, is, Read, sound, refused}
 use Rattle.syntax.specs.Tree.{Item}
 use Rattle.syntax.specs.Quantifiers.{quantifier}
 use Rattle.syntax.specs.Grammar.{behind_blanks, atom, breaks_line}

@@ -1,7 +1,6 @@
 -- Marked items. The marks are those of an explanation (02, request f): for each byte of the rule 1 where an item begins that failed, else 0.
 -- docs/REFERENCE.md, 19.2
-use Rattle.std.specs.Prelude.{◌≡◌, List, Bool, true, false, ℕ, zero, suc, ◌≤◌, ◌<◌, ltb, eqb, length, get_or}
-use Rattle.syntax.specs.Read.{if◌then◌else◌}
+use Rattle.std.specs.Prelude.{◌≡◌, List, Bool, true, false, ℕ, zero, suc, ◌≤◌, ◌<◌, ltb, eqb, length, get_or, if◌then◌else◌}
 use Rattle.reasons.specs.Items.{item_end, item_text}
 
 -- an answer to whether something holds

@@ -1,11 +1,11 @@
 -- The calls as a caller meets them: what is handed in, what is answered, and what is left behind.
 -- docs/REFERENCE.md, 10.2, 15.2, 15.3, 16.1
-use Rattle.std.specs.Prelude.{List, [], ◌∷◌, ◌++◌, ℕ, min, ◌*◌, ◌/◌, ◌^◌, length, drop, replicate, ltb, leb}
+use Rattle.std.specs.Prelude.{List, [], ◌∷◌, ◌++◌, ℕ, min, ◌*◌, ◌/◌, ◌^◌, length, drop, replicate, ltb, leb, if◌then◌else◌}
 use Rattle.std.proofs.Math.Option.{Option, none, some}
 use Rattle.syntax.specs.declared.Reason.{Reason}
 use Rattle.syntax.specs.declared.Reason.TheVariants.{RuleTooLong, SubjectTooLong, UnknownFlag, BudgetTooLarge, RuleAreaShort, WorkAreaShort, ResultAreaShort, NameIndexShort}
 use Rattle.syntax.specs.Limits.{rule_limit, subject_limit, budget_limit, rule_area_need, work_per_step, flag_bits, row_length, name_index_need}
-use Rattle.syntax.specs.Read.{if◌then◌else◌, Read, sound, refused}
+use Rattle.syntax.specs.Read.{Read, sound, refused}
 use Rattle.syntax.specs.Tree.{Rule}
 use Rattle.syntax.specs.Reading.{names_of, reading}
 use Rattle.semantics.specs.States.{Row, row}

@@ -1,9 +1,8 @@
 -- Why a line does not fit. 02, request f): "the greatest place in the line at which the walk tried an item that failed, and the place in the rule
 -- of the first such item tried there, in walk order over all starts"; and the closest attempt, which is our own addition (docs/DECISIONS.md).
 -- docs/REFERENCE.md, 16.5
-use Rattle.std.specs.Prelude.{List, [], ◌∷◌, ◌++◌, ℕ, zero, suc, ◌-◌, length, replicate, set, eqb, ltb}
+use Rattle.std.specs.Prelude.{List, [], ◌∷◌, ◌++◌, ℕ, zero, suc, ◌-◌, length, replicate, set, eqb, ltb, if◌then◌else◌}
 use Rattle.std.proofs.Math.Option.{Option, none, some}
-use Rattle.syntax.specs.Read.{if◌then◌else◌}
 use Rattle.syntax.specs.Tree.{Rule}
 use Rattle.semantics.specs.Walk.{Trace, step, miss, end, trace}
 

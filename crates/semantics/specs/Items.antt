@@ -1,9 +1,9 @@
 -- A single item tried at a state: it fails, or gives the state behind it.
 -- docs/REFERENCE.md, 13.2, 13.5, 14.1
-use Rattle.std.specs.Prelude.{List, Bool, true, false, ◌&&◌, ℕ, zero, suc, ◌+◌, ◌-◌, length, get_or, ltb, leb, eqb}
+use Rattle.std.specs.Prelude.{List, Bool, true, false, ◌&&◌, ℕ, zero, suc, ◌+◌, ◌-◌, length, get_or, ltb, leb, eqb, if◌then◌else◌}
 use Rattle.charset.specs.Cases.{folding}
 use Rattle.syntax.specs.Limits.{unset, slot}
-use Rattle.syntax.specs.Read.{if◌then◌else◌, byte}
+use Rattle.syntax.specs.Read.{byte}
 use Rattle.syntax.specs.Sets.{in_class}
 use Rattle.syntax.specs.Tree.{Item, byte_in, assert, reference}
 use Rattle.semantics.specs.Assertions.{holds}

@@ -1,9 +1,8 @@
 -- The name index. 02, request e): for each group that a rule can have "17 bytes, the length (0 if none) and the name padded with 00"; j): "The name index
 -- becomes 64 entries".
 -- docs/REFERENCE.md, 15.4
-use Rattle.std.specs.Prelude.{List, [], ◌∷◌, ◌++◌, ℕ, zero, suc, length, take, replicate, eqb}
+use Rattle.std.specs.Prelude.{List, [], ◌∷◌, ◌++◌, ℕ, zero, suc, length, take, replicate, eqb, if◌then◌else◌}
 use Rattle.syntax.specs.Limits.{group_limit, name_entry}
-use Rattle.syntax.specs.Read.{if◌then◌else◌}
 use Rattle.syntax.specs.Names.{Name, Names}
 
 -- the name of a group, by its number; [] if it has none, or there is no such group

@@ -1,10 +1,9 @@
 -- A proposed reading. 02, request m): the office sends "the choices it found: start as two bytes, low first, then one byte a choice, 0 for going on, 1 for
 -- another round, or the branch's number from 0", and the box "counts steps along that one path".
 -- docs/REFERENCE.md, 16.10
-use Rattle.std.specs.Prelude.{List, [], ◌∷◌, Bool, false, ℕ, zero, suc, ◌+◌, ◌*◌, length, eqb, leb}
+use Rattle.std.specs.Prelude.{List, [], ◌∷◌, Bool, false, ℕ, zero, suc, ◌+◌, ◌*◌, length, eqb, leb, if◌then◌else◌}
 use Rattle.syntax.specs.declared.Greed.{Greed}
 use Rattle.syntax.specs.declared.Most.{Most}
-use Rattle.syntax.specs.Read.{if◌then◌else◌}
 use Rattle.syntax.specs.Tree.{Rule, empty, item, seq, alt, group, repeat, held, look, Branches, one, also, branch_count}
 use Rattle.semantics.specs.States.{branch, again, go_on, State, starting, chose, closed}
 use Rattle.semantics.specs.Items.{Tried, fails, goes, toll, try}

@@ -1,8 +1,7 @@
 -- Successive matches. 02, request g): "as Perl's `/g` gives them: each search starts where the last match ended, and after an empty match the next
 -- one may not be empty at that same place."
 -- docs/REFERENCE.md, 16.4
-use Rattle.std.specs.Prelude.{List, [], ◌∷◌, Bool, false, ◌&&◌, ℕ, zero, suc, ◌+◌, ◌-◌, ◌*◌, length, eqb}
-use Rattle.syntax.specs.Read.{if◌then◌else◌}
+use Rattle.std.specs.Prelude.{List, [], ◌∷◌, Bool, false, ◌&&◌, ℕ, zero, suc, ◌+◌, ◌-◌, ◌*◌, length, eqb, if◌then◌else◌}
 use Rattle.syntax.specs.Tree.{Rule}
 use Rattle.semantics.specs.States.{State, Row, row}
 use Rattle.semantics.specs.Walk.{step, miss, end, Trace, trace}

@@ -2,11 +2,10 @@
 -- first (a possessive's place is its `+`), then 36 for an alternation of more than 256 branches, at the lowest bar before a 257th."
 -- docs/REFERENCE.md, 10.6
 use Rattle.std.proofs.Math.Option.{Option, none, some}
-use Rattle.std.specs.Prelude.{ℕ, min, eqb}
+use Rattle.std.specs.Prelude.{ℕ, min, eqb, if◌then◌else◌}
 use Rattle.syntax.specs.declared.Reason.{Reason}
 use Rattle.syntax.specs.declared.Reason.TheVariants.{HeldOrLook, TooManyBranches}
 use Rattle.syntax.specs.Limits.{branch_limit}
-use Rattle.syntax.specs.Read.{if◌then◌else◌}
 use Rattle.syntax.specs.Tree.{Rule, empty, item, seq, alt, group, repeat, held, look, Branches, one, also, branch_count}
 use Rattle.syntax.specs.Reading.{first_some}
 

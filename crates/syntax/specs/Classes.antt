@@ -1,10 +1,10 @@
 -- Bracketed classes. `from` is the position of the class's `[`, the place of "class not closed"; `strict` says whether the depot profile is asked for.
 -- docs/REFERENCE.md, 6
-use Rattle.std.specs.Prelude.{List, [], ◌∷◌, Bool, true, false, not, ◌&&◌, ◌||◌, ℕ, zero, suc, ◌+◌, length, drop, leb}
+use Rattle.std.specs.Prelude.{List, [], ◌∷◌, Bool, true, false, not, ◌&&◌, ◌||◌, ℕ, zero, suc, ◌+◌, length, drop, leb, if◌then◌else◌}
 use Rattle.std.proofs.Math.Option.{Option, none, some}
 use Prim.Native.Char.{code}
 use Rattle.syntax.specs.declared.Reason.TheVariants.{UnclosedClass, BadRange, UnknownSet, MixedRange}
-use Rattle.syntax.specs.Read.{if◌then◌else◌, byte, is_end, is, between, Read, sound, refused, and_then}
+use Rattle.syntax.specs.Read.{byte, is_end, is, between, Read, sound, refused, and_then}
 use Rattle.charset.specs.declared.Named.{Named}
 use Rattle.charset.specs.declared.Named.TheVariants.{Digit, Upper, Lower}
 use Rattle.charset.specs.Named.{in_named}

@@ -1,11 +1,11 @@
 -- Escapes. `at` is the backslash's position, and the place of every refusal.
 -- docs/REFERENCE.md, 7
-use Rattle.std.specs.Prelude.{List, [], ◌∷◌, Bool, not, ◌&&◌, ◌||◌, ℕ, ◌+◌, ◌-◌, ◌/◌, ◌%◌, length, take, leb, eqb}
+use Rattle.std.specs.Prelude.{List, [], ◌∷◌, Bool, not, ◌&&◌, ◌||◌, ℕ, ◌+◌, ◌-◌, ◌/◌, ◌%◌, length, take, leb, eqb, if◌then◌else◌}
 use Prim.Native.Char.{Char}
 use Rattle.syntax.specs.declared.Assertion.TheVariants.{TextStart, TextEnd, LastLineEnd, WordBoundary, NoWordBoundary}
 use Rattle.syntax.specs.declared.Reason.TheVariants.{TrailingBackslash, UnknownEscape, MalformedEscape, BadName}
 use Rattle.syntax.specs.Limits.{group_limit, byte_limit}
-use Rattle.syntax.specs.Read.{if◌then◌else◌, byte, is_end, is, between, Read, sound, refused, and_then}
+use Rattle.syntax.specs.Read.{byte, is_end, is, between, Read, sound, refused, and_then}
 use Rattle.charset.specs.declared.Named.TheVariants.{Digit, Word, Space, Horizontal, Vertical}
 use Rattle.charset.specs.Named.{in_named}
 use Rattle.syntax.specs.Sets.{Member, single, named, not_named, only, not_newline}

@@ -1,6 +1,6 @@
 -- The grammar of rules: items, sequences, alternations and groups, read by recursion on the nesting depth.
 -- docs/REFERENCE.md, 4.2 to 4.4, 8.2, 9
-use Rattle.std.specs.Prelude.{List, [], ◌∷◌, Bool, true, false, not, ◌&&◌, ◌||◌, ℕ, zero, suc, ◌+◌, ◌-◌, length, drop, ltb, eqb}
+use Rattle.std.specs.Prelude.{List, [], ◌∷◌, Bool, true, false, not, ◌&&◌, ◌||◌, ℕ, zero, suc, ◌+◌, ◌-◌, length, drop, ltb, eqb, if◌then◌else◌}
 use Rattle.syntax.specs.declared.Assertion.TheVariants.{TextStart, LineStart, LastLineEnd, LineEnd}
 use Rattle.syntax.specs.declared.Form.{Form}
 use Rattle.syntax.specs.declared.Form.TheVariants.{Grouped, Captured, Held, Ahead, NotAhead}
@@ -12,7 +12,7 @@ use Rattle.syntax.specs.declared.Reason.TheVariants.{NothingToRepeat, BadBraces,
 use Rattle.syntax.specs.Limits.{group_limit}
 use Rattle.charset.specs.declared.Named.TheVariants.{Space}
 use Rattle.charset.specs.Named.{in_named}
-use Rattle.syntax.specs.Read.{if◌then◌else◌, byte, is_end, is, Read, sound, refused, and_then}
+use Rattle.syntax.specs.Read.{byte, is_end, is, Read, sound, refused, and_then}
 use Rattle.syntax.specs.Sets.{single, only, not_newline, any_byte}
 use Rattle.syntax.specs.Tree.{Item, byte_in, assert, reference, Rule, empty, item, seq, repeat, Branches, one, also, alternatives, enclosed, possessive, line_break}
 use Rattle.syntax.specs.Flags.{dot_all, multiline, ignore_case, extended, depot}

@@ -1,12 +1,12 @@
 -- 02, request e): the names of groups. "A name is 1 to 16 letters, digits or underscores, and begins with no digit."
 -- docs/REFERENCE.md, 9.3, 7.4
-use Rattle.std.specs.Prelude.{List, [], ◌∷◌, Bool, true, false, not, ◌&&◌, ◌||◌, ℕ, suc, ◌+◌, length, drop, get_or, leb}
+use Rattle.std.specs.Prelude.{List, [], ◌∷◌, Bool, true, false, not, ◌&&◌, ◌||◌, ℕ, suc, ◌+◌, length, drop, get_or, leb, if◌then◌else◌}
 use Prim.Native.Char.{Char}
 use Rattle.charset.specs.declared.Named.TheVariants.{Digit, Word}
 use Rattle.charset.specs.Named.{in_named}
 use Rattle.syntax.specs.declared.Reason.TheVariants.{BadName, NameTwice}
 use Rattle.syntax.specs.Limits.{name_limit}
-use Rattle.syntax.specs.Read.{if◌then◌else◌, byte, is, Read, sound, refused, and_then}
+use Rattle.syntax.specs.Read.{byte, is, Read, sound, refused, and_then}
 use Rattle.syntax.specs.Sets.{same_bytes}
 use Rattle.syntax.specs.Numbers.{run}
 

@@ -1,13 +1,13 @@
 -- Quantifiers: `* + ? {n} {n,} {n,m}`, greedy, lazy and possessive.
 -- docs/REFERENCE.md, 8.1
-use Rattle.std.specs.Prelude.{List, true, false, ◌&&◌, ℕ, ◌+◌, length, leb}
+use Rattle.std.specs.Prelude.{List, true, false, ◌&&◌, ℕ, ◌+◌, length, leb, if◌then◌else◌}
 use Rattle.syntax.specs.declared.Greed.TheVariants.{Greedy, Lazy}
 use Rattle.syntax.specs.declared.Most.{Most}
 use Rattle.syntax.specs.declared.Most.TheVariants.{AtMost, Unlimited}
 use Rattle.syntax.specs.declared.Quantifier.{Quantifier}
 use Rattle.syntax.specs.declared.Quantifier.TheVariants.{Absent, Stray, Unfit, Times}
 use Rattle.syntax.specs.Limits.{bound_limit}
-use Rattle.syntax.specs.Read.{if◌then◌else◌, byte, is}
+use Rattle.syntax.specs.Read.{byte, is}
 use Rattle.syntax.specs.Numbers.{digits, value, is_none}
 
 -- "greedy and lazy": a `?` behind the repeat makes it lazy; 02, request l): "possessive `+` after a greedy repeat"

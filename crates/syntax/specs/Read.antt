@@ -5,11 +5,6 @@ use Prim.Native.Char.{Char, code}
 use Prim.Native.String.{String, [] as no_char, ◌∷◌ as char}
 use Rattle.syntax.specs.declared.Reason.{Reason}
 
-infixr 5 if◌then◌else◌
-abbrev pub if◌then◌else◌ : {A : Type 0} → Bool → A → A → A
-if◌then◌else◌ true a b = a
-if◌then◌else◌ false a b = b
-
 -- the byte at a position, and 256 past the end
 unfoldable pub byte : List ℕ → ℕ → ℕ
 byte s at = get_or s at 256

@@ -1,11 +1,11 @@
 -- The reading of a rule: its syntax tree and its number of groups, or a refusal with its place.
 -- docs/REFERENCE.md, 4.1, 10.3, 11.1
-use Rattle.std.specs.Prelude.{List, [], Bool, true, false, not, ◌&&◌, ◌||◌, ℕ, length, leb, eqb}
+use Rattle.std.specs.Prelude.{List, [], Bool, true, false, not, ◌&&◌, ◌||◌, ℕ, length, leb, eqb, if◌then◌else◌}
 use Rattle.std.proofs.Math.Option.{Option, none, some}
 use Rattle.syntax.specs.declared.Reason.{Reason}
 use Rattle.syntax.specs.declared.Reason.TheVariants.{NoSuchGroup, UnopenedGroup, BarredReference, IdleRepeat}
 use Rattle.syntax.specs.Limits.{nesting_limit}
-use Rattle.syntax.specs.Read.{if◌then◌else◌, byte, is_end, Read, sound, refused, and_then}
+use Rattle.syntax.specs.Read.{byte, is_end, Read, sound, refused, and_then}
 use Rattle.syntax.specs.Tree.{Item, byte_in, assert, reference, Rule, empty, item, seq, alt, group, repeat, held, look, Branches, one, also}
 use Rattle.syntax.specs.Flags.{depot}
 use Rattle.syntax.specs.Lengths.{least_length, unbounded}

@@ -1,13 +1,13 @@
 -- The byte sets that a rule names: sets by name, and bracketed classes by their members.
 -- docs/REFERENCE.md, 5.2, 5.3, 6.4
-use Rattle.std.specs.Prelude.{List, [], ◌∷◌, Bool, true, false, not, ◌&&◌, ◌||◌, ℕ, eqb}
+use Rattle.std.specs.Prelude.{List, [], ◌∷◌, Bool, true, false, not, ◌&&◌, ◌||◌, ℕ, eqb, if◌then◌else◌}
 use Rattle.std.proofs.Math.Option.{Option, none, some}
 use Prim.Native.String.{String}
 use Rattle.charset.specs.declared.Named.{Named}
 use Rattle.charset.specs.declared.Named.TheVariants.{Digit, Word, Space, Alpha, Upper, Lower, Alnum, Xdigit, Blank, Cntrl, Ascii, Print, Graph, Punct}
 use Rattle.charset.specs.Named.{◌to◌, in_range, in_named}
 use Rattle.charset.specs.Cases.{folding}
-use Rattle.syntax.specs.Read.{if◌then◌else◌, bytes}
+use Rattle.syntax.specs.Read.{bytes}
 
 infix 70 ◌names◌
 -- The names that `[:name:]` takes. `\h` and `\v` have none.

@@ -1,4 +1,5 @@
 -- What a turn at a node comes to, by what was tested there. Assumes nothing.
+use Rattle.std.specs.Prelude.{if◌then◌else◌}
 use mathlib.Core.Path.{◌≡◌, refl, ap, sym, ◌∙◌}
 use mathlib.Core.List.{List, [], ◌∷◌}
 use mathlib.Core.Option.{Option, none, some}
@@ -12,7 +13,7 @@ use lib.Dec.{ltb, leb, eqb}
 use borrow.Author.Tests.{lt-ltb, le-ltb, ltb-true, leb-true}
 use Rattle.charset.specs.Class.{has}
 use Rattle.syntax.specs.Limits.{unset, spans_length, bound_limit}
-use Rattle.syntax.specs.Read.{byte, if◌then◌else◌}
+use Rattle.syntax.specs.Read.{byte}
 use Rattle.semantics.specs.Assertions.{holds}
 use Rattle.semantics.specs.States.{State, moved}
 use Rattle.semantics.specs.Items.{Tried, fails, goes, when, same_byte, same_at, refer, compared, paid_for}

@@ -1,9 +1,9 @@
 -- The text that test vectors are written in: hex digits, decimal numbers and words. A position counts from 0.
-use Rattle.std.specs.Prelude.{◌≡◌, List, [], ◌∷◌, ◌++◌, ℕ, ◌+◌, ◌-◌, ◌*◌, min, length, take, drop, eqb}
+use Rattle.std.specs.Prelude.{◌≡◌, List, [], ◌∷◌, ◌++◌, ℕ, ◌+◌, ◌-◌, ◌*◌, min, length, take, drop, eqb, if◌then◌else◌}
 use Prim.Native.Char.{code}
 use Rattle.std.proofs.Math.Seq.{slice}
 use Rattle.io.specs.Counts.{IsPrefixLen}
-use Rattle.syntax.specs.Read.{if◌then◌else◌, between}
+use Rattle.syntax.specs.Read.{between}
 
 -- What digits stand for -------------------------------------------------------
 

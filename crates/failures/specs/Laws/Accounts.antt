@@ -1,5 +1,5 @@
 -- What is told over a walk is what failed in it: the first of its greatest failures, or the marks.
-use Rattle.std.specs.Prelude.{◌≡◌, Bool, eqb, ltb, get_or, set}
+use Rattle.std.specs.Prelude.{◌≡◌, Bool, eqb, ltb, get_or, set, if◌then◌else◌}
 use Rattle.std.proofs.Math.Path.{refl, ap}
 use Rattle.std.proofs.Common.{◌∙◌, inl, inr, arith, lt-ltb, le-ltb}
 use mathlib.Core.List.{List, [], ◌∷◌, ◌++◌}
@@ -7,7 +7,6 @@ use Rattle.std.proofs.Math.Bool.{true, false}
 use Rattle.std.proofs.Math.Option.{Option, none, some}
 use Prim.Native.Nat.{ℕ, zero, suc, ◌<◌}
 use Rattle.syntax.specs.Limits.{unset}
-use Rattle.syntax.specs.Read.{if◌then◌else◌}
 use Rattle.semantics.specs.Walk.{step, miss, end, Trace}
 use Rattle.semantics.specs.Explanations.{Failure, failed, greater, greatest, position, places_at, marked}
 use Rattle.semantics.specs.Demands.{In}

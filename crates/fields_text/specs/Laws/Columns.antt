@@ -1,9 +1,9 @@
 -- "A line can never forge a column": what is written for a field has no byte below 20, so that neither a tab nor a line end is among them. So a row has
 -- one tab more than it has fields, and one line end.
 -- docs/REFERENCE.md, 19.3
-use Rattle.std.specs.Prelude.{◌≡◌, refl, List, [], ◌∷◌, ◌++◌, Bool, true, false, cond, ℕ, zero, suc, ◌+◌, ◌/◌, ◌%◌, ◌≤◌, ◌<◌, ltb, eqb, length}
+use Rattle.std.specs.Prelude.{◌≡◌, refl, List, [], ◌∷◌, ◌++◌, Bool, true, false, cond, ℕ, zero, suc, ◌+◌, ◌/◌, ◌%◌, ◌≤◌, ◌<◌, ltb, eqb, length, if◌then◌else◌}
 use Rattle.std.proofs.Common.{ap, ◌∙◌, arith, ne_eqb}
-use Rattle.syntax.specs.Read.{if◌then◌else◌, bytes}
+use Rattle.syntax.specs.Read.{bytes}
 use Rattle.text.specs.Lines.{newline}
 use Rattle.text.specs.Numbers.{digit, decimal_within, decimal}
 use Rattle.fields_text.specs.Escaping.{hex_digit, hexed, escape, escaped}

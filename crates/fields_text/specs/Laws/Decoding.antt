@@ -1,8 +1,8 @@
 -- No field is lost: from what is written for it the field can be read back, byte by byte, so that two fields that look the same are the same.
 -- docs/REFERENCE.md, 19.3
-use Rattle.std.specs.Prelude.{◌≡◌, refl, List, [], ◌∷◌, ◌++◌, Bool, true, false, ℕ, ◌+◌, ◌-◌, ◌*◌, ◌/◌, ◌%◌, ◌≤◌, ◌<◌, ltb, eqb, length, get_or, drop}
+use Rattle.std.specs.Prelude.{◌≡◌, refl, List, [], ◌∷◌, ◌++◌, Bool, true, false, ℕ, ◌+◌, ◌-◌, ◌*◌, ◌/◌, ◌%◌, ◌≤◌, ◌<◌, ltb, eqb, length, get_or, drop, if◌then◌else◌}
 use Rattle.std.proofs.Common.{sym, ap, ◌∙◌, arith, ne_eqb, lt-ltb, le-ltb, ltb-true, ltb-false, length-append}
-use Rattle.syntax.specs.Read.{if◌then◌else◌, is}
+use Rattle.syntax.specs.Read.{is}
 use Rattle.fields_text.specs.Escaping.{hex_digit, hexed, escape, escaped}
 use Rattle.fields_text.specs.Laws.Cases.{Case, as_tab, as_newline, as_return, as_backslash, as_itself, as_hex, case-of}
 

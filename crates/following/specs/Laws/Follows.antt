@@ -1,6 +1,6 @@
 -- Where a rule stands compiled, following it treads the path that the choices tell: one induction over the rule, with a lemma for each form, as the machine's own
 -- theorem goes (`machine`, Laws/Walk), but with one way on and no stack. The choices never grow, which bounds the rounds of a repeat.
-use Rattle.std.specs.Prelude.{◌≡◌, Bool, true, take, drop, eqb}
+use Rattle.std.specs.Prelude.{◌≡◌, Bool, true, take, drop, eqb, if◌then◌else◌}
 use Rattle.std.proofs.Math.Path.{refl, ap}
 use Rattle.std.proofs.Common.{sym, ◌∙◌, subst, inl, inr, eqb-true}
 use mathlib.Core.List.{List, [], ◌∷◌}
@@ -12,10 +12,9 @@ use Rattle.std.proofs.Math.ListN.{length, get_or}
 use Rattle.std.proofs.lemmas.Bool.{eqb-false}
 use Rattle.charset.specs.Class.{has}
 use Rattle.syntax.specs.declared.Greed.{Greed}
-use Rattle.syntax.specs.declared.Greed.TheVariants.{Greedy}
+use Rattle.syntax.specs.declared.Greed.TheVariants.{Greedy, Lazy}
 use Rattle.syntax.specs.declared.Most.{Most}
 use Rattle.syntax.specs.Limits.{spans_length, slot, registers}
-use Rattle.syntax.specs.Read.{if◌then◌else◌}
 use Rattle.syntax.specs.Tree.{Item, byte_in, assert, reference, Rule, empty, item, seq, alt, group, repeat, held, look, Branches, one, also, branch_count}
 use Rattle.syntax.specs.WellFormed.{BoundsFit}
 use Rattle.syntax.specs.Compiled.{RunOf, CompiledItem, Compiled, CompiledBranches}
@@ -370,6 +369,22 @@ module _ (p : Program) (sub : List ℕ) where
     unfolding Compiled
     one-byte-fits Greedy (item place (byte_in folded c)) body loop r h k = omega (arith, k.node.high)
     one-byte-fits Greedy (seq empty b) body loop r h k = rw k.left (one-byte-fits Greedy b k.mid loop r h k.right)
+    one-byte-fits Greedy empty body loop r h k = elim h [ ]
+    one-byte-fits Greedy (item place (assert _)) body loop r h k = elim h [ ]
+    one-byte-fits Greedy (item place (reference _ _)) body loop r h k = elim h [ ]
+    one-byte-fits Greedy (seq (item _ _) b) body loop r h k = elim h [ ]
+    one-byte-fits Greedy (seq (seq _ _) b) body loop r h k = elim h [ ]
+    one-byte-fits Greedy (seq (alt _ _ _) b) body loop r h k = elim h [ ]
+    one-byte-fits Greedy (seq (group _ _) b) body loop r h k = elim h [ ]
+    one-byte-fits Greedy (seq (repeat _ _ _ _ _) b) body loop r h k = elim h [ ]
+    one-byte-fits Greedy (seq (held _ _) b) body loop r h k = elim h [ ]
+    one-byte-fits Greedy (seq (look _ _ _) b) body loop r h k = elim h [ ]
+    one-byte-fits Greedy (alt _ _ _) body loop r h k = elim h [ ]
+    one-byte-fits Greedy (group _ _) body loop r h k = elim h [ ]
+    one-byte-fits Greedy (repeat _ _ _ _ _) body loop r h k = elim h [ ]
+    one-byte-fits Greedy (held _ _) body loop r h k = elim h [ ]
+    one-byte-fits Greedy (look _ _ _) body loop r h k = elim h [ ]
+    one-byte-fits Lazy a body loop r h k = elim h [ ]
 
     mutual
       unfolding Compiled CompiledBranches follow

@@ -1,14 +1,14 @@
 -- The gateway's rule: refused for its length, or as it reads.
 use Rattle.std.proofs.Math.Path.{◌≡◌, refl}
 use Rattle.std.proofs.Common.{sym, ap, ◌∙◌, inl, inr, arith, length-take, take_all}
-use Rattle.std.specs.Prelude.{List, Bool, ℕ, suc, ◌≤◌, ◌<◌, take}
+use Rattle.std.specs.Prelude.{List, Bool, ℕ, suc, ◌≤◌, ◌<◌, take, if◌then◌else◌}
 use Rattle.std.proofs.Math.Bool.{true, false}
 use borrow.Author.Tests.{lt-ltb, le-ltb, ltb-false}
 use Rattle.std.proofs.Math.ListN.{length}
 use Rattle.std.proofs.Math.Dec.{ltb}
 use Rattle.syntax.specs.declared.Reason.TheVariants.{RuleTooLong}
 use Rattle.syntax.specs.Limits.{rule_limit, rule_area_need, group_limit}
-use Rattle.syntax.specs.Read.{if◌then◌else◌, sound, refused}
+use Rattle.syntax.specs.Read.{sound, refused}
 use Rattle.syntax.specs.Tree.{Rule}
 use Rattle.syntax.specs.Reading.{reading}
 use Rattle.syntax.specs.WellFormed.{WellFormed}

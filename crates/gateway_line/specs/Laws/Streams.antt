@@ -1,6 +1,6 @@
 -- The answers to an input that comes in pieces. A line of which only so many bytes are kept as tell that it is too long has the answer of
 -- the whole line; and the answers to an input are those to its first line and then those to the rest.
-use Rattle.std.specs.Prelude.{◌≡◌, Bool, ℕ, zero, suc, ◌+◌, ◌-◌, ◌≤◌, ◌<◌, drop}
+use Rattle.std.specs.Prelude.{◌≡◌, Bool, ℕ, zero, suc, ◌+◌, ◌-◌, ◌≤◌, ◌<◌, drop, if◌then◌else◌}
 use Rattle.std.proofs.Math.Path.{refl, sym, ap}
 use Rattle.std.proofs.Common.{◌∙◌, arith, add-suc, add-one, length-drop, take_all, take-take, drop-drop}
 use mathlib.Core.List.{List, [], ◌∷◌, ◌++◌, append-nil}
@@ -9,7 +9,6 @@ use Rattle.std.proofs.Math.Logic.{inl, inr}
 use Rattle.std.proofs.Math.ListN.{length, take, length-take}
 use Rattle.std.proofs.Math.Seq.{drop-length, append_snoc}
 use Rattle.std.proofs.Math.Dec.{eqb}
-use Rattle.syntax.specs.Read.{if◌then◌else◌}
 use Rattle.syntax.specs.Tree.{Rule}
 use Rattle.semantics.specs.Laws.Cases.{le-or}
 use Rattle.text.specs.Gathering.{Gathered}

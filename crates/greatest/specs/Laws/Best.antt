@@ -1,5 +1,5 @@
 -- Keeping the best over one list of failures after another.
-use Rattle.std.specs.Prelude.{◌≡◌, Bool, ℕ, ◌≤◌, ◌<◌}
+use Rattle.std.specs.Prelude.{◌≡◌, Bool, ℕ, ◌≤◌, ◌<◌, if◌then◌else◌}
 use Rattle.std.proofs.Math.Path.{refl, ap}
 use Rattle.std.proofs.Common.{sym, ◌∙◌, inl, inr, arith}
 use mathlib.Core.List.{List, [], ◌∷◌, ◌++◌}
@@ -7,7 +7,6 @@ use Rattle.std.proofs.Math.Bool.{true, false}
 use Rattle.std.proofs.Math.Option.{Option, none, some}
 use borrow.Author.Tests.{lt-ltb, le-ltb, ltb-true, ltb-false}
 use Rattle.std.proofs.Math.Dec.{ltb}
-use Rattle.syntax.specs.Read.{if◌then◌else◌}
 use Rattle.semantics.specs.Walk.{step, miss, end, Trace}
 use Rattle.semantics.specs.Explanations.{Failure, failed, greater, greatest, nowhere, or_nowhere, position, furthest, reach, closest}
 use Rattle.semantics.specs.Demands.{In}

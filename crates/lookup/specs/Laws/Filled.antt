@@ -1,6 +1,6 @@
 -- An index that a call filled: the entry of each group is that of its name, so that a name is found at the group that has it. Names are not used
 -- twice, so that it is found there and nowhere before.
-use Rattle.std.specs.Prelude.{◌≡◌, List, [], ◌∷◌, ◌++◌, Bool, true, false, ◌||◌, eqb, length, take, drop, replicate}
+use Rattle.std.specs.Prelude.{◌≡◌, List, [], ◌∷◌, ◌++◌, Bool, true, false, ◌||◌, eqb, length, take, drop, replicate, if◌then◌else◌}
 use Rattle.std.proofs.Math.Path.{refl, ap}
 use Rattle.std.proofs.Common.{sym, ◌∙◌, append_assoc, inl, inr, mul-suc, mul-zero, eq-eqb, ne_eqb, take_at}
 use Prim.Native.Nat.{ℕ, zero, suc, ◌+◌, ◌-◌, ◌*◌, ◌≤◌, ◌<◌}
@@ -8,7 +8,6 @@ use native.Mathlib.Omega.{arith}
 use Rattle.std.proofs.lemmas.List.{length-replicate}
 use Rattle.std.proofs.Math.Seq.{drop-append-add}
 use Rattle.syntax.specs.Limits.{group_limit, name_limit, name_entry, name_index_need}
-use Rattle.syntax.specs.Read.{if◌then◌else◌}
 use Rattle.syntax.specs.Sets.{same_bytes}
 use Rattle.syntax.specs.Names.{Name, Names, is_used}
 use Rattle.syntax.specs.Laws.Names.{Short, Apart}

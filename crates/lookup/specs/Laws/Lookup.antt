@@ -1,11 +1,10 @@
 -- What is found, case by case, and that it is what the group took.
-use Rattle.std.specs.Prelude.{◌≡◌, refl, ◌⊎◌, Bool, true, false, ◌&&◌, List, [], ◌∷◌, ℕ, zero, suc, ◌+◌, ◌-◌, ◌*◌, ◌≤◌, ◌<◌, eqb, length, get_or, take, drop}
+use Rattle.std.specs.Prelude.{◌≡◌, refl, ◌⊎◌, Bool, true, false, ◌&&◌, List, [], ◌∷◌, ℕ, zero, suc, ◌+◌, ◌-◌, ◌*◌, ◌≤◌, ◌<◌, eqb, length, get_or, take, drop, if◌then◌else◌}
 use Rattle.std.proofs.Common.{sym, ap, ◌∙◌, inl, inr, zero-add, arith, eq-eqb, ne_eqb, take_all, get_or-drop}
 use Rattle.std.proofs.lemmas.Bool.{eqb-false}
 use Rattle.std.specs.Borrow.{Bor}
 use Rattle.std.proofs.Math.Seq.{slice, take-length, take-nil}
 use Rattle.syntax.specs.Limits.{group_limit, row_length, slot}
-use Rattle.syntax.specs.Read.{if◌then◌else◌}
 use Rattle.semantics.specs.States.{Row}
 use Rattle.semantics.specs.Demands.{span_from, span_to, IsUnset}
 use Rattle.semantics.specs.Laws.Cases.{clash, le-or}

@@ -1,5 +1,5 @@
 -- The search through a name index, one entry after another.
-use Rattle.std.specs.Prelude.{◌≡◌, List, ◌∷◌, ◌++◌, Bool, length, get_or, take, drop}
+use Rattle.std.specs.Prelude.{◌≡◌, List, ◌∷◌, ◌++◌, Bool, length, get_or, take, drop, if◌then◌else◌}
 use Rattle.std.proofs.Math.Path.{refl, sym, ap}
 use Rattle.std.proofs.Common.{◌∙◌, eq-eqb, ne_eqb, le-leb, length-append}
 use Rattle.std.proofs.Math.Logic.{inl, inr}
@@ -9,7 +9,6 @@ use native.Mathlib.Omega.{arith}
 use Rattle.std.proofs.Math.ListN.{length-take, length-drop}
 use Rattle.std.proofs.Math.Seq.{take-append_seam}
 use Rattle.syntax.specs.Limits.{group_limit, name_limit, name_entry}
-use Rattle.syntax.specs.Read.{if◌then◌else◌}
 use Rattle.syntax.specs.Sets.{same_bytes}
 use Rattle.semantics.specs.Laws.Cases.{clash, bool, same_or}
 use Rattle.index.specs.Laws.Known.{same_self, same-equal}

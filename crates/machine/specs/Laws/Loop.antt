@@ -335,23 +335,29 @@ module _ (p : Program) (sub : List ℕ) where
               }
 
     -- nodes in a row
-    pub running-led : (used n : ℕ) (now there : Now) → Leads p sub now n there → used + n ≤ budget → Running used now → Running (used + n) there
-    running-led used n now there stay h g = let z : used + 0 ≡ used = omega arith in rw z g
-    running-led used n now there (onward {n = k} {c = c} l e) h g =
+    running-led-from : (used : ℕ) (now : Now) (n : ℕ) (there : Now) → Leads p sub now n there → used + n ≤ budget → Running used now → Running (used + n) there
+    running-led-from used now n there stay h g = let z : used + 0 ≡ used = omega arith in rw z g
+    running-led-from used now n there (onward {n = k} {c = c} l e) h g =
         let z : used + suc k ≡ used + k + 1 = omega arith in
-        rw z (running-on (used + k) c (running-led used k now (busy c) l (omega arith) g) (omega arith) e)
-    running-led used n now there (along {n = k} {c = c} l e) h g =
+        rw z (running-on (used + k) c (running-led-from used now k (busy c) l (omega arith) g) (omega arith) e)
+    running-led-from used now n there (along {n = k} {c = c} l e) h g =
         let z : used + (k + suc (length (move p sub c).more)) ≡ used + k + suc (length (move p sub c).more) = omega arith in
-        let r = running-led used k now (busy c) l (omega arith) g in
+        let r = running-led-from used now k (busy c) l (omega arith) g in
         rw z (running-run (used + k) c r (quiet-several c e (fits-now c r.rest r.ready.emits)) (omega arith))
 
+    pub running-led : (used n : ℕ) (now there : Now) → Leads p sub now n there → used + n ≤ budget → Running used now → Running (used + n) there
+    running-led used n now there = running-led-from used now n there
+
     -- the budget ends among them
+    running-led-cut-from : (used : ℕ) (now : Now) (n : ℕ) (there : Now) → Leads p sub now n there → used ≤ budget → budget < used + n → Running used now → until budget 0 t₀ ≡ spent
+    running-led-cut-from used now n there stay b h g = absurd (omega arith)
+    running-led-cut-from used now n there (onward {n = k} {c = c} l e) b h g =
+        ⊎_elim (λ x. running-led-cut-from used now k (busy c) l b x g) (λ x. running-out (used + k) c (running-led used k now (busy c) l x g) (omega arith)) (before-or budget (used + k))
+    running-led-cut-from used now n there (along {n = k} {c = c} l e) b h g =
+        ⊎_elim (λ x. running-led-cut-from used now k (busy c) l b x g) (λ x. let r = running-led used k now (busy c) l x g in running-cut (used + k) c r (quiet-several c e (fits-now c r.rest r.ready.emits)) x (omega arith)) (before-or budget (used + k))
+
     pub running-led-cut : (used n : ℕ) (now there : Now) → Leads p sub now n there → used ≤ budget → budget < used + n → Running used now → until budget 0 t₀ ≡ spent
-    running-led-cut used n now there stay b h g = absurd (omega arith)
-    running-led-cut used n now there (onward {n = k} {c = c} l e) b h g =
-        ⊎_elim (λ x. running-led-cut used k now (busy c) l b x g) (λ x. running-out (used + k) c (running-led used k now (busy c) l x g) (omega arith)) (before-or budget (used + k))
-    running-led-cut used n now there (along {n = k} {c = c} l e) b h g =
-        ⊎_elim (λ x. running-led-cut used k now (busy c) l b x g) (λ x. let r = running-led used k now (busy c) l x g in running-cut (used + k) c r (quiet-several c e (fits-now c r.rest r.ready.emits)) x (omega arith)) (before-or budget (used + k))
+    running-led-cut used n now there = running-led-cut-from used now n there
 
     pub ready-led : {n : ℕ} {now there : Now} → Ready p sub room budget first now t₀ → Leads p sub now n there → n ≤ budget → Running n there
     ready-led {n} {now} {there} x l h = let z : 0 + n ≡ n = omega arith in rw z at (running-led 0 n now there l (omega arith) (running-start now x))

@@ -551,6 +551,22 @@ module _ (p : Program) (sub : List ℕ) {A : Account} (O : Observer p sub A) whe
         carries-run bytes place place' folded s least most pc next r body fit k.set k.origin given (fits p pc 10 is (omega arith) (h, rw e (omega (arith, k.node.high)))) (decode-at p pc 10 is)
     works-run Greedy (seq empty b) place least most pc next r body loop r' single fit given h e is k =
         subst (λ (f : Go). Carries f pc next r) (same-repeat b place least most Greedy) (works-run Greedy b place least most pc next r body loop r' single fit given h e is (rw k.left k.right))
+    works-run Greedy empty place least most pc next r body loop r' single fit given h e is k = elim single [ ]
+    works-run Greedy (item place' (assert _)) place least most pc next r body loop r' single fit given h e is k = elim single [ ]
+    works-run Greedy (item place' (reference _ _)) place least most pc next r body loop r' single fit given h e is k = elim single [ ]
+    works-run Greedy (seq (item _ _) b) place least most pc next r body loop r' single fit given h e is k = elim single [ ]
+    works-run Greedy (seq (seq _ _) b) place least most pc next r body loop r' single fit given h e is k = elim single [ ]
+    works-run Greedy (seq (alt _ _ _) b) place least most pc next r body loop r' single fit given h e is k = elim single [ ]
+    works-run Greedy (seq (group _ _) b) place least most pc next r body loop r' single fit given h e is k = elim single [ ]
+    works-run Greedy (seq (repeat _ _ _ _ _) b) place least most pc next r body loop r' single fit given h e is k = elim single [ ]
+    works-run Greedy (seq (held _ _) b) place least most pc next r body loop r' single fit given h e is k = elim single [ ]
+    works-run Greedy (seq (look _ _ _) b) place least most pc next r body loop r' single fit given h e is k = elim single [ ]
+    works-run Greedy (alt _ _ _) place least most pc next r body loop r' single fit given h e is k = elim single [ ]
+    works-run Greedy (group _ _) place least most pc next r body loop r' single fit given h e is k = elim single [ ]
+    works-run Greedy (repeat _ _ _ _ _) place least most pc next r body loop r' single fit given h e is k = elim single [ ]
+    works-run Greedy (held _ _) place least most pc next r body loop r' single fit given h e is k = elim single [ ]
+    works-run Greedy (look _ _ _) place least most pc next r body loop r' single fit given h e is k = elim single [ ]
+    works-run Lazy a place least most pc next r body loop r' single fit given h e is k = elim single [ ]
 
     mutual
       unfolding Compiled walk

@@ -1,5 +1,5 @@
 -- Entries of the name index byte by byte, the index entry by entry, and the name that a table has for a group.
-use Rattle.std.specs.Prelude.{◌≡◌, refl, Bool, true, false, List, [], ◌∷◌, ◌++◌, set, take, drop, replicate, eqb}
+use Rattle.std.specs.Prelude.{◌≡◌, refl, Bool, true, false, List, [], ◌∷◌, ◌++◌, set, take, drop, replicate, eqb, if◌then◌else◌}
 use Rattle.std.proofs.Common.{sym, ◌∙◌, ap, append_assoc, append-nil, zero-mul, suc-mul, take_all, get_or-take, get_or-drop, eq-eqb, ne_eqb}
 use Prim.Native.Nat.{ℕ, zero, suc, ◌+◌, ◌-◌, ◌*◌, ◌≤◌, ◌<◌}
 use native.Mathlib.Omega.{arith}
@@ -8,7 +8,6 @@ use Rattle.std.proofs.Math.ListN.{length, get_or, get_or-eq_default}
 use Rattle.std.proofs.lemmas.List.{length-replicate, replicate-append-replicate}
 use Rattle.std.proofs.Math.Seq.{paste, paste-suc, slice, slice_empty, length-slice}
 use Rattle.syntax.specs.Limits.{group_limit, name_limit, name_entry, name_index_need}
-use Rattle.syntax.specs.Read.{if◌then◌else◌}
 use Rattle.syntax.specs.Names.{Name, Names}
 use Rattle.syntax.specs.Laws.Names.{Short}
 use Rattle.semantics.specs.NameIndex.{name_of, entry, entries, name_index}

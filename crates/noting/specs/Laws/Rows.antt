@@ -1,6 +1,6 @@
 -- Rows in the result area: one that is written behind others, and those that are read there again.
-use Rattle.std.specs.Prelude.{◌≡◌, refl, List, [], ◌∷◌, ◌++◌, ℕ, ◌+◌, ◌*◌, length, take, drop}
-use Rattle.std.proofs.Common.{sym, ◌∙◌, ap, append_assoc, append-nil, suc-mul, add_comm, arith, length-append, take_at}
+use Rattle.std.specs.Prelude.{◌≡◌, refl, List, [], ◌∷◌, ◌++◌, ℕ, suc, ◌+◌, ◌*◌, length, take, drop}
+use Rattle.std.proofs.Common.{sym, subst, ◌∙◌, ap, append_assoc, append-nil, suc-mul, add_comm, arith, length-append, take_at}
 use Rattle.std.proofs.Math.Seq.{drop-append_seam}
 use Rattle.syntax.specs.Limits.{row_length}
 use Rattle.semantics.specs.States.{Row}
@@ -30,7 +30,9 @@ rows-between p (x ∷ rows) q h =
     let here : take row_length (drop (length p) (p ++ (x ++ r))) ≡ x = rw drop-append_seam (take_at x r row_length h.0) in
     let there : rows_at ((p ++ x) ++ r) (length (p ++ x)) (length rows) ≡ rows = rows-between (p ++ x) rows q h.1 in
     let there' : rows_at (p ++ (x ++ r)) (length p + row_length) (length rows) ≡ rows = rw (← h.0, ← length-append p x, ← append_assoc p x r) there in
-    rw append_assoc (cc)
+    let both : (take row_length (drop (length p) (p ++ (x ++ r))) ∷ rows_at (p ++ (x ++ r)) (length p + row_length) (length rows)) ≡ x ∷ rows = cc in
+    let same : p ++ (x ++ r) ≡ p ++ ((x ++ joined rows) ++ q) = ap (λ (z : List ℕ). p ++ z) (sym (append_assoc x (joined rows) q)) in
+    subst (λ (a : List ℕ). rows_at a (length p) (suc (length rows)) ≡ x ∷ rows) same both
 
 -- the rows that were written behind others stand there
 pub rows_written : (earlier rows : List Row) (area : List ℕ) (from count : ℕ) → Whole rows → length (joined earlier) ≡ from → length rows ≡ count

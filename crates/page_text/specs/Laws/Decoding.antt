@@ -1,8 +1,8 @@
 -- Nothing is lost: from what is shown the bytes can be read back, one after another, so that two texts that look the same are the same.
 -- docs/REFERENCE.md, 19.5
-use Rattle.std.specs.Prelude.{◌≡◌, refl, List, [], ◌∷◌, ◌++◌, ℕ, ◌+◌, ◌*◌, ◌/◌, ◌%◌, ◌≤◌, eqb, length, get_or, drop}
+use Rattle.std.specs.Prelude.{◌≡◌, refl, List, [], ◌∷◌, ◌++◌, ℕ, ◌+◌, ◌*◌, ◌/◌, ◌%◌, ◌≤◌, eqb, length, get_or, drop, if◌then◌else◌}
 use Rattle.std.proofs.Common.{sym, ap, ◌∙◌, arith, ne_eqb, length-append}
-use Rattle.syntax.specs.Read.{if◌then◌else◌, is}
+use Rattle.syntax.specs.Read.{is}
 use Rattle.fields_text.specs.Escaping.{hex_digit}
 use Rattle.fields_text.specs.Laws.Decoding.{digit_value, digit-back}
 use Rattle.page_text.specs.Showing.{numbered, show, shown}

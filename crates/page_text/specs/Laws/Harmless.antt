@@ -1,9 +1,9 @@
 -- "A line's bytes can never become markup": what is shown of bytes has no `<`, no `>`, no quote, no byte below 20 and none above 7E; and each `&` in it
 -- begins a reference, to one of seven characters.
 -- docs/REFERENCE.md, 19.5
-use Rattle.std.specs.Prelude.{◌≡◌, refl, List, [], ◌∷◌, ◌++◌, Bool, true, false, not, ◌&&◌, ◌||◌, ℕ, ◌+◌, ◌/◌, ◌%◌, ◌≤◌, ◌<◌, leb, ltb, eqb}
+use Rattle.std.specs.Prelude.{◌≡◌, refl, List, [], ◌∷◌, ◌++◌, Bool, true, false, not, ◌&&◌, ◌||◌, ℕ, ◌+◌, ◌/◌, ◌%◌, ◌≤◌, ◌<◌, leb, ltb, eqb, if◌then◌else◌}
 use Rattle.std.proofs.Common.{ap, ◌∙◌, arith, ne_eqb, le-leb, ltb-true, ltb-false}
-use Rattle.syntax.specs.Read.{if◌then◌else◌, bytes}
+use Rattle.syntax.specs.Read.{bytes}
 use Rattle.fields_text.specs.Escaping.{hex_digit}
 use Rattle.page_text.specs.Showing.{numbered, show, shown}
 use Rattle.page_text.specs.Laws.Cases.{Plain, Case, as_less, as_greater, as_and, as_double, as_single, as_itself, as_number, case-of}

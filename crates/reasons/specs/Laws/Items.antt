@@ -1,11 +1,11 @@
 -- The text of an item ends where the reader of items says, behind its place and within the rule.
-use Rattle.std.specs.Prelude.{◌≡◌, refl, List, [], Bool, true, false, ◌&&◌, ℕ, suc, ◌+◌, ◌≤◌, ◌<◌, eqb, length}
+use Rattle.std.specs.Prelude.{◌≡◌, refl, List, [], Bool, true, false, ◌&&◌, ℕ, suc, ◌+◌, ◌≤◌, ◌<◌, eqb, length, if◌then◌else◌}
 use Rattle.std.proofs.Math.Path.{sym}
 use Rattle.std.proofs.Common.{subst, ◌∙◌, arith}
 use borrow.Author.Tests.{ne_eqb}
 use Rattle.syntax.specs.declared.Quantifier.{Quantifier}
 use Rattle.syntax.specs.declared.Quantifier.TheVariants.{Absent, Stray, Unfit, Times}
-use Rattle.syntax.specs.Read.{if◌then◌else◌, byte, is, Read, sound, refused}
+use Rattle.syntax.specs.Read.{byte, is, Read, sound, refused}
 use Rattle.syntax.specs.Tree.{Item}
 use Rattle.syntax.specs.Flags.{ignore_case}
 use Rattle.syntax.specs.Quantifiers.{quantifier}

@@ -1,6 +1,6 @@
 -- A check as a call, case by case: refused for itself, for its rule, for l)'s forms or for too many branches, or else it returns `check` of its rule's tree, and writes its
 -- row.
-use Rattle.std.specs.Prelude.{◌≡◌, List, ◌⊎◌, ℕ, min, ◌≤◌, length, eqb}
+use Rattle.std.specs.Prelude.{◌≡◌, List, ◌⊎◌, ℕ, min, ◌≤◌, length, eqb, if◌then◌else◌}
 use Rattle.std.proofs.Math.Path.{refl, ap}
 use Rattle.std.proofs.Common.{sym, ◌∙◌, arith}
 use Rattle.std.proofs.Math.Logic.{inl, inr}
@@ -8,7 +8,7 @@ use Rattle.std.proofs.Math.Option.{Option, none, some}
 use Rattle.syntax.specs.declared.Reason.{Reason}
 use Rattle.syntax.specs.declared.Reason.TheVariants.{HeldOrLook, TooManyBranches}
 use Rattle.syntax.specs.Limits.{rule_area_need, row_length, branch_limit}
-use Rattle.syntax.specs.Read.{if◌then◌else◌, refused}
+use Rattle.syntax.specs.Read.{refused}
 use Rattle.syntax.specs.Tree.{Rule, empty, item, seq, alt, group, repeat, held, look, Branches, one, also, branch_count}
 use Rattle.syntax.specs.Reading.{first_some, names_of, reading}
 use Rattle.syntax.specs.Checkable.{lowest, unfollowed, unfollowed_in, crowded_at, crowded, crowded_in, uncheckable}

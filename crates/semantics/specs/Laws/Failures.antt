@@ -1,6 +1,6 @@
 -- Lists of failures: the first of the greatest, the failures of walks one after another, and the bytes that are marked. Inductions on the lists;
 -- what was met before is carried along, as a loop carries it.
-use Rattle.std.specs.Prelude.{◌≡◌, ◌⊎◌, ◌↔◌, Bool, true, false, length, get_or, set, eqb}
+use Rattle.std.specs.Prelude.{◌≡◌, ◌⊎◌, ◌↔◌, Bool, true, false, length, get_or, set, eqb, if◌then◌else◌}
 use Rattle.std.proofs.Math.Path.{refl, ap}
 use Rattle.std.proofs.Common.{sym, ◌∙◌, length-set, get_or-set_same, get_or-set_other}
 use mathlib.Core.List.{List, [], ◌∷◌, ◌++◌, append_assoc, append-nil}
@@ -11,7 +11,6 @@ use native.Mathlib.Omega.{arith}
 use Rattle.std.proofs.lemmas.List.{set-append_left}
 use Rattle.std.proofs.Math.Seq.{set_out}
 use borrow.Author.Tests.{ltb-true, ltb-false, eqb-true, eq-eqb}
-use Rattle.syntax.specs.Read.{if◌then◌else◌}
 use Rattle.semantics.specs.Walk.{Trace, step, miss, end, paying}
 use Rattle.semantics.specs.Explanations.{Failure, failed, failed_from, greater, greatest, or_nowhere, position, furthest, reach, closest, places_at, marked}
 use Rattle.semantics.specs.Demands.{In}

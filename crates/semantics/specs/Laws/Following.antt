@@ -1,6 +1,6 @@
 -- Following a path. Where it arrives there is a derivation, made of the choices that were used; and a derivation's own choices lead along it, by its own
 -- steps. Each is one induction over the rule, and within a repeat one over its rounds.
-use Rattle.std.specs.Prelude.{◌≡◌, refl, ◌⊎◌, Bool, true, false, ltb, eqb}
+use Rattle.std.specs.Prelude.{◌≡◌, refl, ◌⊎◌, Bool, true, false, ltb, eqb, if◌then◌else◌}
 use Rattle.std.proofs.Math.Path.{ap}
 use Rattle.std.proofs.Common.{sym, ◌∙◌, arith, ltb-true, eqb-true, eq-eqb, ne_eqb}
 use mathlib.Core.List.{List, [], ◌∷◌, ◌++◌, map, append_assoc, append-nil}
@@ -11,7 +11,6 @@ use Rattle.std.proofs.Math.ListN.{length, length-append}
 use Rattle.std.proofs.lemmas.List.{length-map}
 use Rattle.syntax.specs.declared.Greed.{Greed}
 use Rattle.syntax.specs.declared.Most.{Most}
-use Rattle.syntax.specs.Read.{if◌then◌else◌}
 use Rattle.syntax.specs.Tree.{Item, byte_in, assert, reference, Rule, empty, item, seq, alt, group, repeat, held, look, Branches, one, also, branch_count}
 use Rattle.syntax.specs.Checkable.{unfollowed, unfollowed_in}
 use Rattle.syntax.specs.Laws.Formation.{first-none}

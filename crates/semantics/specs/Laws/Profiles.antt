@@ -1,7 +1,7 @@
 -- What Profile says holds of every rule that the profile accepts. Rounds: where no repeat without upper bound has a body of least length 0, each round takes
 -- a byte. Calls: they see the flags in the refusals, in the reading of the rule and in its names, and these three are the same.
 -- docs/REFERENCE.md, 11.3
-use Rattle.std.specs.Prelude.{◌≡◌, Bool, true, ◌&&◌, ℕ, zero, suc, min, ◌+◌, ◌^◌, ◌%◌, ◌≤◌, ◌<◌, length, take, drop, eqb}
+use Rattle.std.specs.Prelude.{◌≡◌, Bool, true, ◌&&◌, ℕ, zero, suc, min, ◌+◌, ◌^◌, ◌%◌, ◌≤◌, ◌<◌, length, take, drop, eqb, if◌then◌else◌}
 use Rattle.std.proofs.Math.Path.{refl}
 use mathlib.Core.List.{List, [], ◌∷◌}
 use Rattle.std.proofs.Math.Option.{Option, none, some}
@@ -11,7 +11,7 @@ use Rattle.syntax.specs.declared.Greed.{Greed}
 use Rattle.syntax.specs.declared.Most.{Most}
 use Rattle.syntax.specs.declared.Reason.{Reason}
 use Rattle.syntax.specs.Limits.{flag_bits, depot_bit, row_length, part_length}
-use Rattle.syntax.specs.Read.{sound, if◌then◌else◌}
+use Rattle.syntax.specs.Read.{sound}
 use Rattle.syntax.specs.Flags.{depot}
 use Rattle.syntax.specs.Tree.{Rule, empty, item, seq, alt, group, repeat, held, look, Branches, one, also}
 use Rattle.syntax.specs.Lengths.{least_length, unbounded}

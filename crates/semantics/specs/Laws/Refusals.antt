@@ -1,5 +1,5 @@
 -- Refusals 1 to 8: one test after another, so that the first fault in 01's order is given, and none where there is no fault.
-use Rattle.std.specs.Prelude.{◌≡◌, ◌⊎◌, ◌↔◌, Bool, true, false, ℕ, suc, ◌≤◌, ◌^◌, length, ltb, leb, eqb}
+use Rattle.std.specs.Prelude.{◌≡◌, ◌⊎◌, ◌↔◌, Bool, true, false, ℕ, suc, ◌≤◌, ◌^◌, length, ltb, leb, eqb, if◌then◌else◌}
 use Rattle.std.proofs.Math.Path.{refl}
 use Rattle.std.proofs.Common.{ap, sym, ◌∙◌, inr, arith, ltb-true, ltb-false, leb-true, leb-false}
 use Rattle.std.proofs.Math.Logic.{inl}
@@ -8,7 +8,6 @@ use Rattle.syntax.specs.declared.Reason.{Reason}
 use Rattle.syntax.specs.declared.Reason.TheVariants.{RuleTooLong, SubjectTooLong, UnknownFlag, BudgetTooLarge, RuleAreaShort, WorkAreaShort, ResultAreaShort, NameIndexShort}
 use Rattle.syntax.specs.Limits.{rule_limit, subject_limit, budget_limit, rule_area_need, flag_bits, name_index_need}
 use Rattle.syntax.specs.Refusals.{number_of}
-use Rattle.syntax.specs.Read.{if◌then◌else◌}
 use Rattle.semantics.specs.Calls.{Call, work_area_need, unacceptable}
 use Rattle.semantics.specs.Demands.{Fault, rule_too_long, subject_too_long, unknown_flag, budget_too_large, rule_area_short, work_area_short, result_area_short, name_index_short, Faultless, FirstFault}
 use Rattle.semantics.specs.Laws.Cases.{clash, le-or}

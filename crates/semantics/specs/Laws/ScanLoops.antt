@@ -1,13 +1,12 @@
 -- What the loops of successive matches keep: within a try what is left of its walk, in which barred ends are plain steps; over the searches the rows
 -- found so far, and then what the searches from the next one on make. One law for each thing that a turn can meet.
-use Rattle.std.specs.Prelude.{◌≡◌, refl, Bool, true, ◌&&◌, length}
+use Rattle.std.specs.Prelude.{◌≡◌, refl, Bool, true, ◌&&◌, length, if◌then◌else◌}
 use Rattle.std.proofs.Common.{ap, sym, ◌∙◌, subst}
 use mathlib.Core.List.{List, [], ◌∷◌, ◌++◌, append_assoc, append-nil}
 use Rattle.std.proofs.Math.Bool.{false}
 use Prim.Native.Nat.{ℕ, suc, ◌+◌, ◌-◌, ◌≤◌}
 use native.Mathlib.Omega.{arith}
 use borrow.Author.Tests.{eq-eqb}
-use Rattle.syntax.specs.Read.{if◌then◌else◌}
 use Rattle.syntax.specs.Tree.{Rule}
 use Rattle.semantics.specs.States.{State, Row, row}
 use Rattle.semantics.specs.Walk.{Event, step, miss, end, Trace, trace}
@@ -50,7 +49,8 @@ module _ (sub : List ℕ) (r : Rule) (budget from : ℕ) (barred : Bool) where
     pub try-barred : (t : State) (es : Trace) → barred ≡ true → t.at ≡ from → TryAt s (suc b) (end t ∷ es) → TryAt (suc s) b es
     unfolding barring is_empty
     try-barred t es e f h =
-        let g : barring barred from (end t ∷ es) ≡ step ∷ barring barred from es = rw (e, eq-eqb from t.at (sym f)) in
+        let steps : (if barred && is_empty from t then step else end t) ≡ step = rw (e, eq-eqb from t.at (sym f)) in
+        let g : barring barred from (end t ∷ es) ≡ step ∷ barring barred from es = ap (λ (z : Event). z ∷ barring barred from es) steps in
         let k = seek-quiet sub r budget (search_from sub r budget from barred) s from (length sub - from) (suc b) (step ∷ []) (barring barred from es) tt (omega arith) (subst (λ (u : Trace). SeekAt sub r budget (search_from sub r budget from barred) s from (length sub - from) (suc b) u) g h) in
         let i : s + 1 ≡ suc s = omega arith in
         let j : suc b - 1 ≡ b = omega arith in

@@ -1,7 +1,7 @@
 -- A search: what it answers is settled by derivations. Its tries are a run in which no start before its first is walked, so that Laws.FirstEnds tells
 -- what it meets; a barred try reaches the ends of its walk that are not barred, after the same steps. Then each answer implies its facts, and no two sets
 -- of facts hold together.
-use Rattle.std.specs.Prelude.{◌≡◌, List, [], ◌∷◌, ◌⊎◌, Bool, true, false, ◌&&◌, eqb, ltb}
+use Rattle.std.specs.Prelude.{◌≡◌, List, [], ◌∷◌, ◌⊎◌, Bool, true, false, ◌&&◌, eqb, ltb, if◌then◌else◌}
 use Rattle.std.proofs.Math.Path.{refl, ap, sym}
 use Rattle.std.proofs.Common.{◌∙◌}
 use Rattle.std.proofs.Math.Logic.{inl, inr}
@@ -9,7 +9,6 @@ use Prim.Native.Nat.{ℕ, zero, suc, ◌+◌, ◌-◌, ◌≤◌, ◌<◌}
 use native.Mathlib.Omega.{arith}
 use Rattle.std.proofs.Math.ListN.{length}
 use borrow.Author.Tests.{eq-eqb, ne_eqb, lt-ltb, le-ltb}
-use Rattle.syntax.specs.Read.{if◌then◌else◌}
 use Rattle.syntax.specs.Tree.{Rule}
 use Rattle.semantics.specs.States.{State}
 use Rattle.semantics.specs.Walk.{step, miss, end, Trace, trace, Reaches}

@@ -38,12 +38,17 @@ sooner-codes go_on_first e = omega arith
 
 sooner-not-both : {c d : Choice} → Sooner c d → Sooner d c → ⊥
 sooner-not-both (earlier h) (earlier l) = omega arith
+sooner-not-both round_first h = elim h [ ]
+sooner-not-both go_on_first h = elim h [ ]
+
+-- the first choices differ, or are the same and the rest decides
+before-cases : {c d : Choice} {p q : List Choice} → Before (c ∷ p) (d ∷ q) → Sooner c d ⊎ ((c ≡ d) × Before p q)
+before-cases (here h) = inl h
+before-cases (there h) = inr (refl, h)
 
 pub not-both : {p q : List Choice} → Before p q → Before q p → ⊥
-not-both (here a) (here b) = sooner-not-both a b
-not-both (here a) (there b) = sooner-not-both a a
-not-both (there a) (here b) = sooner-not-both b b
-not-both (there a) (there b) = not-both a b
+not-both (here a) k = elim (before-cases k) [ inl b ↦ sooner-not-both a b | inr e ↦ sooner-codes a (sym (ap code e.0)) ]
+not-both (there a) k = elim (before-cases k) [ inl b ↦ sooner-not-both b b | inr e ↦ not-both a e.1 ]
 
 -- the codes tell two runs apart
 pub before-codes : {p q : List Choice} → Before p q → map code p ≡ map code q → ⊥

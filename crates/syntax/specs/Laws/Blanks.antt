@@ -1,12 +1,12 @@
 -- What is skipped under `x` lies within the rule: facts about the positions behind blanks, which the laws of reading rest on.
-use Rattle.std.specs.Prelude.{◌≡◌, List, [], ◌∷◌, Bool, not, ℕ, ◌+◌, ◌≤◌, length, drop, eqb}
+use Rattle.std.specs.Prelude.{◌≡◌, List, [], ◌∷◌, Bool, not, ℕ, ◌+◌, ◌≤◌, length, drop, eqb, if◌then◌else◌}
 use Rattle.std.proofs.Math.Path.{refl}
 use Rattle.std.proofs.Math.Bool.{true, false}
 use native.Mathlib.Omega.{arith}
 use Rattle.std.proofs.Math.ListN.{length-drop}
 use Rattle.charset.specs.declared.Named.TheVariants.{Space}
 use Rattle.charset.specs.Named.{in_named}
-use Rattle.syntax.specs.Read.{if◌then◌else◌, is}
+use Rattle.syntax.specs.Read.{is}
 use Rattle.syntax.specs.Flags.{extended}
 use Rattle.syntax.specs.Grammar.{skipped, behind_blanks}
 

@@ -1,5 +1,5 @@
 -- A sound reading's tree is well formed.
-use Rattle.std.specs.Prelude.{◌≡◌, refl, List, [], ◌∷◌, Bool, true, false, not, ◌||◌, ℕ, zero, suc, ◌+◌, ◌*◌, ◌-◌, ◌≤◌, ◌<◌, length, eqb, leb, ltb}
+use Rattle.std.specs.Prelude.{◌≡◌, refl, List, [], ◌∷◌, Bool, true, false, not, ◌||◌, ℕ, zero, suc, ◌+◌, ◌*◌, ◌-◌, ◌≤◌, ◌<◌, length, eqb, leb, ltb, if◌then◌else◌}
 use Rattle.std.proofs.Math.Option.{Option, none, some}
 use Rattle.std.proofs.Common.{arith, ltb-true, leb-true}
 use Rattle.std.proofs.lemmas.Bool.{eqb-false, not-false}
@@ -12,7 +12,7 @@ use Rattle.syntax.specs.declared.Quantifier.TheVariants.{Absent, Stray, Unfit, T
 use Rattle.syntax.specs.declared.Reason.{Reason}
 use Rattle.syntax.specs.declared.Reason.TheVariants.{NoSuchGroup, BarredReference, IdleRepeat}
 use Rattle.syntax.specs.Limits.{group_limit, nesting_limit, height_limit, level_limit}
-use Rattle.syntax.specs.Read.{if◌then◌else◌, byte, is_end, is, Read, sound, and_then}
+use Rattle.syntax.specs.Read.{byte, is_end, is, Read, sound, and_then}
 use Rattle.syntax.specs.Tree.{Item, byte_in, assert, reference, Rule, empty, item, seq, alt, group, repeat, held, look, Branches, one, also, alternatives, enclosed, possessive, line_break}
 use Rattle.syntax.specs.Quantifiers.{quantifier}
 use Rattle.syntax.specs.Names.{Name, Names}

@@ -1,9 +1,9 @@
 -- The numbers that bound a loop's turns never matter, as long as they bound the bytes left: any two such numbers give one reading.
-use Rattle.std.specs.Prelude.{◌≡◌, refl, List, [], ◌∷◌, Bool, true, false, not, ◌&&◌, ℕ, zero, suc, ◌+◌, ◌-◌, ◌≤◌, ◌<◌, length}
+use Rattle.std.specs.Prelude.{◌≡◌, refl, List, [], ◌∷◌, Bool, true, false, not, ◌&&◌, ℕ, zero, suc, ◌+◌, ◌-◌, ◌≤◌, ◌<◌, length, if◌then◌else◌}
 use Rattle.std.proofs.Common.{sym, arith, eqb-true}
 use Rattle.std.proofs.Math.ListN.{get_or-eq_default}
 use Rattle.syntax.specs.declared.Reason.TheVariants.{UnclosedClass}
-use Rattle.syntax.specs.Read.{if◌then◌else◌, byte, is_end, is, Read, sound, refused, and_then}
+use Rattle.syntax.specs.Read.{byte, is_end, is, Read, sound, refused, and_then}
 use Rattle.syntax.specs.Sets.{Member}
 use Rattle.syntax.specs.Tree.{Branches, also, alternatives}
 use Rattle.syntax.specs.Classes.{element, member, members}

@@ -1,7 +1,7 @@
 -- Every refusal of a rule has its place within the rule. Most parts are refused where they begin; a reference and a repeat also where they
 -- stand in the tree, so that the places in a tree are followed too.
 -- docs/REFERENCE.md, 10.1
-use Rattle.std.specs.Prelude.{◌≡◌, refl, Bool, ◌&&◌, ◌||◌, ltb, leb, eqb}
+use Rattle.std.specs.Prelude.{◌≡◌, refl, Bool, ◌&&◌, ◌||◌, ltb, leb, eqb, if◌then◌else◌}
 use mathlib.Core.List.{List, [], ◌∷◌}
 use Rattle.std.proofs.Math.Bool.{true, false, not}
 use Rattle.std.proofs.Math.Option.{Option, none, some}
@@ -21,7 +21,7 @@ use Rattle.charset.specs.declared.Named.{Named}
 use Rattle.charset.specs.declared.Named.TheVariants.{Word}
 use Rattle.charset.specs.Named.{in_named}
 use Rattle.syntax.specs.Limits.{group_limit, byte_limit, nesting_limit}
-use Rattle.syntax.specs.Read.{if◌then◌else◌, byte, is_end, is, between, Read, sound, refused, and_then}
+use Rattle.syntax.specs.Read.{byte, is_end, is, between, Read, sound, refused, and_then}
 use Rattle.syntax.specs.Sets.{set_named, Member, single}
 use Rattle.syntax.specs.Tree.{Item, byte_in, assert, reference, Rule, empty, item, seq, alt, group, repeat, held, look, Branches, one, also, alternatives, enclosed, possessive, line_break}
 use Rattle.syntax.specs.Numbers.{digits, value, is_none}

@@ -1,7 +1,7 @@
 -- The depot profile only refuses: a rule that is sound under it has the same tree and the same names under the same flags without it. Part by part of
 -- the grammar, whatever the one reading gives soundly the other gives too; beside classes no part looks at the profile.
 -- docs/REFERENCE.md, 11.3
-use Rattle.std.specs.Prelude.{◌≡◌, Bool, ◌&&◌, length, ltb, leb, eqb}
+use Rattle.std.specs.Prelude.{◌≡◌, Bool, ◌&&◌, length, ltb, leb, eqb, if◌then◌else◌}
 use Rattle.std.proofs.Math.Path.{refl}
 use Rattle.std.proofs.Common.{ap, arith}
 use mathlib.Core.List.{List, [], ◌∷◌}
@@ -15,7 +15,7 @@ use Rattle.syntax.specs.declared.Reason.TheVariants.{UnopenedGroup}
 use Rattle.syntax.specs.declared.Quantifier.{Quantifier}
 use Rattle.syntax.specs.declared.Quantifier.TheVariants.{Absent, Stray, Unfit, Times}
 use Rattle.syntax.specs.Limits.{group_limit, nesting_limit, dot_all_bit, multiline_bit, ignore_case_bit, extended_bit, depot_bit}
-use Rattle.syntax.specs.Read.{if◌then◌else◌, byte, is_end, is, Read, sound, refused, and_then}
+use Rattle.syntax.specs.Read.{byte, is_end, is, Read, sound, refused, and_then}
 use Rattle.syntax.specs.Sets.{Member, range}
 use Rattle.syntax.specs.Tree.{Rule, empty, Branches, one, also, enclosed}
 use Rattle.syntax.specs.Flags.{dot_all, multiline, ignore_case, extended, depot}

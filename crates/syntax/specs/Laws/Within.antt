@@ -1,5 +1,5 @@
 -- Every sound reading of a part ends within the rule.
-use Rattle.std.specs.Prelude.{◌≡◌, List, [], ◌∷◌, Bool, true, false, not, ◌&&◌, ◌||◌, ℕ, zero, suc, ◌+◌, ◌-◌, ◌≤◌, ◌<◌, length, take, drop, ltb, leb, eqb}
+use Rattle.std.specs.Prelude.{◌≡◌, List, [], ◌∷◌, Bool, true, false, not, ◌&&◌, ◌||◌, ℕ, zero, suc, ◌+◌, ◌-◌, ◌≤◌, ◌<◌, length, take, drop, ltb, leb, eqb, if◌then◌else◌}
 use Rattle.std.proofs.Common.{sym, ◌∙◌, arith, length-take, length-drop, eqb-true, leb-true}
 use Rattle.std.proofs.Math.Option.{Option, none, some}
 use Prim.Native.Char.{Char, code}
@@ -13,7 +13,7 @@ use Rattle.syntax.specs.declared.Most.TheVariants.{AtMost, Unlimited}
 use Rattle.syntax.specs.declared.Quantifier.{Quantifier}
 use Rattle.syntax.specs.declared.Quantifier.TheVariants.{Absent, Stray, Unfit, Times}
 use Rattle.syntax.specs.Limits.{group_limit, bound_limit, byte_limit}
-use Rattle.syntax.specs.Read.{if◌then◌else◌, byte, is_end, is, between, Read, sound, and_then}
+use Rattle.syntax.specs.Read.{byte, is_end, is, between, Read, sound, and_then}
 use Rattle.charset.specs.declared.Named.{Named}
 use Rattle.charset.specs.declared.Named.TheVariants.{Word}
 use Rattle.charset.specs.Named.{in_named}

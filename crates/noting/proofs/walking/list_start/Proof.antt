@@ -11,7 +11,7 @@ use Rattle.machine.specs.Laws.Code.{spans-in-registers}
 use Rattle.index.specs.Index.{words, Indexed}
 use Rattle.index.specs.Laws.Index.{indexed-none}
 use Rattle.noting.specs.Noting.{Course, Going, all_listed, none_left, cut_short}
-use Rattle.noting.proofs.Ends.{earlier-fit, noted_one, going-spent, going-few, going-nothing, going_end, going_on, going-full}
+use Rattle.noting.proofs.EndsLemmas.{earlier-fit, noted_one, going-spent, going-few, going-nothing, going_end, going_on, going-full}
 use Rattle.noting.proofs.walking.list_start.Statement.{statement}
 use Rattle.noting.proofs.walking.list_start.Tie as tie
 

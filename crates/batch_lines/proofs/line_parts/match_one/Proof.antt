@@ -7,8 +7,8 @@ use Rattle.frame.specs.Inputs.{between}
 use Rattle.finding.specs.Outcomes.{outcome_of}
 use Rattle.frame.specs.Laws.Parts.{between-length}
 use Rattle.batch_lines.specs.Laws.Parts.{long-told, short-told}
-use Rattle.batch_lines.proofs.parts.match_one.Statement.{statement}
-use Rattle.batch_lines.proofs.parts.match_one.Tie as tie
+use Rattle.batch_lines.proofs.line_parts.match_one.Statement.{statement}
+use Rattle.batch_lines.proofs.line_parts.match_one.Tie as tie
 
 sub-if1 : tie.Need-overflow-sub-if1
 sub-if1 c = c.before.before.before.before.before.requires.2

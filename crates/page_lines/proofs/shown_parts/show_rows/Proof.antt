@@ -2,8 +2,8 @@
 use native.Mathlib.Omega.{arith}
 use lib.ListN.{length-take}
 use borrow.Author.Rules.{rules}
-use Rattle.page_lines.proofs.parts.show_rows.Statement.{statement}
-use Rattle.page_lines.proofs.parts.show_rows.Tie as tie
+use Rattle.page_lines.proofs.shown_parts.show_rows.Statement.{statement}
+use Rattle.page_lines.proofs.shown_parts.show_rows.Tie as tie
 
 put-plain-requires : tie.Need-put-plain-requires
 put-plain-requires c κs = search rules

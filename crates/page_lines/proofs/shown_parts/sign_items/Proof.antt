@@ -2,8 +2,8 @@
 use native.Mathlib.Omega.{arith}
 use lib.ListN.{length-take}
 use borrow.Author.Rules.{rules}
-use Rattle.page_lines.proofs.parts.sign_items.Statement.{statement}
-use Rattle.page_lines.proofs.parts.sign_items.Tie as tie
+use Rattle.page_lines.proofs.shown_parts.sign_items.Statement.{statement}
+use Rattle.page_lines.proofs.shown_parts.sign_items.Tie as tie
 
 slice-relend-prefix-underline : tie.Need-slice-relend-prefix-underline
 slice-relend-prefix-underline c = search rules

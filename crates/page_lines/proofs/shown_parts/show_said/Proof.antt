@@ -2,8 +2,8 @@
 use native.Mathlib.Omega.{arith}
 use lib.ListN.{length-take}
 use borrow.Author.Rules.{rules}
-use Rattle.page_lines.proofs.parts.show_said.Statement.{statement}
-use Rattle.page_lines.proofs.parts.show_said.Tie as tie
+use Rattle.page_lines.proofs.shown_parts.show_said.Statement.{statement}
+use Rattle.page_lines.proofs.shown_parts.show_said.Tie as tie
 
 returns : tie.Need-returns
 returns c = search rules

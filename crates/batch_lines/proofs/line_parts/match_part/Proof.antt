@@ -10,8 +10,8 @@ use Rattle.syntax.specs.Limits.{group_limit, spans_length, row_length, part_leng
 use Rattle.frame.specs.Inputs.{between}
 use Rattle.finding.specs.Outcomes.{outcome_of}
 use Rattle.batch_lines.specs.Laws.Parts.{part-whole, part-told}
-use Rattle.batch_lines.proofs.parts.match_part.Statement.{statement}
-use Rattle.batch_lines.proofs.parts.match_part.Tie as tie
+use Rattle.batch_lines.proofs.line_parts.match_part.Statement.{statement}
+use Rattle.batch_lines.proofs.line_parts.match_part.Tie as tie
 
 slice-relend-prefix-match-one : tie.Need-slice-relend-prefix-match-one
 unfolding part_length row_length spans_length group_limit

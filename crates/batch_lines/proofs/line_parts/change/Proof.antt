@@ -2,8 +2,8 @@
 use mathlib.Core.Path.{sym}
 use lib.Seq.{set-get_or}
 use borrow.Author.Rules.{rules}
-use Rattle.batch_lines.proofs.parts.change.Statement.{statement}
-use Rattle.batch_lines.proofs.parts.change.Tie as tie
+use Rattle.batch_lines.proofs.line_parts.change.Statement.{statement}
+use Rattle.batch_lines.proofs.line_parts.change.Tie as tie
 
 mul-if1 : tie.Need-overflow-mul-if1
 mul-if1 c = search rules

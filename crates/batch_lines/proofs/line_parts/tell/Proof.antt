@@ -9,8 +9,8 @@ use Rattle.semantics.specs.Batches.{low, high, outcome_numbers}
 use Rattle.finding.specs.declared.Outcome.{Outcome}
 use Rattle.finding.specs.declared.Outcome.TheVariants.{Matched, NotMatched, Exhausted, Refused}
 use Rattle.finding.specs.Outcomes.{outcome_of}
-use Rattle.batch_lines.proofs.parts.tell.Statement.{statement}
-use Rattle.batch_lines.proofs.parts.tell.Tie as tie
+use Rattle.batch_lines.proofs.line_parts.tell.Statement.{statement}
+use Rattle.batch_lines.proofs.line_parts.tell.Tie as tie
 
 of-matched : (o : Outcome) (steps : ℕ) → o ≡ Matched steps → 0 ∷ 0 ∷ low steps ∷ high steps ∷ [] ≡ outcome_numbers (outcome_of o)
 unfolding outcome_numbers outcome_of

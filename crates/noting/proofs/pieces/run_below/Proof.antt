@@ -4,8 +4,8 @@ use lib.ListN.{length, take}
 use lib.Seq.{length-take-le}
 use Rattle.noting.specs.Laws.Parts.{front-back, front_rest}
 use borrow.Author.Rules.{rules}
-use Rattle.noting.proofs.parts.run_below.Statement.{statement}
-use Rattle.noting.proofs.parts.run_below.Tie as tie
+use Rattle.noting.proofs.pieces.run_below.Statement.{statement}
+use Rattle.noting.proofs.pieces.run_below.Tie as tie
 
 slice-relend-prefix-run-to-end : tie.Need-slice-relend-prefix-run-to-end
 slice-relend-prefix-run-to-end c = search rules

@@ -2,8 +2,8 @@
 use native.Mathlib.Omega.{arith}
 use Rattle.syntax.specs.Limits.{spans_length}
 use borrow.Author.Rules.{rules}
-use Rattle.noting.proofs.parts.spans_of.Statement.{statement}
-use Rattle.noting.proofs.parts.spans_of.Tie as tie
+use Rattle.noting.proofs.pieces.spans_of.Statement.{statement}
+use Rattle.noting.proofs.pieces.spans_of.Tie as tie
 
 mul-spans : tie.Need-overflow-mul-spans
 mul-spans c = search rules

@@ -5,8 +5,8 @@ use Prim.Native.Nat.{ℕ}
 use native.Mathlib.Omega.{arith}
 use lib.ListN.{length, set}
 use borrow.Author.Rules.{rules}
-use Rattle.batch_lines.proofs.parts.put.Statement.{statement}
-use Rattle.batch_lines.proofs.parts.put.Tie as tie
+use Rattle.batch_lines.proofs.line_parts.put.Statement.{statement}
+use Rattle.batch_lines.proofs.line_parts.put.Tie as tie
 
 all-four : (l : List ℕ) (a b x y : ℕ) → length l ≡ 4 → set (set (set (set l 0 a) 1 b) 2 x) 3 y ≡ a ∷ b ∷ x ∷ y ∷ []
 all-four [] a b x y h = absurd (omega arith)

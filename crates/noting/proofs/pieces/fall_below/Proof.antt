@@ -5,8 +5,8 @@ use lib.ListN.{length}
 use lib.Seq.{length-take-le}
 use Rattle.noting.specs.Laws.Parts.{front-back, front_rest}
 use borrow.Author.Rules.{rules}
-use Rattle.noting.proofs.parts.fall_below.Statement.{statement}
-use Rattle.noting.proofs.parts.fall_below.Tie as tie
+use Rattle.noting.proofs.pieces.fall_below.Statement.{statement}
+use Rattle.noting.proofs.pieces.fall_below.Tie as tie
 
 slice-relend-prefix-fall-back : tie.Need-slice-relend-prefix-fall-back
 slice-relend-prefix-fall-back c = search rules

@@ -2,8 +2,8 @@
 use native.Mathlib.Omega.{arith}
 use lib.ListN.{length-take}
 use borrow.Author.Rules.{rules}
-use Rattle.page_lines.proofs.parts.show_reason.Statement.{statement}
-use Rattle.page_lines.proofs.parts.show_reason.Tie as tie
+use Rattle.page_lines.proofs.shown_parts.show_reason.Statement.{statement}
+use Rattle.page_lines.proofs.shown_parts.show_reason.Tie as tie
 
 slice-aggregate-marked : tie.Need-slice-aggregate-marked
 slice-aggregate-marked c = simp length-take (omega arith)
