@@ -1,6 +1,8 @@
 // What the C interface tells of an outcome: six numbers, or eleven of an explanation, and nine of a card that is read. `include/terravisco.h` says which.
 //
 // The calls are not made here: `terravisco` makes each, and has its outcome told.
+#![tactic(auto)]
+
 mod calls;
 mod card_answers;
 mod explanations;

@@ -7,6 +7,8 @@
 // Before each line the parts of those before it stand, everything behind them is as it was lent, and what is left of the buffer has the lines that are
 // left. What a line's match leaves in the work area is never looked at by the next, so that nothing is cleared between them and no line can change what
 // is told of another.
+#![tactic(auto)]
+
 mod halves;
 mod line_parts;
 

@@ -5,6 +5,8 @@
 // The buffer is gone over twice. That the lines outnumber the parts is a refusal in its place among the others, before the rule is read, so the lines are
 // counted first (`counting`): a small part of what their matches cost. No line counts for the refusals of the call, since one that is too long is told in its
 // own part.
+#![tactic(auto)]
+
 ghost use Rattle.semantics.specs.Batches.{batch_call};
 ghost use Rattle.frame.specs.Inputs.{call_of, Returned};
 ghost use Rattle.batching.specs.Batches.{batch_of};

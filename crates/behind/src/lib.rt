@@ -2,6 +2,8 @@
 //
 // A group that is repeated closes once for each way through it, and mostly for nothing: the byte that follows is not there. To see that takes a look at a
 // node or two; to close the group and fall back takes a frame that is written and read again. The walk alone looks there (`walker`).
+#![tactic(auto)]
+
 ghost use Rattle.std.specs.Prelude.{◌≡◌, ◌+◌, ◌≤◌, ◌<◌, ◌^◌, length, get_or};
 ghost use Rattle.syntax.specs.Limits.{spans_length, registers};
 ghost use Rattle.machine.specs.Code.{Fits};

@@ -2,6 +2,8 @@
 //
 // A branch that is passed over counts the two steps that the plain walk makes, its own and the byte's, to the last one of the budget. It costs
 // one look at the byte, and no frame is written for it. The last branch keeps nothing for later: where it is come to so, it begins in the same turn.
+#![tactic(auto)]
+
 ghost use Rattle.std.specs.Prelude.{◌≡◌, List, ◌∷◌, true, ℕ, ◌+◌, ◌*◌, ◌≤◌, ◌<◌, ◌^◌, length, get_or};
 ghost use Rattle.semantics.specs.Walk.{Trace};
 ghost use Rattle.machine.specs.Code.{Fits};

@@ -1,4 +1,6 @@
 // `\R` (02, request l), which is taken as a whole: a return with a feed behind it, or else one byte that breaks a line, with the steps of the held part that it stands for.
+#![tactic(auto)]
+
 ghost use Rattle.std.specs.Prelude.{◌≡◌, true, List, ℕ, ◌+◌, ◌*◌, ◌≤◌, ◌<◌, ◌^◌, length, get_or};
 ghost use Rattle.syntax.specs.Limits.{registers};
 ghost use Rattle.machine.specs.Words.{stack_of, now_of};

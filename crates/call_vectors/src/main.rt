@@ -5,6 +5,8 @@
 // index in decimal; the rule; what is proposed, which only a check looks at; and the subject in pieces, one behind another. The rule, what is proposed and each
 // piece are in hex, or 'x' and a count for so many bytes `a`.
 // Behind an answer and its rows, or the parts of its lines, the entries of the name index follow that are not all 00, and then why a line does not fit.
+#![tactic(auto)]
+
 ghost use Rattle.std.specs.Prelude.{◌≡◌, ◌≤◌, ◌<◌, ◌+◌, length};
 ghost use Rattle.syntax.specs.Limits.{row_length, part_length};
 

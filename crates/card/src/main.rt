@@ -1,4 +1,6 @@
 // Rule cards for the office: writes the card of a rule with its flags and budget, and shows a card in words.
+#![tactic(auto)]
+
 mod messages;
 mod showing;
 mod writing;

@@ -1,5 +1,7 @@
 // What a rule card is, as definitions (specs/), with the demands on the calls that write and read cards and what is proved of both; and of the code what
 // has only to do with the format: the kinds of records, the lengths of their bodies, and numbers of two bytes.
+#![tactic(auto)]
+
 ghost use Rattle.std.specs.Prelude.{◌≡◌, ◌+◌, ◌*◌, ◌/◌, ◌%◌, ◌<◌, length, get_or};
 ghost use Rattle.card_format.specs.Cards.{pieces_for, body_length};
 ghost use Rattle.card_format.specs.Places.{text_end};

@@ -3,6 +3,8 @@
 //
 // Each byte of a card that is written is a function of its position, in as many stores as the card has bytes. Of bytes that are read nothing is trusted: they are
 // gone over once for the records, which are counted before any length in them is used, and once for the padding.
+#![tactic(auto)]
+
 mod bytes;
 mod scanning;
 

@@ -8,6 +8,8 @@
 //
 // The rule stands there as it is, so that it can be copied. Only a byte that cannot be printed is shown by its number, and marked: an escape that is not
 // marked is the rule's own.
+#![tactic(auto)]
+
 ghost use Rattle.std.specs.Prelude.{◌≡◌, ◌+◌, ◌*◌, ◌≤◌, length};
 ghost use Rattle.text.specs.Numbers.{decimal};
 ghost use Rattle.fields_text.specs.Promises.{WroteUpTo};

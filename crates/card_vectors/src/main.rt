@@ -4,6 +4,8 @@
 // decimal; and the bytes of the rule or of the card, in hex. Flags and budget are for a rule that is written.
 // A line of output is 'written', the card's length and its bytes; 'read', the rule's length, the flags, the budget, the number of groups and the rule's
 // bytes; or 'refused', the refusal's number, 'at' and its place. All of them are in decimal.
+#![tactic(auto)]
+
 ghost use Rattle.std.specs.Prelude.{◌≤◌, length};
 
 use cards::{CARD_NEED, ReadAnswer, WriteAnswer};

@@ -6,6 +6,8 @@
 //
 // Reading goes over the rule's bytes twice, once they are found to be a card's: once into an array of its own, since a refusal leaves what was lent as it was,
 // and once into what was lent.
+#![tactic(auto)]
+
 mod reading;
 mod ruling;
 mod writing;

@@ -1,4 +1,6 @@
 // Sets of bytes: the table of the named sets, and classes of eight 32-bit words.
+#![tactic(auto)]
+
 ghost use Rattle.std.specs.Prelude.{◌≡◌, true, false, not, ◌||◌, ℕ, ◌+◌, ◌≤◌, ◌<◌, length, drop, eqb};
 ghost use Rattle.charset.specs.Named.{in_range, ◌to◌, in_named, mark_of};
 ghost use Rattle.charset.specs.Cases.{folding};
@@ -9,7 +11,7 @@ mod tables;
 use tables::{CLASSES, MARKS};
 
 // The named sets.
-#[derive(Drop)]
+#[derive(Clone, Copy)]
 pub enum Named {
     Digit,
     Word,

@@ -2,6 +2,8 @@
 //
 // `check` is the call, which compiles its rule and clears what it was lent. `check_held` is its inside, for a rule that stands compiled, and costs the path and the
 // writing of all registers.
+#![tactic(auto)]
+
 mod verdicts;
 
 ghost use Rattle.semantics.specs.Checks.{check_call};

@@ -5,6 +5,8 @@
 //
 // It costs the walk of a match from that one start, with each item looked at twice, and a byte of the log and one of the proposal for each choice on the
 // path.
+#![tactic(auto)]
+
 mod choices;
 mod log;
 mod rows;

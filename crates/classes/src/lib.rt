@@ -1,4 +1,6 @@
 // Reads bracketed classes and their members.
+#![tactic(auto)]
+
 use syntax::Refusal;
 
 mod classes;

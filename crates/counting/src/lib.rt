@@ -3,6 +3,8 @@
 //
 // The 0A are counted by blocks, those of a block in a number of eight bits: the compiler then looks at sixteen bytes at a time, where a number of 64 bits
 // lets it look at two.
+#![tactic(auto)]
+
 ghost use Rattle.std.specs.Prelude.{◌≡◌, ◌^◌, ◌≤◌, ◌<◌, ◌+◌, length, take, drop};
 ghost use Rattle.semantics.specs.Assertions.{is_newline};
 ghost use Rattle.semantics.specs.Batches.{lines_of};

@@ -1,1 +1,2 @@
 // Examples of the calls, as definitions that are computed (specs/). There is no code.
+#![tactic(auto)]

@@ -5,6 +5,8 @@
 // match; where that says "not matched", one plain walk of all starts more, and one of the closest attempt's start. The plain walks go over the same
 // events as the match's, so that they reach no end and the budget and the work area are enough for them: each is at a part of a trace that the match
 // has been through.
+#![tactic(auto)]
+
 ghost use Rattle.std.specs.Prelude.{◌≡◌, min, length, drop};
 ghost use Rattle.semantics.specs.Calls.{work_area_need, explain_call};
 ghost use Rattle.frame.specs.Inputs.{call_of, Returned, Held};

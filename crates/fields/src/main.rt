@@ -1,5 +1,7 @@
 // The table of fields: for each line of a file its number, a word and the named fields that a rule picks out, in columns for a spreadsheet; or a page of the
 // lines that need a person.
+#![tactic(auto)]
+
 mod columns;
 mod lines;
 mod messages;

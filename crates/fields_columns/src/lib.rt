@@ -1,4 +1,6 @@
 // The columns of the table of fields: their names, which stand in a lent area in the layout of a name index, and the head that is written of them.
+#![tactic(auto)]
+
 mod columns;
 mod heading;
 

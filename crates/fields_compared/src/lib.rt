@@ -1,5 +1,7 @@
 // Whether another reading of a match's stretch has other fields, for the word of a line in the table of fields (`is_ambiguous`): the readings of a listing are
 // compared with the match's, column by column.
+#![tactic(auto)]
+
 ghost use Rattle.std.specs.Prelude.{◌≡◌, ◌*◌, ◌≤◌, length};
 ghost use Rattle.syntax.specs.Limits.{row_length};
 ghost use Rattle.syntax.specs.Sets.{same_bytes};

@@ -1,4 +1,6 @@
 // A row of the table of fields: its word, and its fields, looked up in a line and written into a lent buffer part by part.
+#![tactic(auto)]
+
 mod parts;
 mod words;
 

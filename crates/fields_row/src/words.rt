@@ -10,7 +10,7 @@ use fields_text::write_opening;
 // The bytes of a line's number, a tab and its word, at most.
 pub const OPENING_ROOM: usize = 32;
 
-#[derive(Drop)]
+#[derive(Clone, Copy)]
 pub enum Word {
     Matched,
     Ambiguous,

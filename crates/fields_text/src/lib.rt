@@ -1,5 +1,7 @@
 // The text of the table of fields: fields with their odd bytes escaped, and the first two columns of a line, each written at a position of a lent
 // slice; what is answered is the position behind it.
+#![tactic(auto)]
+
 ghost use Rattle.std.specs.Prelude.{◌≡◌, [], ◌∷◌, ◌+◌, ◌*◌, ◌≤◌, ◌<◌, length};
 ghost use Rattle.text.specs.Numbers.{decimal};
 ghost use Rattle.text.specs.Writing.{Wrote};

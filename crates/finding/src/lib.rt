@@ -3,6 +3,8 @@
 //
 // `match_held` may be used for one line after another, and costs the walk, the search for the rule's opening and the writing of all registers. `match_opened`
 // is handed the opening and the registers, for a caller that has many short lines: to find the one or to write the others costs as much as such a line's walk.
+#![tactic(auto)]
+
 mod registers;
 
 ghost use Rattle.std.specs.Prelude.{◌≡◌, ◌≤◌, length, drop};

@@ -1,6 +1,8 @@
 // Following a path (02, request m): the one path that the choices of a proposal tell is followed through the compiled rule, from node to node.
 //
 // A turn carries out one node (`turns`). Every turn but the last makes a step, so that the budget bounds them.
+#![tactic(auto)]
+
 mod paths;
 
 pub use paths::follow_path;

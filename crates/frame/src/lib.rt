@@ -4,6 +4,8 @@
 // left when it is told so: unchanged before the rule is read, cleared after. The name index is filled once nothing can be refused any more. Finishing
 // clears both. Clearing costs most of a short call, so that whoever has many lines for one rule prepares once, and holds the rule over all of them:
 // nothing need be cleared between two insides.
+#![tactic(auto)]
+
 mod areas;
 mod preparing;
 

@@ -1,4 +1,6 @@
 // The gateway program: it reads the rule in `rule.txt`, then standard input line by line, and answers each line with one of its own.
+#![tactic(auto)]
+
 mod input;
 mod lines;
 mod output;

@@ -1,4 +1,6 @@
 // The gateway program's rule, and its answer to one line.
+#![tactic(auto)]
+
 mod answering;
 mod rules;
 

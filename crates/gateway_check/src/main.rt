@@ -1,5 +1,7 @@
 // The gateway's check (02, request m): it reads the rule in `rule.txt`, then standard input line by line, each with a proposal in front, and answers each
 // line with one of its own: whether the choices that were sent make a reading of it.
+#![tactic(auto)]
+
 mod answering;
 mod lines;
 mod proposals;

@@ -1,4 +1,6 @@
 // The lines that the gateway writes, each at a position of a lent slice; what is answered is the position behind it.
+#![tactic(auto)]
+
 ghost use Rattle.std.specs.Prelude.{◌≡◌, ◌+◌, ◌*◌, ◌≤◌, length};
 ghost use Rattle.text.specs.Writing.{Wrote};
 ghost use Rattle.syntax.specs.Limits.{row_length, group_limit};

@@ -1,12 +1,14 @@
 // The readings of all starts, for a listing: one start after another, those that cannot begin passed over, their steps counted. How the readings of one start are
 // noted stands in `noting`.
+#![tactic(auto)]
+
 mod walking;
 
 use syntax::Refusal;
 pub use walking::list_starts;
 
 // What a listing answers: the rows written and the steps, before them the start that was cut short; or why it is refused.
-#[derive(Drop)]
+#[derive(Clone, Copy)]
 pub enum Listing {
     Complete(usize, u64),
     Full(usize, u64),

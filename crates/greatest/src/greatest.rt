@@ -10,7 +10,7 @@ use crate::leading::Kept;
 use nodes::span_length;
 
 // An item that failed: the start of the attempt, where in the subject it was tried, and its place in the rule.
-#[derive(Drop)]
+#[derive(Clone, Copy)]
 pub struct Failed {
     pub start: u32,
     pub at: u32,

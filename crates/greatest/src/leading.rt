@@ -13,7 +13,7 @@ use plain::Missed;
 const NOWHERE: u32 = 4294967295;
 
 // Whether anything failed; if so, where in the subject it was tried, and its place in the rule.
-#[derive(Drop)]
+#[derive(Clone, Copy)]
 pub struct Kept {
     pub any: bool,
     pub at: u32,

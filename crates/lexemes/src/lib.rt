@@ -1,5 +1,7 @@
 // Reads what a rule has below its items: bytes, numbers, quantifiers, names of groups, `\R`, and the blanks that the flag `x` has skipped; and the flag
 // of the depot profile.
+#![tactic(auto)]
+
 use syntax::Refusal;
 
 mod ascii;

@@ -1,4 +1,6 @@
 // Reads single items of a rule: bytes, classes, assertions and references. Nothing here looks inside a group.
+#![tactic(auto)]
+
 use syntax::{Assertion, Refusal};
 
 mod items;

@@ -1,5 +1,7 @@
 // Turns the nodes that the first pass left in the rule area into the compiled rule, in place, from the last part to the first. Only here does a
 // reference by name get its group's number: the group may stand behind it, so that the first pass cannot tell.
+#![tactic(auto)]
+
 ghost use Rattle.std.specs.Prelude.{◌≡◌, true, false, ◌+◌, ◌≤◌, ◌<◌, get_or, length};
 ghost use Rattle.syntax.specs.Limits.{group_limit, rule_area_need, registers};
 ghost use Rattle.name_table.specs.Table.{names_in, NamesFit};

@@ -2,6 +2,8 @@
 //
 // `list_readings` is the call, which compiles its rule and clears what it was lent. `list_held` is its inside, for a rule that stands compiled, one line
 // after another. How the starts are gone over stands in `gathering`, and what a listing answers.
+#![tactic(auto)]
+
 ghost use Rattle.std.specs.Prelude.{◌≡◌, drop};
 ghost use Rattle.syntax.specs.Tree.{Rule};
 ghost use Rattle.semantics.specs.Calls.{work_area_need, list_call};

@@ -3,6 +3,8 @@
 // Nothing that is handed in is trusted: with an index or a row that no call wrote, a field still is a part of the line, the standing text or
 // nothing. So the row is tested against the line before a part is taken, and no span can lead out of it. Each entry of the index and each pair of
 // the row is looked at once at most.
+#![tactic(auto)]
+
 mod fields;
 mod names;
 mod rows;

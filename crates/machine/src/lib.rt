@@ -8,6 +8,8 @@
 //
 // No index is tested at run time, here or in the crates above: each is in range by what is required, and that follows from how the rule was
 // compiled.
+#![tactic(auto)]
+
 ghost use Rattle.std.specs.Prelude.{◌≡◌, List, [], ℕ};
 ghost use Rattle.syntax.specs.Limits.{unset};
 ghost use Rattle.machine.specs.Moves.{go};
@@ -45,7 +47,7 @@ pub fn unset_position() -> u32
 }
 
 // Where the machine stands: at a node and a position, over so many frames in the work area; or, if it is not live, nothing is left to try.
-#[derive(Drop)]
+#[derive(Clone, Copy)]
 pub struct Machine {
     pub pc: u32,
     pub at: u32,
@@ -54,7 +56,7 @@ pub struct Machine {
 }
 
 // A repeat's first register, and what its two have: the rounds made, and where the last one began.
-#[derive(Drop)]
+#[derive(Clone, Copy)]
 pub struct Counter {
     pub register: u32,
     pub rounds: u32,

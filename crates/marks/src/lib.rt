@@ -3,6 +3,8 @@
 // Where such a part is entered, its registers take the height of the stack and the position. At its inner end the choices made since are given up, and the
 // frames that undo changes of registers are kept: falling back is then what it is everywhere, and no frame of a new kind is needed. An inner end looks at
 // the frames pushed since the part was entered, so that each frame is looked at once for each such part that it lies in.
+#![tactic(auto)]
+
 ghost use Rattle.std.specs.Prelude.{◌≡◌, List, ℕ, ◌+◌, ◌*◌, ◌≤◌, ◌<◌, ◌^◌, length, get_or};
 ghost use Rattle.syntax.specs.Limits.{registers};
 ghost use Rattle.machine.specs.Code.{Fits};

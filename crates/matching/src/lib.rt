@@ -1,5 +1,7 @@
 // The match: `match_line` is the call, which compiles its rule and clears what it was lent. `match_held` is its inside, for a rule that stands compiled
 // (`finding`).
+#![tactic(auto)]
+
 ghost use Rattle.semantics.specs.Calls.{match_call};
 ghost use Rattle.frame.specs.Inputs.{call_of, Returned};
 ghost use Rattle.finding.specs.Outcomes.{outcome_of};

@@ -1,6 +1,8 @@
 // The table of names that the reading of a rule leaves: the names of two groups compared, and the group that has a name.
 //
 // The first pass looks there for a name that is used twice, and the second for the group of a reference by name.
+#![tactic(auto)]
+
 ghost use Rattle.std.specs.Prelude.{◌≡◌, ◌+◌, ◌≤◌, ◌<◌, get_or, length};
 ghost use Rattle.std.proofs.Math.Seq.{slice};
 ghost use Rattle.syntax.specs.Names.{group_called};

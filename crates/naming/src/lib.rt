@@ -1,6 +1,8 @@
 // The name index: an entry for each group that a rule can have, the length of its name and the name, padded with 00. It is filled from the table of names that
 // the reading of a rule leaves: an entry for each group of the rule, byte by byte, and behind the last of them zeros, which the compiler sets in one piece. Every
 // byte is written, so that nothing which stood there before is left.
+#![tactic(auto)]
+
 ghost use Rattle.std.specs.Prelude.{◌≡◌, ◌++◌, suc, ◌+◌, ◌*◌, ◌≤◌, ◌<◌, length, take, drop, get_or, replicate};
 ghost use Rattle.std.proofs.Math.Seq.{slice};
 ghost use Rattle.syntax.specs.Limits.{group_limit, name_limit, name_entry, name_index_need};

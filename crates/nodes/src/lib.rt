@@ -2,6 +2,8 @@
 //
 // A function carries its node out as the model does (`carried`), or falls back. It is one step, of the same cost whatever the subject; only a
 // reference makes a step more for each byte that it looks at.
+#![tactic(auto)]
+
 ghost use Rattle.std.specs.Prelude.{◌≡◌, List, true, ℕ, ◌+◌, ◌*◌, ◌≤◌, ◌<◌, ◌^◌, length, get_or};
 ghost use Rattle.syntax.specs.Limits.{spans_length, registers};
 ghost use Rattle.machine.specs.Words.{stack_of, now_of, carried};

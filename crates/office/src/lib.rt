@@ -1,5 +1,7 @@
 // What the office programs share: what they are started with, lines of a file that is read in large pieces, a buffer for what they write, and why a rule
 // or a card is refused.
+#![tactic(auto)]
+
 mod arguments;
 mod input;
 mod output;

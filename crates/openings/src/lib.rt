@@ -9,6 +9,8 @@
 //
 // What is followed is at most NODES nodes, with at most PENDING of them waiting. A rule that has more before its first byte, or that can get to
 // its end, to a reference or to an assertion other than the text's start without taking one, has no such set, and every start is walked.
+#![tactic(auto)]
+
 mod finding;
 mod nodes;
 
@@ -16,7 +18,7 @@ pub use finding::find_opening;
 
 // The bytes that a start from 1 on can begin with, and the steps of one that cannot. No steps: nothing is known. Not any: no byte can begin,
 // so that no start but 0 can.
-#[derive(Drop)]
+#[derive(Clone, Copy)]
 pub struct Opening {
     pub cost: u32,
     pub any: bool,

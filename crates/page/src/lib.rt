@@ -5,6 +5,8 @@
 //
 // A part of a line has the colour of the field that took it: of fields within one another that of the inner one. A field's colour is never the only sign of
 // it, since its name and what it took stand under the line. Of a long line the page shows 2,000 bytes, and says how many more there are.
+#![tactic(auto)]
+
 mod attempt;
 mod colours;
 mod fields;

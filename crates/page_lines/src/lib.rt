@@ -2,6 +2,8 @@
 //
 // The page has its counts first, so that the lines are read twice: once to count them, and once to show those that need a person. There is no room to hold
 // a day's lines. Each line is judged as the program does that writes the page; what is shown of it is the same.
+#![tactic(auto)]
+
 mod counts;
 mod lines;
 mod shown_parts;

@@ -30,7 +30,7 @@ const PROGRESS: u64 = 10000;
 
 // What stays the same for all lines: where the rule that stands compiled is entered, how many groups it has, its flags, the budget; and whether lines are
 // judged by the fields of so many columns, or by all readings.
-#[derive(Drop)]
+#[derive(Clone, Copy)]
 pub struct Setting {
     pub entry: u32,
     pub groups: u32,

@@ -2,6 +2,8 @@
 //
 // Whatever the bytes are, what is written is text and never markup: `specs/Laws/Harmless.antt` says so of the definition that the promises cite, and
 // `specs/Laws/Decoding.antt` that no two texts look the same. A byte takes up to 16 bytes, so the caller lends 16 for each.
+#![tactic(auto)]
+
 ghost use Rattle.std.specs.Prelude.{◌≡◌, ◌+◌, ◌*◌, ◌≤◌, length};
 ghost use Rattle.fields_text.specs.Promises.{WroteUpTo};
 ghost use Rattle.page_text.specs.Showing.{numbered, show, shown};

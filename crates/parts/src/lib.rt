@@ -1,5 +1,7 @@
 // Reads the parts of a sequence that are no groups, and the ends of groups, and appends a node for each to a lent area. How a group opens is read in
 // `brackets`, and what stands inside one is read above.
+#![tactic(auto)]
+
 ghost use Rattle.std.specs.Prelude.{◌≡◌, ◌+◌, ◌<◌};
 ghost use Rattle.parts.specs.Says.{behind_node};
 

@@ -7,6 +7,8 @@
 // ahead looks at the frames pushed since that was entered.
 //
 // Whether a `(?!` fails is seen only at its inner end. So it keeps a note of the explanation's where it is entered, and is told by that (`tell_refuted`).
+#![tactic(auto)]
+
 ghost use Rattle.std.specs.Prelude.{◌≡◌, List, not, ℕ, ◌+◌, ◌*◌, ◌≤◌, ◌<◌, ◌^◌, length, get_or, drop};
 ghost use Rattle.charset.specs.Class.{has};
 ghost use Rattle.syntax.specs.Limits.{spans_length, registers};

@@ -19,7 +19,7 @@ pub const CHOICES: usize = 2 + BUDGET_LIMIT as usize;
 const LINE: usize = SUBJECT_LIMIT + 1;
 
 // What stays the same for all lines: where the rule that stands compiled is entered, and the budget.
-#[derive(Drop)]
+#[derive(Clone, Copy)]
 pub struct Setting {
     pub entry: u32,
     pub budget: u32,

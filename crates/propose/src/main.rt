@@ -1,4 +1,6 @@
 // Proposals for the box (02, request m): of each line of a file that a rule matches, the choices of the match.
+#![tactic(auto)]
+
 mod lines;
 mod messages;
 

@@ -3,6 +3,8 @@
 // A plain walk from the row's start writes its choices down as the proposal's bytes (`choosing`). At the first end with that row the bytes are checked as the
 // box will check them, and are handed out only if that gives the row: so what is promised of a proposal is the check's word, and nothing need be proved of the
 // choices but that they stay within what is lent. It costs the walk, and the path of the check.
+#![tactic(auto)]
+
 mod proposals;
 
 pub use proposals::propose_held;

@@ -1,5 +1,7 @@
 // Reads a rule's alternations, sequences, items and groups, and appends a node for each part to a lent area. The names of its groups go to a table of
 // their own: two numbers for each, where the name begins in the rule, and its length.
+#![tactic(auto)]
+
 ghost use Rattle.std.specs.Prelude.{◌≡◌, ◌+◌, ◌≤◌, ◌<◌, length};
 ghost use Rattle.syntax.specs.Limits.{rule_limit, spans_length};
 ghost use Rattle.syntax.specs.Grammar.{ends};

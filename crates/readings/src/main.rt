@@ -1,5 +1,7 @@
 // The office report: how many readings a rule has of each line of a file, which they are where there are two or more, and why a line has none; as text, or
 // as a page that shows the lines that need a person.
+#![tactic(auto)]
+
 mod counts;
 mod lines;
 mod messages;

@@ -2,6 +2,8 @@
 //
 // An item is known by its place, where its text begins. Where it ends is read off the rule again: that is done for the few items of a line
 // that does not fit, so that nothing of it need be kept in the compiled rule.
+#![tactic(auto)]
+
 mod items;
 mod marks;
 

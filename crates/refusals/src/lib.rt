@@ -2,6 +2,8 @@
 //
 // All calls share it. It looks at lengths, flags and budget alone, and stands by itself, so that a wrong limit or a wrong order is refused without
 // looking at what is made of a rule.
+#![tactic(auto)]
+
 ghost use Rattle.std.specs.Prelude.{◌≡◌, ℕ};
 ghost use Rattle.semantics.specs.Calls.{Call, unacceptable};
 ghost use Rattle.refusals.specs.Fitness.{fitness_of, Sized};

@@ -2,6 +2,8 @@
 //
 // A decision is one step, of the same cost whatever the repeat, and keeps at most one choice for later. A round that took no bytes is followed by
 // no other once the least rounds are made: so every walk ends.
+#![tactic(auto)]
+
 ghost use Rattle.std.specs.Prelude.{◌≡◌, List, ℕ, ◌+◌, ◌*◌, ◌≤◌, ◌<◌, ◌^◌, length, get_or};
 ghost use Rattle.semantics.specs.Repeats.{either, is_full};
 ghost use Rattle.machine.specs.Code.{most_of, greed_of};

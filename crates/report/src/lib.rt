@@ -1,4 +1,6 @@
 // What a report shows of a line: its bytes in windows of a fixed width, and marks under what a reading or a group took.
+#![tactic(auto)]
+
 mod marks;
 mod text;
 

@@ -2,6 +2,8 @@
 //
 // What is written goes through the buffer of `office`, so that a line of any length takes no more room. The sentence that says why a line does not fit
 // is the page's too.
+#![tactic(auto)]
+
 mod display;
 mod labels;
 mod sentence;

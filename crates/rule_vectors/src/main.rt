@@ -1,5 +1,7 @@
 // Reads rules and writes what the reader says of each. A line of input has two words, the flags in decimal and the rule's bytes in hex. A line of
 // output is 'sound' and the number of groups, or the refusal's number, 'at' and its place.
+#![tactic(auto)]
+
 ghost use Rattle.std.specs.Prelude.{◌≤◌, length};
 ghost use Rattle.syntax.specs.Limits.{rule_limit, rule_area_need};
 

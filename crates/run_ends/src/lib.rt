@@ -1,6 +1,8 @@
 // The bytes of a run and its ends: how many bytes it takes, what they cost, and at how many of its ends the node behind it fails at once.
 //
 // A run is a greedy repeat of one byte item. These are the loops over its bytes and over its ends; `runs` goes on from there.
+#![tactic(auto)]
+
 ghost use Rattle.std.specs.Prelude.{◌≡◌, List, ℕ, suc, ◌+◌, ◌-◌, ◌≤◌, ◌<◌, ◌^◌, min, length, get_or, drop};
 ghost use Rattle.charset.specs.Class.{has};
 ghost use Rattle.semantics.specs.Repeats.{is_full};

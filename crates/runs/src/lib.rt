@@ -2,6 +2,8 @@
 //
 // A run counts the steps that the plain walk makes, two for each byte and those of each end that is passed over, to the last one of the budget. It
 // costs one look at each byte and at each of those ends, and writes one frame at most. The loops are those of `run_ends`.
+#![tactic(auto)]
+
 ghost use Rattle.std.specs.Prelude.{◌≡◌, List, true, ℕ, ◌+◌, ◌*◌, ◌≤◌, ◌<◌, ◌^◌, length, get_or};
 ghost use Rattle.syntax.specs.Limits.{registers};
 ghost use Rattle.semantics.specs.Walk.{Trace};

@@ -5,6 +5,8 @@
 // used for one line after another. A start is tried at most twice, once with the empty end barred, so that all searches together cost at most twice what a
 // match that fails may cost; beside its steps a match costs its row and the clearing of its groups' registers. The bytes that the rule can begin with are
 // found once, for all searches. How one search follows another stands in `scans`.
+#![tactic(auto)]
+
 ghost use Rattle.std.specs.Prelude.{◌≡◌, drop};
 ghost use Rattle.syntax.specs.Tree.{Rule};
 ghost use Rattle.semantics.specs.Calls.{work_area_need, scan_call};

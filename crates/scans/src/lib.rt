@@ -3,6 +3,8 @@
 // Before each search the rows found so far stand in the result area, one behind another, the groups' registers are clear, and the searches from this one on make
 // what is left of the whole. A search (`searching`) tells an outcome and writes no row: the scan goes on from a match alone. Each match leaves fewer tries, so
 // that it ends.
+#![tactic(auto)]
+
 ghost use Rattle.std.specs.Prelude.{◌≡◌, ◌+◌, ◌<◌, ◌^◌, length};
 ghost use Rattle.syntax.specs.Limits.{registers};
 ghost use Rattle.syntax.specs.Tree.{Rule};

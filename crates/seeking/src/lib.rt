@@ -4,6 +4,8 @@
 // A start that cannot begin is passed over, its steps counted, and one that fails on its straight way is seen to fail. The loop keeps that the starts that are left make the answer that all of them make. A walk
 // that finds nothing leaves the registers as they were, so nothing is cleared between starts: one costs its walk and a look at the next one's byte. No row is
 // written here: a match's groups stand in the registers, and the caller knows where its row goes.
+#![tactic(auto)]
+
 mod straight;
 
 ghost use Rattle.std.specs.Prelude.{◌≡◌, List, [], ℕ, ◌≤◌, ◌<◌, ◌^◌, length};

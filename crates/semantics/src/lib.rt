@@ -1,1 +1,2 @@
 // What a rule means is defined in specs/. There is no code.
+#![tactic(auto)]

@@ -1,4 +1,6 @@
 // Passing over starts that cannot begin: those whose byte is not in the set that `openings` finds. Each costs its known steps, and a look at its byte.
+#![tactic(auto)]
+
 ghost use Rattle.std.specs.Prelude.{◌≡◌, ◌+◌, ◌-◌, ◌*◌, ◌≤◌, ◌<◌, ◌^◌, length};
 ghost use Rattle.syntax.specs.Limits.{subject_limit};
 ghost use Rattle.skipping.specs.Passing.{Passed, Misses};

@@ -1,4 +1,6 @@
 // What a rule is refused for, and the quantities that the code shares with the definitions. Rules themselves are defined in specs/.
+#![tactic(auto)]
+
 ghost use Rattle.std.specs.Prelude.{◌≡◌};
 ghost use Rattle.syntax.specs.Refusals.{number_of};
 
@@ -10,7 +12,7 @@ pub use limits::{
 };
 
 // Why a call is refused. The place stands beside it, in the refusal.
-#[derive(Drop)]
+#[derive(Clone, Copy)]
 pub enum Reason {
     RuleTooLong,
     SubjectTooLong,
@@ -53,7 +55,7 @@ pub enum Reason {
 }
 
 // The zero-width assertions. The flag `m` is settled when a rule is read.
-#[derive(Drop)]
+#[derive(Clone, Copy)]
 pub enum Assertion {
     // `\A`, and `^` without `m`
     TextStart,
@@ -71,7 +73,7 @@ pub enum Assertion {
     NoWordBoundary,
 }
 
-#[derive(Drop)]
+#[derive(Clone, Copy)]
 pub enum Greed {
     Greedy,
     Lazy,
@@ -112,7 +114,7 @@ pub enum Form {
 }
 
 // A refusal: the place in the rule, and the reason.
-#[derive(Drop)]
+#[derive(Clone, Copy)]
 pub struct Refusal {
     pub place: usize,
     pub reason: Reason,

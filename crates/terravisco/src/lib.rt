@@ -1,5 +1,7 @@
 // The C interface: the calls, with each outcome as six numbers, or eleven for an explanation (`answers`), the field lookup, and rule cards.
 // `include/terravisco.h` is its header.
+#![tactic(auto)]
+
 ghost use Rattle.std.specs.Prelude.{◌≡◌, length};
 ghost use Rattle.semantics.specs.Calls.{match_call, list_call, scan_call, explain_call};
 ghost use Rattle.semantics.specs.Batches.{batch_call};
@@ -18,8 +20,7 @@ use answers::{
 use lookup::Found;
 
 // One match.
-#[unsafe(no_mangle)]
-pub extern "C" fn terravisco_match(
+pub fn terravisco_match(
     rule: &[u8],
     flags: u32,
     subject: &[u8],
@@ -39,8 +40,7 @@ pub extern "C" fn terravisco_match(
 }
 
 // One listing.
-#[unsafe(no_mangle)]
-pub extern "C" fn terravisco_list(
+pub fn terravisco_list(
     rule: &[u8],
     flags: u32,
     subject: &[u8],
@@ -60,8 +60,7 @@ pub extern "C" fn terravisco_list(
 }
 
 // All successive matches.
-#[unsafe(no_mangle)]
-pub extern "C" fn terravisco_match_all(
+pub fn terravisco_match_all(
     rule: &[u8],
     flags: u32,
     subject: &[u8],
@@ -81,8 +80,7 @@ pub extern "C" fn terravisco_match_all(
 }
 
 // One match for each line of a buffer.
-#[unsafe(no_mangle)]
-pub extern "C" fn terravisco_match_lines(
+pub fn terravisco_match_lines(
     rule: &[u8],
     flags: u32,
     buffer: &[u8],
@@ -102,8 +100,7 @@ pub extern "C" fn terravisco_match_lines(
 }
 
 // One check of a proposed reading.
-#[unsafe(no_mangle)]
-pub extern "C" fn terravisco_check(
+pub fn terravisco_check(
     rule: &[u8],
     flags: u32,
     subject: &[u8],
@@ -124,8 +121,7 @@ pub extern "C" fn terravisco_check(
 }
 
 // One explanation of why a line does not fit.
-#[unsafe(no_mangle)]
-pub extern "C" fn terravisco_explain(
+pub fn terravisco_explain(
     rule: &[u8],
     flags: u32,
     subject: &[u8],
@@ -145,8 +141,7 @@ pub extern "C" fn terravisco_explain(
 }
 
 // One field: which text it is a part of, from where and up to where. C cannot be handed a slice of Rattle's, so it gets the numbers.
-#[unsafe(no_mangle)]
-pub extern "C" fn terravisco_field(
+pub fn terravisco_field(
     name: &[u8],
     names: &[u8],
     line: &[u8],
@@ -165,8 +160,7 @@ pub extern "C" fn terravisco_field(
 }
 
 // Writes the card of a rule.
-#[unsafe(no_mangle)]
-pub extern "C" fn terravisco_card_write(
+pub fn terravisco_card_write(
     rule: &[u8],
     flags: u32,
     budget: u32,
@@ -181,8 +175,7 @@ pub extern "C" fn terravisco_card_write(
 }
 
 // Reads a card.
-#[unsafe(no_mangle)]
-pub extern "C" fn terravisco_card_read(
+pub fn terravisco_card_read(
     card: &[u8],
     rule_area: &mut [u32],
     rule_bytes: &mut [u8],

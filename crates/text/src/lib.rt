@@ -1,4 +1,6 @@
 // Text in lent slices: the end of a line, bytes and numbers written one behind another, and a line that comes in pieces.
+#![tactic(auto)]
+
 ghost use Rattle.std.specs.Prelude.{◌≡◌, false, [], ◌∷◌, ◌+◌, ◌≤◌, ◌<◌, length, drop};
 ghost use Rattle.text.specs.Gathering.{Gathered};
 ghost use Rattle.text.specs.Lines.{newline, line_length};

@@ -11,6 +11,8 @@
 //   row        the first numbers of the result area after the gateway's answer
 //
 // and last that answer.
+#![tactic(auto)]
+
 ghost use Rattle.std.specs.Prelude.{◌≡◌, List, ℕ, ◌+◌, ◌*◌, ◌≤◌, ◌<◌, ◌^◌, length};
 ghost use Rattle.syntax.specs.Limits.{rule_limit, rule_area_need, registers};
 ghost use Rattle.machine.specs.Code.{Fits};

@@ -2,6 +2,8 @@
 //
 // Nothing is ever gone back to, so that registers are enough and no frame is pushed. A turn (`take_turn`) costs the same whatever the subject; only a reference
 // looks at its bytes, and an alternation at as many branches as the number that was sent.
+#![tactic(auto)]
+
 mod items;
 mod turns;
 

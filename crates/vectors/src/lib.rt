@@ -1,4 +1,6 @@
 // Lines of test vectors: digits, hex bytes and words.
+#![tactic(auto)]
+
 ghost use Rattle.std.specs.Prelude.{◌≡◌, ◌≤◌, length};
 ghost use Rattle.std.proofs.Math.Seq.{slice};
 ghost use Rattle.vectors.specs.Text.{digit_value, number_in, Decoded, word_end, next_word};

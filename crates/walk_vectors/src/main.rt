@@ -3,6 +3,8 @@
 // A line of input has five words: the flags, the budget and the start in decimal, the rule and the subject in hex.
 // It gives a line for each end, 'end', the steps, the position and each group's span, 's-e' or '-'; and last 'done' or 'spent' and the steps,
 // or, for a rule that is refused, the refusal's number, 'at' and its place.
+#![tactic(auto)]
+
 ghost use Rattle.std.specs.Prelude.{◌≡◌, List, ℕ, ◌+◌, ◌*◌, ◌≤◌, ◌<◌, ◌^◌, length};
 ghost use Rattle.syntax.specs.Limits.{rule_limit, rule_area_need, group_limit, registers};
 ghost use Rattle.syntax.specs.Tree.{Rule};

@@ -1,4 +1,6 @@
 // Writes the nodes of a rule that is being read into a lent area, each behind those before it.
+#![tactic(auto)]
+
 ghost use Rattle.std.specs.Prelude.{◌≡◌, [], ◌∷◌, ◌+◌, ◌≤◌, ◌<◌, length};
 ghost use Rattle.syntax.specs.Limits.{group_limit, slot};
 ghost use Rattle.syntax.specs.Flags.{ignore_case};
