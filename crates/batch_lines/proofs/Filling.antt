@@ -9,7 +9,7 @@ use Rattle.syntax.specs.Limits.{part_length}
 use Rattle.syntax.specs.Tree.{Rule}
 use Rattle.semantics.specs.Calls.{work_area_need}
 use Rattle.semantics.specs.Batches.{lines_of, parts_need}
-use Rattle.semantics.specs.Laws.Lines.{lines-at-end}
+use Rattle.semantics.proofs.Laws.Lines.{lines-at-end}
 use Rattle.machine.specs.Theorem.{Stands}
 use Rattle.frame.specs.Inputs.{between}
 use Rattle.text.specs.Lines.{line_length}

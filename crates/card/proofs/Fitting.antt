@@ -5,7 +5,7 @@ use Prim.Native.Nat.{ℕ, ◌≤◌}
 use Rattle.syntax.specs.Limits.{rule_limit}
 use Rattle.card_format.specs.Cards.{pieces_for, card_need, write_call, read_call}
 use Rattle.card_format.specs.CardDemands.{Bytes}
-use Rattle.card_format.specs.CardTheorems.{wrote-fits, read_fits}
+use Rattle.card_format.proofs.CardTheorems.{wrote-fits, read_fits}
 use Rattle.cards.specs.declared.writing.WriteAnswer.{WriteAnswer}
 use Rattle.cards.specs.declared.writing.WriteAnswer.TheVariants.{Wrote}
 use Rattle.cards.specs.declared.reading.ReadAnswer.{ReadAnswer}

@@ -3,9 +3,6 @@
 -- docs/REFERENCE.md, 17
 pub mod Cards
 pub mod CardDemands
-pub mod CardDemandsHold
-pub mod CardTheorems
 pub mod Places
-pub mod Laws
 pub mod Computing
 pub mod Examples

@@ -10,8 +10,8 @@ use Rattle.syntax.specs.Limits.{unset}
 use Rattle.syntax.specs.Tree.{Rule}
 use Rattle.semantics.specs.Walk.{Trace, trace}
 use Rattle.semantics.specs.Explanations.{Failure, failed, failed_from, failures, greatest, position}
-use Rattle.semantics.specs.Laws.Failures.{failed_from-next}
-use Rattle.semantics.specs.Laws.Misses.{miss-inside}
+use Rattle.semantics.proofs.Laws.Failures.{failed_from-next}
+use Rattle.semantics.proofs.Laws.Misses.{miss-inside}
 use Rattle.machine.specs.Moves.{Bytes, go}
 use Rattle.machine.specs.Theorem.{Stands, Clear}
 use Rattle.plain.specs.Telling.{hears_all}

@@ -3,7 +3,7 @@
 use Rattle.std.specs.Prelude.{◌≡◌, List, [], Bool, true, false, ℕ, ◌+◌, ◌*◌, ◌^◌, ◌≤◌, ◌<◌, length, get_or}
 use Rattle.syntax.specs.Tree.{Rule}
 use Rattle.semantics.specs.Walk.{Trace, trace}
-use Rattle.semantics.specs.Laws.Loops.{Quiet}
+use Rattle.semantics.proofs.Laws.Loops.{Quiet}
 use Rattle.machine.specs.declared.Machine.{Machine}
 use Rattle.machine.specs.Moves.{Now}
 use Rattle.machine.specs.Ready.{StackFits, frames, origin}

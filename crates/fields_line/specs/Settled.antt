@@ -20,15 +20,15 @@ use Rattle.syntax.specs.Tree.{Rule}
 use Rattle.semantics.specs.States.{State, Row, row}
 use Rattle.semantics.specs.Answers.{Outcome, matched, not_matched, exhausted, answer, Ending, complete, full, exhausted_at, Listing, listing, known}
 use Rattle.semantics.specs.Demands.{In, Reading, MatchedWhen, Precedes}
-use Rattle.semantics.specs.Laws.Cases.{clash, three, same_or, bool}
-use Rattle.semantics.specs.Laws.Matches.{demand_2, derives-reaches}
-use Rattle.semantics.specs.Laws.Listings.{demand_3}
-use Rattle.semantics.specs.Laws.ListCalls.{rows-read}
-use Rattle.semantics.specs.Laws.Newness.{known_in, new-not}
+use Rattle.semantics.proofs.Laws.Cases.{clash, three, same_or, bool}
+use Rattle.semantics.proofs.Laws.Matches.{demand_2, derives-reaches}
+use Rattle.semantics.proofs.Laws.Listings.{demand_3}
+use Rattle.semantics.proofs.Laws.ListCalls.{rows-read}
+use Rattle.semantics.proofs.Laws.Newness.{known_in, new-not}
 use Rattle.index.specs.Laws.Known.{same_self, same-equal}
 use Rattle.text.specs.Lines.{newline}
 use Rattle.fields_text.specs.Table.{tab}
-use Rattle.fields_text.specs.Laws.Columns.{Visible, count, columns-of-row, lines-of-row}
+use Rattle.fields_text.proofs.Laws.Columns.{Visible, count, columns-of-row, lines-of-row}
 use Rattle.fields_row.specs.declared.words.Word.{Word}
 use Rattle.fields_row.specs.declared.words.Word.TheVariants.{Matched, Ambiguous, Undecided, NotMatched, Exhausted, TooLong}
 use Rattle.fields_row.specs.Fields.{field_named, fields, text_of, kind_of}

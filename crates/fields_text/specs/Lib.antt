@@ -3,4 +3,3 @@
 pub mod Escaping
 pub mod Table
 pub mod Promises
-pub mod Laws

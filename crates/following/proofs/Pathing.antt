@@ -8,7 +8,7 @@ use lib.Seq.{drop-cons}
 use Rattle.syntax.specs.Limits.{spans_length}
 use Rattle.semantics.specs.States.{State}
 use Rattle.semantics.specs.Proposals.{Trail, step_then, arrives, strays, steps_then, Finding, a_reading, no_reading, exhausts, Check, unless_left, one_more, within}
-use Rattle.semantics.specs.Laws.Cases.{clash}
+use Rattle.semantics.proofs.Laws.Cases.{clash}
 use Rattle.machine.specs.Code.{Program}
 use Rattle.machine.specs.Laws.Code.{decode-at}
 use Rattle.following.specs.declared.Followed.TheVariants.{Arrived, Missed, Spent}

@@ -12,7 +12,7 @@ use Rattle.syntax.specs.Tree.{Rule}
 use Rattle.semantics.specs.Walk.{trace}
 use Rattle.semantics.specs.Answers.{Ending, complete, full, exhausted_at}
 use Rattle.semantics.specs.Calls.{joined, room, list_outcome}
-use Rattle.semantics.specs.Laws.Loops.{list-begin, list-quiet, list-next, list-last}
+use Rattle.semantics.proofs.Laws.Loops.{list-begin, list-quiet, list-next, list-last}
 use Rattle.machine.specs.Moves.{Bytes, Now, go}
 use Rattle.machine.specs.Ready.{nothing, until}
 use Rattle.machine.specs.Theorem.{Stands, Clear, begins}

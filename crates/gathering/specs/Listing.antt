@@ -6,7 +6,7 @@ use Rattle.semantics.specs.States.{Row}
 use Rattle.semantics.specs.Walk.{trace}
 use Rattle.semantics.specs.Answers.{listing}
 use Rattle.semantics.specs.Calls.{over, joined, room, ListOutcome, list_complete, list_full, list_exhausted, list_refused, list_outcome}
-use Rattle.semantics.specs.Laws.Loops.{ListAt}
+use Rattle.semantics.proofs.Laws.Loops.{ListAt}
 use Rattle.gathering.specs.declared.Listing.{Listing}
 use Rattle.gathering.specs.declared.Listing.TheVariants.{Complete as Listed·whole, Full as Listed·full, Exhausted, Refused}
 use Rattle.noting.specs.Noting.{Holds}

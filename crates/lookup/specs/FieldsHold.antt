@@ -10,7 +10,7 @@ use Rattle.semantics.specs.States.{State, Row, row}
 use Rattle.semantics.specs.Answers.{matched}
 use Rattle.semantics.specs.Calls.{Call, match_call}
 use Rattle.semantics.specs.Demands.{Accepted, span_from, span_to, IsUnset, RowFacts}
-use Rattle.semantics.specs.DemandsHold.{match-meets-demands}
+use Rattle.semantics.proofs.DemandsHold.{match-meets-demands}
 use Rattle.lookup.specs.declared.Found.TheVariants.{Standing, Nothing}
 use Rattle.lookup.specs.Names.{group_named}
 use Rattle.lookup.specs.Lookup.{of_group, lookup, field_of}

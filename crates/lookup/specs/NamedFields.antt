@@ -14,8 +14,8 @@ use Rattle.semantics.specs.NameIndex.{name_of, name_index}
 use Rattle.semantics.specs.Answers.{matched}
 use Rattle.semantics.specs.Calls.{Call, over, match_call}
 use Rattle.semantics.specs.Demands.{Accepted, span_from, span_to, IsUnset}
-use Rattle.semantics.specs.DemandsHold.{match-meets-demands}
-use Rattle.semantics.specs.Laws.Areas.{written_over}
+use Rattle.semantics.proofs.DemandsHold.{match-meets-demands}
+use Rattle.semantics.proofs.Laws.Areas.{written_over}
 use Rattle.lookup.specs.declared.Found.{Found}
 use Rattle.lookup.specs.declared.Found.TheVariants.{Standing, Nothing}
 use Rattle.lookup.specs.Names.{group_named}

@@ -9,7 +9,7 @@ use Rattle.charset.specs.Class.{bit}
 use Rattle.charset.specs.Named.{◌to◌, in_range, ranges, in_ranges, in_named}
 use Rattle.charset.specs.Laws.Tables.{all, all-at, same}
 use Rattle.semantics.specs.Assertions.{is_word}
-use Rattle.semantics.specs.Laws.Cases.{le-or}
+use Rattle.semantics.proofs.Laws.Cases.{le-or}
 use Rattle.nodes.proofs.Tests.{under-range, over-range}
 
 -- a row whose bits are those of its values

@@ -10,7 +10,7 @@ use Rattle.semantics.specs.States.{State, Row, row}
 use Rattle.semantics.specs.Walk.{end, Trace}
 use Rattle.semantics.specs.Answers.{full, exhausted_at}
 use Rattle.semantics.specs.Calls.{joined, room}
-use Rattle.semantics.specs.Laws.Loops.{ListAt, list-quiet, list-known, list-new, list_full, list_over}
+use Rattle.semantics.proofs.Laws.Loops.{ListAt, list-quiet, list-known, list-new, list_full, list_over}
 use Rattle.machine.specs.declared.Machine.{Machine}
 use Rattle.machine.specs.declared.Stop.{Stop}
 use Rattle.machine.specs.declared.Stop.TheVariants.{End, Nothing, Spent as OutOfSteps}

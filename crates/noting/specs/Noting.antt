@@ -7,7 +7,7 @@ use Rattle.semantics.specs.States.{Row}
 use Rattle.semantics.specs.Walk.{Trace}
 use Rattle.semantics.specs.Answers.{known, Ending, full, exhausted_at, listing}
 use Rattle.semantics.specs.Calls.{over, joined, room}
-use Rattle.semantics.specs.Laws.Loops.{ListAt}
+use Rattle.semantics.proofs.Laws.Loops.{ListAt}
 use Rattle.machine.specs.Moves.{Now}
 use Rattle.machine.specs.Ready.{Ready}
 use Rattle.noting.specs.declared.noting.Noted.{Noted}

@@ -1,7 +1,7 @@
 // What a page shows of a line, of a rule or of a name, written at a position of a lent slice; what is answered is the position behind it.
 //
-// Whatever the bytes are, what is written is text and never markup: `specs/Laws/Harmless.antt` says so of the definition that the promises cite, and
-// `specs/Laws/Decoding.antt` that no two texts look the same. A byte takes up to 16 bytes, so the caller lends 16 for each.
+// Whatever the bytes are, what is written is text and never markup: `proofs/Laws/Harmless.antt` says so of the definition that the promises cite, and
+// `proofs/Laws/Decoding.antt` that no two texts look the same. A byte takes up to 16 bytes, so the caller lends 16 for each.
 #![tactic(auto)]
 
 ghost use Rattle.std.specs.Prelude.{◌≡◌, ◌+◌, ◌*◌, ◌≤◌, length};

@@ -16,10 +16,10 @@ use Rattle.semantics.specs.States.{row}
 use Rattle.semantics.specs.Answers.{Answer, Listing as Found·all}
 use Rattle.semantics.specs.Scans.{is_empty, tries_left, search_from, scan}
 use Rattle.semantics.specs.Calls.{joined, room, list_outcome}
-use Rattle.semantics.specs.Laws.Loops.{after_rows}
-use Rattle.semantics.specs.Laws.Scans.{scan-demand, search-fewer}
-use Rattle.semantics.specs.Laws.ScanSteps.{scan_steps}
-use Rattle.semantics.specs.Laws.ScanLoops.{ScanAt, scan-begin, scan-row, scan-full, scan-over, scan-last}
+use Rattle.semantics.proofs.Laws.Loops.{after_rows}
+use Rattle.semantics.proofs.Laws.Scans.{scan-demand, search-fewer}
+use Rattle.semantics.proofs.Laws.ScanSteps.{scan_steps}
+use Rattle.semantics.proofs.Laws.ScanLoops.{ScanAt, scan-begin, scan-row, scan-full, scan-over, scan-last}
 use Rattle.gathering.specs.declared.Listing.{Listing}
 use Rattle.gathering.specs.Listing.{listing_of}
 use Rattle.noting.specs.Laws.Holding.{same-room, holds_more}

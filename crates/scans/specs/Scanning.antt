@@ -6,7 +6,7 @@ use Rattle.semantics.specs.States.{Row}
 use Rattle.semantics.specs.Answers.{Ending, complete, full, exhausted_at}
 use Rattle.semantics.specs.Scans.{scan}
 use Rattle.semantics.specs.Calls.{over, joined, room, list_outcome}
-use Rattle.semantics.specs.Laws.ScanLoops.{ScanAt}
+use Rattle.semantics.proofs.Laws.ScanLoops.{ScanAt}
 use Rattle.gathering.specs.declared.Listing.{Listing}
 use Rattle.gathering.specs.Listing.{listing_of}
 use Rattle.noting.specs.Noting.{Holds}

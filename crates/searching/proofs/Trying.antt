@@ -12,8 +12,8 @@ use Rattle.semantics.specs.States.{State}
 use Rattle.semantics.specs.Walk.{end, Trace, trace}
 use Rattle.semantics.specs.Answers.{exhausted}
 use Rattle.semantics.specs.Scans.{barring, search_from}
-use Rattle.semantics.specs.Laws.Cases.{clash}
-use Rattle.semantics.specs.Laws.ScanLoops.{TryAt, try-begin, try-over, try-quiet, try-barred, try-end}
+use Rattle.semantics.proofs.Laws.Cases.{clash}
+use Rattle.semantics.proofs.Laws.ScanLoops.{TryAt, try-begin, try-over, try-quiet, try-barred, try-end}
 use Rattle.machine.specs.declared.Machine.{Machine}
 use Rattle.machine.specs.declared.Stop.{Stop}
 use Rattle.machine.specs.declared.Stop.TheVariants.{End, Nothing, Spent}

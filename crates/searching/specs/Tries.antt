@@ -4,7 +4,7 @@ use Rattle.std.specs.Prelude.{◌≡◌, List, [], Bool, ℕ, ◌-◌, ◌≤◌
 use Rattle.syntax.specs.Tree.{Rule}
 use Rattle.semantics.specs.Answers.{exhausted}
 use Rattle.semantics.specs.Scans.{search_from}
-use Rattle.semantics.specs.Laws.Loops.{SeekAt}
+use Rattle.semantics.proofs.Laws.Loops.{SeekAt}
 use Rattle.machine.specs.declared.Stop.{Stop}
 use Rattle.machine.specs.declared.Stop.TheVariants.{End, Nothing, Spent}
 use Rattle.seeking.specs.Starts.{Match}

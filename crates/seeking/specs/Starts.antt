@@ -5,7 +5,7 @@ use Rattle.syntax.specs.Tree.{Rule}
 use Rattle.semantics.specs.States.{State}
 use Rattle.semantics.specs.Walk.{trace}
 use Rattle.semantics.specs.Answers.{matched, not_matched, exhausted, Answer}
-use Rattle.semantics.specs.Laws.Loops.{SeekAt}
+use Rattle.semantics.proofs.Laws.Loops.{SeekAt}
 use Rattle.seeking.specs.declared.Sought.{Sought}
 use Rattle.seeking.specs.declared.Sought.TheVariants.{Found, Nothing, Spent}
 

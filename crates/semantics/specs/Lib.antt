@@ -18,14 +18,10 @@ pub mod Checks
 pub mod Batches
 pub mod Demands
 pub mod ScanDemands
-pub mod DemandsHold
 pub mod CheckDemands
-pub mod CheckDemandsHold
 pub mod BatchDemands
-pub mod BatchDemandsHold
 pub mod Profile
 pub mod Budgets
-pub mod Laws
 pub mod Computing
 pub mod Checked
 pub mod Samples

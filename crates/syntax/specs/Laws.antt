@@ -5,7 +5,6 @@ pub mod Within
 pub mod Fuel
 pub mod Formation
 pub mod Names
-pub mod Places
 pub mod Profile
 pub mod Checkable
 pub mod ClassTest

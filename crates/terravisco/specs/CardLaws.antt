@@ -5,11 +5,11 @@ use Rattle.syntax.specs.declared.Reason.{Reason}
 use Rattle.syntax.specs.Limits.{rule_limit}
 use Rattle.syntax.specs.Read.{Read, refused}
 use Rattle.syntax.specs.Reading.{reading}
-use Rattle.syntax.specs.Laws.Places.{Placed, reading-placed}
+use Rattle.syntax.proofs.Laws.Places.{Placed, reading-placed}
 use Rattle.card_format.specs.Cards.{WriteOutcome, write_wrote, write_refused, write_call, ReadOutcome, read_holds, read_refused, read_call}
 use Rattle.card_format.specs.CardDemands.{Bytes, Unsound, itself, its_own, WriteRefuses, area_short, unsound, ReadRefuses, no_card, miscounted}
-use Rattle.card_format.specs.CardDemandsHold.{write-meets-demands, read-meets-demands}
-use Rattle.card_format.specs.Laws.Ruling.{faultless-fitting}
+use Rattle.card_format.proofs.CardDemandsHold.{write-meets-demands, read-meets-demands}
+use Rattle.card_format.proofs.Laws.Ruling.{faultless-fitting}
 use Rattle.answers.specs.CardLaws.{WritePlaced, ReadPlaced}
 
 of-reading : {A : Type 0} (n : ℕ) (x : Read A) (place : ℕ) (why : Reason) → x ≡ refused place why → Placed n x → place ≤ n

@@ -7,15 +7,15 @@ use Rattle.syntax.specs.declared.Reason.TheVariants.{RuleTooLong}
 use Rattle.syntax.specs.Limits.{rule_limit, row_length}
 use Rattle.syntax.specs.Read.{Read, refused}
 use Rattle.syntax.specs.Reading.{reading}
-use Rattle.syntax.specs.Laws.Places.{Placed, reading-placed}
+use Rattle.syntax.proofs.Laws.Places.{Placed, reading-placed}
 use Rattle.semantics.specs.Calls.{Call, match_call, list_call, scan_call, MatchOutcome, match_matched, match_not_matched, match_exhausted, match_refused, ListOutcome, list_complete, list_full, list_exhausted, list_refused, explain_call, ExplainOutcome, explain_fits, explain_unfit, explain_exhausted, explain_refused}
 use Rattle.semantics.specs.Batches.{BatchOutcome, batch_done, batch_refused, lines_of, lineless, parts_need, batch_call}
 use Rattle.semantics.specs.Checks.{CheckOutcome, check_reading, check_no_reading, check_exhausted, check_refused, check_call}
 use Rattle.semantics.specs.CheckDemands.{CheckRefuses, like_match, held_or_look, too_many_branches}
-use Rattle.semantics.specs.CheckDemandsHold.{check-meets-demands, form-within, crowd-within}
+use Rattle.semantics.proofs.CheckDemandsHold.{check-meets-demands, form-within, crowd-within}
 use Rattle.semantics.specs.Demands.{Faultless, rule_too_long, Refuses, itself, its_rule}
-use Rattle.semantics.specs.DemandsHold.{match-meets-demands, list-meets-demands, scan-meets-demands, explain-meets-demands}
-use Rattle.semantics.specs.Laws.Batches.{batch-demand_1}
+use Rattle.semantics.proofs.DemandsHold.{match-meets-demands, list-meets-demands, scan-meets-demands, explain-meets-demands}
+use Rattle.semantics.proofs.Laws.Batches.{batch-demand_1}
 use Rattle.finding.specs.declared.Outcome.{Outcome}
 use Rattle.gathering.specs.declared.Listing.{Listing}
 use Rattle.finding.specs.Outcomes.{outcome_of}

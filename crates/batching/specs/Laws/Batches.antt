@@ -7,9 +7,9 @@ use Rattle.syntax.specs.Reading.{names_of}
 use Rattle.semantics.specs.NameIndex.{name_index}
 use Rattle.semantics.specs.Calls.{Call, work_area_need, over, cleared, leaving}
 use Rattle.semantics.specs.Batches.{batch_done, lineless, parts_need, batch_rule}
-use Rattle.semantics.specs.Laws.Cases.{le-or}
-use Rattle.semantics.specs.Laws.Parts.{lines-outnumber-parts}
-use Rattle.semantics.specs.Laws.Refusals.{none-exactly, result_area-enough}
+use Rattle.semantics.proofs.Laws.Cases.{le-or}
+use Rattle.semantics.proofs.Laws.Parts.{lines-outnumber-parts}
+use Rattle.semantics.proofs.Laws.Refusals.{none-exactly, result_area-enough}
 use Rattle.frame.specs.Inputs.{Told}
 use Rattle.frame.specs.Preparing.{Readied}
 use Rattle.batch_lines.specs.Parts.{filled}

@@ -9,10 +9,10 @@ use Rattle.semantics.specs.Answers.{Outcome, matched, not_matched, exhausted, an
 use Rattle.semantics.specs.Calls.{Call, over, untouched, leaving, match_returns, match_rule}
 use Rattle.semantics.specs.Batches.{line_call, outcome_numbers, told, part_of, parts, lineless, parts_need}
 use Rattle.semantics.specs.Demands.{Accepted}
-use Rattle.semantics.specs.Laws.Areas.{over_nothing}
-use Rattle.semantics.specs.Laws.Cases.{le-or}
-use Rattle.semantics.specs.Laws.Parts.{row-in-part, fit-first, first_part}
-use Rattle.semantics.specs.Laws.Batches.{part-too-long, part-answered}
+use Rattle.semantics.proofs.Laws.Areas.{over_nothing}
+use Rattle.semantics.proofs.Laws.Cases.{le-or}
+use Rattle.semantics.proofs.Laws.Parts.{row-in-part, fit-first, first_part}
+use Rattle.semantics.proofs.Laws.Batches.{part-too-long, part-answered}
 use Rattle.batch_lines.specs.Parts.{alone, line_return, line_part, filled}
 use Rattle.batch_lines.specs.Laws.Parts.{long-return, short-return}
 

@@ -1,7 +1,7 @@
 -- Each kind, and every other byte.
 use mathlib.Core.Path.{sym}
 use Rattle.card_format.specs.Cards.{body_length}
-use Rattle.card_format.specs.Laws.Cutting.{no_kind}
+use Rattle.card_format.proofs.Laws.Cutting.{no_kind}
 use Rattle.card_format.proofs.body_length.Statement.{statement}
 use Rattle.card_format.proofs.body_length.Tie as tie
 

@@ -10,15 +10,15 @@ use Rattle.std.proofs.Math.ListN.{length, get_or-append}
 use Rattle.std.proofs.Math.Seq.{length-take-le}
 use Rattle.syntax.specs.declared.Reason.TheVariants.{WrongRecords, StrayBytes}
 use Rattle.syntax.specs.Sets.{same_bytes}
-use Rattle.semantics.specs.Laws.Cases.{clash, le-or}
+use Rattle.semantics.proofs.Laws.Cases.{clash, le-or}
 use Rattle.index.specs.Laws.Known.{same_self, same-equal}
 use Rattle.card_format.specs.Cards.{settings_kind, settings_body, piece_kind, piece_body, length_kind, length_body, CardRecord, in_bytes, bodies, kinds, of_two, pieces_for, all_zero, text, is_tidy, said_by, fails, card_in}
 use Rattle.card_format.specs.CardDemands.{Whole, whole_settings, whole_piece, AllWhole, Parts, InOrder, wrong_records, stray_padding, stray_trailing}
 use Rattle.card_records.specs.Walking.{orderly, CutsAt, IsPadding, IsCard}
-use Rattle.card_format.specs.Laws.Pieces.{pieces-again, pieces-enough, pieces-long, all-zero, text_at}
-use Rattle.card_format.specs.Laws.Scanning.{scan-card, card-in, order-known, fault-fails}
+use Rattle.card_format.proofs.Laws.Pieces.{pieces-again, pieces-enough, pieces-long, all-zero, text_at}
+use Rattle.card_format.proofs.Laws.Scanning.{scan-card, card-in, order-known, fault-fails}
 use Rattle.card_format.specs.Places.{place, text_end}
-use Rattle.card_format.specs.Laws.Written.{place_is}
+use Rattle.card_format.proofs.Laws.Written.{place_is}
 use Rattle.card_records.specs.Laws.Walking.{orderly-long, kinds-long}
 
 -- Records in order -------------------------------------------------------------------------

@@ -10,8 +10,8 @@ use Rattle.syntax.specs.Sets.{same_bytes}
 use Rattle.card_format.specs.Cards.{settings_kind, settings_body, piece_kind, piece_body, length_kind, length_body, CardRecord, in_bytes, kinds, body_length}
 use Rattle.card_format.specs.CardDemands.{Whole, whole_settings, whole_piece, AllWhole, Kind, of_settings, of_piece, of_length, Unknown, Short, no_end, within}
 use Rattle.card_records.specs.Walking.{kind_at, orderly, goes_on, CutsAt}
-use Rattle.card_format.specs.Laws.Cutting.{kind-body, known-or, body-unknown}
-use Rattle.card_format.specs.Laws.Scanning.{bytes-append, one-record}
+use Rattle.card_format.proofs.Laws.Cutting.{kind-body, known-or, body-unknown}
+use Rattle.card_format.proofs.Laws.Scanning.{bytes-append, one-record}
 
 -- The kinds in order -----------------------------------------------------------------------
 

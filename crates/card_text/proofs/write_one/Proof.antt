@@ -1,7 +1,7 @@
 -- By cases: what can be printed and what cannot, and the byte or the sign under it.
 use mathlib.Core.Path.{sym, ◌∙◌}
 use native.Mathlib.Omega.{arith}
-use Rattle.fields_text.specs.Laws.Writing.{wrote_few, wrote_as}
+use Rattle.fields_text.proofs.Laws.Writing.{wrote_few, wrote_as}
 use Rattle.card_text.specs.Laws.Writing.{under-printed, as_itself, under-odd, as_hex}
 use borrow.Author.Rules.{rules}
 use Rattle.card_text.proofs.write_one.Statement.{statement}

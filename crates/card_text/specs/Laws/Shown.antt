@@ -1,7 +1,7 @@
 -- What is shown of a rule: one that can be printed stands there as it is, and the signs under any other stand under what they mark.
 use Rattle.std.specs.Prelude.{◌≡◌, refl, Bool, true, false, not, ◌||◌, List, [], ◌∷◌, ◌++◌, ℕ, length}
 use Rattle.std.proofs.Common.{ap, arith, length-append}
-use Rattle.semantics.specs.Laws.Cases.{clash}
+use Rattle.semantics.proofs.Laws.Cases.{clash}
 use Rattle.report.specs.Text.{is_printed, is_odd}
 use Rattle.fields_text.specs.Escaping.{hexed}
 use Rattle.card_text.specs.Text.{one, each}

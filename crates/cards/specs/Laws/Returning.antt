@@ -12,7 +12,7 @@ use Rattle.syntax.specs.Read.{refused}
 use Rattle.syntax.specs.Reading.{reading}
 use Rattle.syntax.specs.Laws.Names.{names_of-few}
 use Rattle.semantics.specs.Calls.{over, cleared}
-use Rattle.semantics.specs.Laws.Areas.{over_nothing}
+use Rattle.semantics.proofs.Laws.Areas.{over_nothing}
 use Rattle.reader.specs.declared.compiling.Compilation.{Compilation}
 use Rattle.reader.specs.declared.compiling.Compilation.TheVariants.{Sound as Compiled}
 use Rattle.reader.specs.Compiles.{Says, Compiles, Stands}
@@ -22,14 +22,14 @@ use Rattle.refusals.specs.Fitness.{fitness_of}
 use Rattle.cards.specs.declared.ruling.Counting.{Counting}
 use Rattle.card_format.specs.Cards.{Card, written, card_need, untouched, leaving, unfit, fails, card_in, rule_in, write_wrote, write_refused, writes, write_call, read_holds, read_refused, reads, read_scan, read_call, rule_bytes_need}
 use Rattle.card_format.specs.CardDemands.{Bytes, card_of, Fitting, Sound}
-use Rattle.card_format.specs.CardDemandsHold.{short-writes, ruled-write, unsound-writes, counted-writes, short-reads, scan-reads, ruled-read, unsound-reads, miscounted-reads, held_reads}
+use Rattle.card_format.proofs.CardDemandsHold.{short-writes, ruled-write, unsound-writes, counted-writes, short-reads, scan-reads, ruled-read, unsound-reads, miscounted-reads, held_reads}
 use Rattle.card_records.specs.Walking.{IsCard}
-use Rattle.card_format.specs.Laws.Scanning.{reads-written}
+use Rattle.card_format.proofs.Laws.Scanning.{reads-written}
 use Rattle.card_format.specs.Places.{text_end}
-use Rattle.card_format.specs.Laws.Written.{written-long, flags-at, low-at, high-at, groups-at, size-at}
+use Rattle.card_format.proofs.Laws.Written.{written-long, flags-at, low-at, high-at, groups-at, size-at}
 use Rattle.card_records.specs.Room.{Writable}
 use Rattle.cards.specs.Answers.{Returned, Counted, Counts, Legible}
-use Rattle.card_format.specs.Laws.Ruling.{fitting-faultless, none-fitting, ruled-given}
+use Rattle.card_format.proofs.Laws.Ruling.{fitting-faultless, none-fitting, ruled-given}
 
 -- The rule ----------------------------------------------------------------------------------
 

@@ -4,7 +4,7 @@ use Rattle.std.proofs.Common.{ap, sym, ◌∙◌, arith, add-one, eq-eqb, ne_eqb
 use Rattle.semantics.specs.Assertions.{is_newline}
 use Rattle.semantics.specs.Batches.{lines_of}
 use Rattle.semantics.specs.BatchDemands.{one_more_if, newlines}
-use Rattle.semantics.specs.Laws.Lines.{many-lines_of, newlines-append, newlines-next, lines-at-end}
+use Rattle.semantics.proofs.Laws.Lines.{many-lines_of, newlines-append, newlines-next, lines-at-end}
 
 newline-is : (b : ℕ) → b ≡ 10 → is_newline b ≡ true
 unfolding is_newline

@@ -6,7 +6,7 @@ use borrow.Author.Tests.{eq-eqb, ne_eqb}
 use Rattle.syntax.specs.Tree.{Rule}
 use Rattle.semantics.specs.Explanations.{Failure, marks}
 use Rattle.semantics.specs.Calls.{over}
-use Rattle.semantics.specs.Laws.Explanations.{marks-of}
+use Rattle.semantics.proofs.Laws.Explanations.{marks-of}
 use Rattle.plain.specs.declared.Missed.{Missed}
 use Rattle.machine.specs.declared.Machine.{Machine}
 use Rattle.failures.specs.Accounts.{marked_if, marked_by}

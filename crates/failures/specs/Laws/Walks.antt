@@ -13,11 +13,11 @@ use Rattle.semantics.specs.States.{State, starting}
 use Rattle.semantics.specs.Walk.{Event, step, miss, end, Trace, trace}
 use Rattle.semantics.specs.Answers.{not_matched, answer}
 use Rattle.semantics.specs.Explanations.{Failure, failures, greatest, nowhere, or_nowhere, reach, closest}
-use Rattle.semantics.specs.Laws.Failures.{greatest-in, greatest-some}
-use Rattle.semantics.specs.Laws.Misses.{failure-misses}
-use Rattle.semantics.specs.Laws.Loops.{Quiet}
-use Rattle.semantics.specs.Laws.Traces.{Ends, ends-reaches}
-use Rattle.semantics.specs.Laws.Matches.{reaches-derives, demand_2}
+use Rattle.semantics.proofs.Laws.Failures.{greatest-in, greatest-some}
+use Rattle.semantics.proofs.Laws.Misses.{failure-misses}
+use Rattle.semantics.proofs.Laws.Loops.{Quiet}
+use Rattle.semantics.proofs.Laws.Traces.{Ends, ends-reaches}
+use Rattle.semantics.proofs.Laws.Matches.{reaches-derives, demand_2}
 use Rattle.machine.specs.Code.{decode, Fits}
 use Rattle.machine.specs.Moves.{explore, Bytes, Configuration, Now, idle, busy, state, go, Shows, carry_out, move}
 use Rattle.machine.specs.Ready.{StackFits, replay}

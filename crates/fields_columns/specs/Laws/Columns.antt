@@ -9,7 +9,7 @@ use native.Mathlib.Omega.{arith}
 use Rattle.std.proofs.Math.ListN.{get_or, take, length-take, length-drop}
 use Rattle.std.proofs.Math.Seq.{get_or-drop, take_all, take-nil, take_at, length-take-le}
 use Rattle.syntax.specs.Limits.{name_limit, name_entry}
-use Rattle.semantics.specs.Laws.Cases.{le-or}
+use Rattle.semantics.proofs.Laws.Cases.{le-or}
 use Rattle.text.specs.Writing.{written}
 use Rattle.lookup.specs.Names.{entry_of, name_length, name_in}
 use Rattle.fields_columns.specs.Columns.{name_at, names_from, named}

@@ -12,10 +12,10 @@ use Rattle.semantics.specs.States.{Row}
 use Rattle.semantics.specs.Answers.{Ending, complete, full, exhausted_at, Listing, listing}
 use Rattle.semantics.specs.Calls.{joined, room, list_outcome}
 use Rattle.semantics.specs.Demands.{In, rows_reported}
-use Rattle.semantics.specs.Laws.ListCalls.{rows-read}
-use Rattle.semantics.specs.Laws.Listings.{demand_3}
-use Rattle.semantics.specs.Laws.Rows.{row-facts}
-use Rattle.semantics.specs.Laws.Areas.{room-holds}
+use Rattle.semantics.proofs.Laws.ListCalls.{rows-read}
+use Rattle.semantics.proofs.Laws.Listings.{demand_3}
+use Rattle.semantics.proofs.Laws.Rows.{row-facts}
+use Rattle.semantics.proofs.Laws.Areas.{room-holds}
 use Rattle.index.specs.Rows.{rows_at, Whole}
 use Rattle.gathering.specs.declared.Listing.{Listing as Answer}
 use Rattle.gathering.specs.Listing.{listing_of, Lists}

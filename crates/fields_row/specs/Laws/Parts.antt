@@ -4,14 +4,14 @@ use Rattle.std.proofs.Common.{sym, ◌∙◌, inl, inr, add-one, arith, eq-eqb, 
 use Rattle.std.proofs.Math.Path.{ap}
 use mathlib.Core.List.{List, [], ◌∷◌, ◌++◌, append_assoc}
 use Rattle.std.proofs.Math.ListN.{drop_of_length-le}
-use Rattle.semantics.specs.Laws.Cases.{same_or}
+use Rattle.semantics.proofs.Laws.Cases.{same_or}
 use Rattle.text.specs.Writing.{Wrote}
 use Rattle.text.specs.Laws.Writing.{wrote_both}
 use Rattle.lookup.specs.Lookup.{lookup, field_of}
 use Rattle.fields_text.specs.Escaping.{escaped}
 use Rattle.fields_text.specs.Table.{tab, cells}
 use Rattle.fields_text.specs.Promises.{WroteUpTo}
-use Rattle.fields_text.specs.Laws.Writing.{escaped-append}
+use Rattle.fields_text.proofs.Laws.Writing.{escaped-append}
 use Rattle.fields_columns.specs.Columns.{name_at}
 use Rattle.fields_columns.specs.Laws.Columns.{names-next}
 use Rattle.fields_row.specs.declared.parts.Place.{Place}

@@ -1,5 +1,5 @@
 -- Each test is one case of the definition.
-use Rattle.fields_text.specs.Laws.Writing.{escape-tab, escape-newline, escape-return, escape-backslash, escape-low, escape-high, escape-plain, wrote_few, wrote_as}
+use Rattle.fields_text.proofs.Laws.Writing.{escape-tab, escape-newline, escape-return, escape-backslash, escape-low, escape-high, escape-plain, wrote_few, wrote_as}
 use native.Mathlib.Omega.{arith}
 use borrow.Author.Rules.{rules}
 use Rattle.fields_text.proofs.write_byte.Statement.{statement}

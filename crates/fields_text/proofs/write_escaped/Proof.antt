@@ -5,7 +5,7 @@ use native.Mathlib.Omega.{arith}
 use lib.ListN.{length, take}
 use Rattle.text.specs.Writing.{Wrote}
 use Rattle.fields_text.specs.Escaping.{escaped}
-use Rattle.fields_text.specs.Laws.Writing.{wrote_none, wrote_more, wrote_all}
+use Rattle.fields_text.proofs.Laws.Writing.{wrote_none, wrote_more, wrote_all}
 use Rattle.fields_text.proofs.write_escaped.Statement.{statement}
 use Rattle.fields_text.proofs.write_escaped.Tie as tie
 

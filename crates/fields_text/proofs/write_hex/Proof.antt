@@ -1,5 +1,5 @@
 -- Three texts, one behind another.
-use Rattle.fields_text.specs.Laws.Writing.{wrote_hex}
+use Rattle.fields_text.proofs.Laws.Writing.{wrote_hex}
 use borrow.Author.Rules.{rules}
 use Rattle.fields_text.proofs.write_hex.Statement.{statement}
 use Rattle.fields_text.proofs.write_hex.Tie as tie

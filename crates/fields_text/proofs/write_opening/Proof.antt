@@ -2,7 +2,7 @@
 use native.Mathlib.Omega.{arith}
 use Rattle.text.specs.Laws.Numbers.{twenty_digits}
 use Rattle.fields_text.specs.Table.{tab}
-use Rattle.fields_text.specs.Laws.Writing.{wrote_opening}
+use Rattle.fields_text.proofs.Laws.Writing.{wrote_opening}
 use borrow.Author.Rules.{rules}
 use Rattle.fields_text.proofs.write_opening.Statement.{statement}
 use Rattle.fields_text.proofs.write_opening.Tie as tie

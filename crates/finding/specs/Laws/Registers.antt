@@ -11,8 +11,8 @@ use Rattle.syntax.specs.WellFormed.{Proper}
 use Rattle.semantics.specs.States.{State, row}
 use Rattle.semantics.specs.Answers.{Answer, answer}
 use Rattle.semantics.specs.Demands.{RowFacts}
-use Rattle.semantics.specs.Laws.Matches.{demand_2}
-use Rattle.semantics.specs.Laws.Rows.{row-facts}
+use Rattle.semantics.proofs.Laws.Matches.{demand_2}
+use Rattle.semantics.proofs.Laws.Rows.{row-facts}
 use Rattle.machine.specs.Theorem.{Clear}
 use Rattle.seeking.specs.Starts.{Match}
 use Rattle.finding.specs.Registers.{Fresh}

@@ -23,9 +23,9 @@ use Rattle.semantics.specs.Items.{Tried, fails, goes, toll, try}
 use Rattle.semantics.specs.Repeats.{Next, round, leave, either, decision}
 use Rattle.semantics.specs.Derivations.{Again}
 use Rattle.semantics.specs.Proposals.{Trail, step_then, arrives, strays, Follow, ◌▸◌, steps_then, behind, choosing, either_way, settling, laps, follow, follow_in, path_of}
-use Rattle.semantics.specs.Laws.Right.{try-reach}
-use Rattle.semantics.specs.Laws.Cases.{three}
-use Rattle.semantics.specs.Laws.Following.{begun, begun-fewer}
+use Rattle.semantics.proofs.Laws.Right.{try-reach}
+use Rattle.semantics.proofs.Laws.Cases.{three}
+use Rattle.semantics.proofs.Laws.Following.{begun, begun-fewer}
 use Rattle.machine.specs.Code.{Program, Test, in_set, holding, same_as, Instruction, tests, opens, closes, branches, last_branch, enters, loops, runs, ends, breaks, marks, keeps, returns, forbids, refutes, repeat_at, decode, RepeatFits, Fits}
 use Rattle.machine.specs.Moves.{Bytes, set2, state, bump, tested, price}
 use Rattle.machine.specs.Laws.Code.{assertion-read, folded_read, repeat_read, decode-at, fits}

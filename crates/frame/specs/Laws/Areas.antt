@@ -3,7 +3,7 @@ use Rattle.std.specs.Prelude.{◌≡◌, refl, List, [], ◌++◌, ℕ, ◌+◌,
 use Rattle.std.proofs.Common.{sym, ◌∙◌, ap, arith, length-append, length-drop}
 use Rattle.std.proofs.lemmas.List.{length-replicate}
 use Rattle.semantics.specs.Calls.{over, cleared}
-use Rattle.semantics.specs.Laws.Areas.{over-more}
+use Rattle.semantics.proofs.Laws.Areas.{over-more}
 
 pub cleared-is : (n : ℕ) (area : List ℕ) → cleared n area ≡ replicate n 0 ++ drop n area
 unfolding cleared over

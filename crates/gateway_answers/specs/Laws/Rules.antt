@@ -14,7 +14,7 @@ use Rattle.syntax.specs.Reading.{reading}
 use Rattle.syntax.specs.WellFormed.{WellFormed}
 use Rattle.syntax.specs.Laws.Formation.{well-formed}
 use Rattle.syntax.specs.declared.Refusal.{Refusal}
-use Rattle.semantics.specs.Laws.Cases.{le-or}
+use Rattle.semantics.proofs.Laws.Cases.{le-or}
 use Rattle.reader.specs.declared.compiling.Compilation.{Compilation}
 use Rattle.reader.specs.declared.compiling.Compilation.TheVariants.{Sound, Refused}
 use Rattle.reader.specs.Compiles.{Fails, Compiles}

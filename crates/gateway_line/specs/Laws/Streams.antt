@@ -10,7 +10,7 @@ use Rattle.std.proofs.Math.ListN.{length, take, length-take}
 use Rattle.std.proofs.Math.Seq.{drop-length, append_snoc}
 use Rattle.std.proofs.Math.Dec.{eqb}
 use Rattle.syntax.specs.Tree.{Rule}
-use Rattle.semantics.specs.Laws.Cases.{le-or}
+use Rattle.semantics.proofs.Laws.Cases.{le-or}
 use Rattle.text.specs.Gathering.{Gathered}
 use Rattle.text.specs.Lines.{newline, line_length}
 use Rattle.text.specs.Laws.Lines.{line_within}

@@ -10,7 +10,7 @@ use Rattle.std.proofs.Math.Dec.{ltb}
 use Rattle.semantics.specs.Walk.{step, miss, end, Trace}
 use Rattle.semantics.specs.Explanations.{Failure, failed, greater, greatest, nowhere, or_nowhere, position, furthest, reach, closest}
 use Rattle.semantics.specs.Demands.{In}
-use Rattle.semantics.specs.Laws.Failures.{greatest-append}
+use Rattle.semantics.proofs.Laws.Failures.{greatest-append}
 use Rattle.greatest.specs.declared.greatest.Failed.{Failed}
 use Rattle.greatest.specs.declared.greatest.Best.{Best}
 use Rattle.greatest.specs.declared.leading.Kept.{Kept}

@@ -13,8 +13,8 @@ use Rattle.syntax.specs.Names.{Name, Names, is_used}
 use Rattle.syntax.specs.Laws.Names.{Short, Apart}
 use Rattle.semantics.specs.NameIndex.{name_of, entry, entries, name_index}
 use Rattle.semantics.specs.Calls.{over}
-use Rattle.semantics.specs.Laws.Areas.{entry-long}
-use Rattle.semantics.specs.Laws.Cases.{same_or}
+use Rattle.semantics.proofs.Laws.Areas.{entry-long}
+use Rattle.semantics.proofs.Laws.Cases.{same_or}
 use Rattle.index.specs.Laws.Known.{same_self}
 use Rattle.lookup.specs.Names.{entry_of, is_of, first_named, group_named}
 use Rattle.lookup.specs.Laws.Names.{first_found, entry-is_of, no_name}

@@ -7,7 +7,7 @@ use Rattle.std.proofs.Math.Seq.{slice, take-length, take-nil}
 use Rattle.syntax.specs.Limits.{group_limit, row_length, slot}
 use Rattle.semantics.specs.States.{Row}
 use Rattle.semantics.specs.Demands.{span_from, span_to, IsUnset}
-use Rattle.semantics.specs.Laws.Cases.{clash, le-or}
+use Rattle.semantics.proofs.Laws.Cases.{clash, le-or}
 use Rattle.lookup.specs.declared.Found.{Found}
 use Rattle.lookup.specs.declared.Found.TheVariants.{Taken, Standing, Nothing}
 use Rattle.lookup.specs.Names.{group_named}

@@ -10,7 +10,7 @@ use Rattle.std.proofs.Math.ListN.{length-take, length-drop}
 use Rattle.std.proofs.Math.Seq.{take-append_seam}
 use Rattle.syntax.specs.Limits.{group_limit, name_limit, name_entry}
 use Rattle.syntax.specs.Sets.{same_bytes}
-use Rattle.semantics.specs.Laws.Cases.{clash, bool, same_or}
+use Rattle.semantics.proofs.Laws.Cases.{clash, bool, same_or}
 use Rattle.index.specs.Laws.Known.{same_self, same-equal}
 use Rattle.lookup.specs.Names.{entry_of, is_whole, name_length, name_in, is_of, first_named, group_named}
 

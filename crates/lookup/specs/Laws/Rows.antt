@@ -10,7 +10,7 @@ use Rattle.std.proofs.Math.ListN.{get_or}
 use Rattle.syntax.specs.Limits.{group_limit, unset, row_length, slot}
 use Rattle.semantics.specs.States.{Row}
 use Rattle.semantics.specs.Demands.{span_from, span_to, IsUnset, RowFacts}
-use Rattle.semantics.specs.Laws.Cases.{clash, bool, same_or}
+use Rattle.semantics.proofs.Laws.Cases.{clash, bool, same_or}
 use Rattle.lookup.specs.Rows.{is_unset, span_holds, spans_hold, is_row, RowRules}
 use Rattle.lookup.specs.Laws.Names.{one_of}
 

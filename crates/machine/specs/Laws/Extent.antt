@@ -20,7 +20,7 @@ use Rattle.semantics.specs.States.{again, go_on, State, chose, moved}
 use Rattle.semantics.specs.Items.{fails, goes, when, toll, try}
 use Rattle.semantics.specs.Repeats.{is_full, allowed, decision}
 use Rattle.semantics.specs.Walk.{step, miss, Trace, Go, ◌▹◌, done, tried, paying, decide, rounds, walk}
-use Rattle.semantics.specs.Laws.Traces.{bind-append, bind_done}
+use Rattle.semantics.proofs.Laws.Traces.{bind-append, bind_done}
 use Rattle.machine.specs.Code.{in_set}
 use Rattle.machine.specs.Moves.{Bytes, tested, takes, one_more, extent, allowance}
 

@@ -11,7 +11,7 @@ use Rattle.semantics.specs.States.{State}
 use Rattle.semantics.specs.Items.{Tried, fails, goes}
 use Rattle.semantics.specs.Repeats.{is_full}
 use Rattle.semantics.specs.Walk.{Event, step, miss, end, Trace}
-use Rattle.semantics.specs.Laws.Loops.{Quiet}
+use Rattle.semantics.proofs.Laws.Loops.{Quiet}
 use Rattle.machine.specs.declared.Machine.{Machine}
 use Rattle.machine.specs.Code.{folded_of, Program, same_as, Repeat, repeat_at, decode_as, decode, FitsAs, Fits}
 use Rattle.machine.specs.Moves.{Stack, Configuration, Now, idle, busy, Move, emitting, paid, state, shown, Shows, tested, price, takes, strides, stopped, is_return, is_feed, is_break, fall, tried, ran, broke_alone, broke, bytes_of, carry_out, move, Emits}

@@ -13,7 +13,7 @@ use Rattle.semantics.specs.States.{State}
 use Rattle.semantics.specs.Items.{fails, goes}
 use Rattle.semantics.specs.Repeats.{Next, round, leave, either, decision}
 use Rattle.semantics.specs.Walk.{Event, step, miss, end, Trace, Go, done, paying, to_first}
-use Rattle.semantics.specs.Laws.Rounds.{Begins}
+use Rattle.semantics.proofs.Laws.Rounds.{Begins}
 use Rattle.machine.specs.Code.{Program, Test, Instruction, tests, opens, closes, branches, last_branch, enters, loops, runs, ends, breaks, marks, keeps, returns, forbids, refutes, repeat_at, decode, Fits}
 use Rattle.machine.specs.Moves.{explore, again, stretch, Stack, Now, Move, emitting, paid, set2, saved, state, shown, Shows, go, go_set, begin, cut, cut_to, bump, tested, price, fall, decided, decides, tried, carry_out, move, Emits}
 use Rattle.machine.specs.Laws.Registers.{undo-set2}

@@ -23,11 +23,11 @@ use Rattle.semantics.specs.States.{Choice, branch, again, go_on, State, chose, m
 use Rattle.semantics.specs.Items.{Tried, fails, goes, when, refer, toll, try}
 use Rattle.semantics.specs.Repeats.{Next, round, leave, either, is_full, decision}
 use Rattle.semantics.specs.Walk.{step, miss, end, Trace, Go, ◌▹◌, done, tried, paying, decide, to_first, ending, entering, rounds, enough, walk, walks}
-use Rattle.semantics.specs.Laws.Traces.{bind-append, bind-bind, bind_done, bind-end}
-use Rattle.semantics.specs.Laws.Right.{try-reach}
-use Rattle.semantics.specs.Laws.Rounds.{unless_idle, left, fewer}
-use Rattle.semantics.specs.Laws.Misses.{tells}
-use Rattle.semantics.specs.Laws.Cases.{clash}
+use Rattle.semantics.proofs.Laws.Traces.{bind-append, bind-bind, bind_done, bind-end}
+use Rattle.semantics.proofs.Laws.Right.{try-reach}
+use Rattle.semantics.proofs.Laws.Rounds.{unless_idle, left, fewer}
+use Rattle.semantics.proofs.Laws.Misses.{tells}
+use Rattle.semantics.proofs.Laws.Cases.{clash}
 use Rattle.semantics.specs.Demands.{In}
 use Rattle.machine.specs.Code.{Program, Test, in_set, holding, same_as, Instruction, tests, opens, closes, branches, last_branch, enters, loops, runs, breaks, marks, keeps, returns, forbids, refutes, repeat_at, decode, Fits}
 use Rattle.machine.specs.Moves.{Bytes, explore, stretch, Stack, idle, emitting, set2, saved, state, Shows, go, go_set, cut, cut_to, tested, price, takes, extent, allowance, strides, stopped, descend, below, ends_of, is_return, is_feed, is_break, fall, decides, ran, broke_alone, broke, bytes_of, carry_out, Emits}

@@ -12,7 +12,7 @@ use Rattle.syntax.specs.Names.{Name, Names}
 use Rattle.syntax.specs.Laws.Names.{Short}
 use Rattle.semantics.specs.NameIndex.{name_of, entry, entries, name_index}
 use Rattle.semantics.specs.Calls.{over}
-use Rattle.semantics.specs.Laws.Areas.{over-more, entry-long, entries-long}
+use Rattle.semantics.proofs.Laws.Areas.{over-more, entry-long, entries-long}
 use Rattle.name_table.specs.Table.{names_in, NamesFit, length-names}
 
 -- An entry --------------------------------------------------------------------------

@@ -6,7 +6,7 @@ use Rattle.syntax.specs.Limits.{row_length}
 use Rattle.semantics.specs.States.{Row}
 use Rattle.semantics.specs.Calls.{over, joined}
 use Rattle.index.specs.Rows.{rows_at, Whole}
-use Rattle.semantics.specs.Laws.Areas.{over-more, joined-append}
+use Rattle.semantics.proofs.Laws.Areas.{over-more, joined-append}
 
 pub joined-last : (rows : List Row) (x : Row) → joined (rows ++ (x ∷ [])) ≡ joined rows ++ x
 unfolding joined

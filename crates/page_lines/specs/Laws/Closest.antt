@@ -4,8 +4,8 @@ use Rattle.std.proofs.Common.{ap, subst, arith}
 use Rattle.std.proofs.Math.Option.{Option, none, some}
 use Rattle.syntax.specs.Tree.{Rule}
 use Rattle.semantics.specs.Explanations.{Failure, failures, greatest, nowhere, or_nowhere, reach, closest}
-use Rattle.semantics.specs.Laws.Failures.{greatest-in, greatest-some}
-use Rattle.semantics.specs.Laws.Misses.{failure-inside}
+use Rattle.semantics.proofs.Laws.Failures.{greatest-in, greatest-some}
+use Rattle.semantics.proofs.Laws.Misses.{failure-inside}
 use Rattle.greatest.specs.declared.greatest.Failed.{Failed}
 use Rattle.explaining.specs.declared.Explanation.{Explanation}
 use Rattle.explaining.specs.declared.Explanation.TheVariants.{NotMatched}

@@ -1,6 +1,6 @@
 -- Each test is one case of the definition.
-use Rattle.fields_text.specs.Laws.Writing.{wrote_few, wrote_as}
-use Rattle.page_text.specs.Laws.Writing.{show-less, show-greater, show-and, show-double, show-single, show-low, show-high, show-plain}
+use Rattle.fields_text.proofs.Laws.Writing.{wrote_few, wrote_as}
+use Rattle.page_text.proofs.Laws.Writing.{show-less, show-greater, show-and, show-double, show-single, show-low, show-high, show-plain}
 use native.Mathlib.Omega.{arith}
 use borrow.Author.Rules.{rules}
 use Rattle.page_text.proofs.write_byte.Statement.{statement}

@@ -1,5 +1,5 @@
 -- Four texts, one behind another.
-use Rattle.page_text.specs.Laws.Writing.{wrote_numbered}
+use Rattle.page_text.proofs.Laws.Writing.{wrote_numbered}
 use borrow.Author.Rules.{rules}
 use Rattle.page_text.proofs.write_numbered.Statement.{statement}
 use Rattle.page_text.proofs.write_numbered.Tie as tie

@@ -5,7 +5,7 @@ use native.Mathlib.Omega.{arith}
 use lib.ListN.{length, take}
 use Rattle.text.specs.Writing.{Wrote}
 use Rattle.page_text.specs.Showing.{shown}
-use Rattle.page_text.specs.Laws.Writing.{wrote_none, wrote_more, wrote_all}
+use Rattle.page_text.proofs.Laws.Writing.{wrote_none, wrote_more, wrote_all}
 use Rattle.page_text.proofs.write_shown.Statement.{statement}
 use Rattle.page_text.proofs.write_shown.Tie as tie
 

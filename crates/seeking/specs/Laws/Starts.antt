@@ -7,7 +7,7 @@ use Rattle.syntax.specs.Tree.{Rule}
 use Rattle.semantics.specs.States.{State, row}
 use Rattle.semantics.specs.Walk.{Trace, end, trace}
 use Rattle.semantics.specs.Answers.{matched, exhausted, Answer, answer}
-use Rattle.semantics.specs.Laws.Loops.{SeekAt, seek-quiet, seek-end, seek-over, seek-next, seek-last, match-begin}
+use Rattle.semantics.proofs.Laws.Loops.{SeekAt, seek-quiet, seek-end, seek-over, seek-next, seek-last, match-begin}
 use Rattle.semantics.specs.Calls.{work_area_need}
 use Rattle.machine.specs.Moves.{Bytes, go}
 use Rattle.machine.specs.Ready.{ended, nothing, spent, until, Ready}

@@ -9,7 +9,7 @@ use Rattle.syntax.specs.Limits.{rule_limit}
 use Rattle.card_format.specs.Cards.{length_kind, pieces_for}
 use Rattle.card_format.specs.CardDemands.{card_of}
 use Rattle.card_format.specs.Places.{text_end}
-use Rattle.card_format.specs.Laws.Written.{written-long, byte-first, byte-text, byte-size}
+use Rattle.card_format.proofs.Laws.Written.{written-long, byte-first, byte-text, byte-size}
 use Rattle.card_records.proofs.bytes.card_byte.Statement.{statement}
 use Rattle.card_records.proofs.bytes.card_byte.Tie as tie
 

@@ -2,7 +2,7 @@
 use mathlib.Core.Path.{sym, ◌∙◌}
 use lib.ListN.{get_or-eq_default}
 use borrow.Author.Rules.{rules}
-use Rattle.card_format.specs.Laws.Written.{kind-byte, rule-byte}
+use Rattle.card_format.proofs.Laws.Written.{kind-byte, rule-byte}
 use Rattle.card_records.proofs.bytes.piece_byte.Statement.{statement}
 use Rattle.card_records.proofs.bytes.piece_byte.Tie as tie
 

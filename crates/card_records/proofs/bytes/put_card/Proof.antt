@@ -7,8 +7,8 @@ use Rattle.syntax.specs.Limits.{rule_limit}
 use Rattle.card_format.specs.Cards.{pieces_for, written}
 use Rattle.card_format.specs.CardDemands.{card_of}
 use Rattle.card_format.specs.Places.{text_end}
-use Rattle.card_format.specs.Laws.Written.{written-long, written-fits}
-use Rattle.card_format.specs.Laws.Filling.{filled, filled_more, filled-all}
+use Rattle.card_format.proofs.Laws.Written.{written-long, written-fits}
+use Rattle.card_format.proofs.Laws.Filling.{filled, filled_more, filled-all}
 use Rattle.card_records.proofs.bytes.put_card.Statement.{statement}
 use Rattle.card_records.proofs.bytes.put_card.Tie as tie
 

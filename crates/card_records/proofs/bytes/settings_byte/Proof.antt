@@ -1,7 +1,7 @@
 -- Each position in turn.
 use mathlib.Core.Path.{◌≡◌}
 use borrow.Author.Rules.{rules}
-use Rattle.card_format.specs.Laws.Written.{fifth}
+use Rattle.card_format.proofs.Laws.Written.{fifth}
 use Rattle.card_records.proofs.bytes.settings_byte.Statement.{statement}
 use Rattle.card_records.proofs.bytes.settings_byte.Tie as tie
 

@@ -3,7 +3,7 @@ use mathlib.Core.Path.{subst}
 use borrow.Author.Rules.{rules}
 use Rattle.card_format.specs.CardDemands.{unknown_kind, cut_short}
 use Rattle.card_records.specs.Walking.{Cuts}
-use Rattle.card_format.specs.Laws.Scanning.{fault-fails}
+use Rattle.card_format.proofs.Laws.Scanning.{fault-fails}
 use Rattle.card_records.proofs.scanning.find_card.Statement.{statement}
 use Rattle.card_records.proofs.scanning.find_card.Tie as tie
 

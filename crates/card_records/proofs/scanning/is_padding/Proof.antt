@@ -4,7 +4,7 @@ use Prim.Native.Nat.{ℕ, ◌-◌, ◌≤◌, ◌<◌}
 use native.Mathlib.Omega.{arith}
 use lib.ListN.{get_or}
 use Rattle.card_format.specs.Places.{place}
-use Rattle.card_format.specs.Laws.Written.{place_is}
+use Rattle.card_format.proofs.Laws.Written.{place_is}
 use Rattle.card_records.specs.Laws.Checking.{zero_more}
 use Rattle.card_records.proofs.scanning.is_padding.Statement.{statement}
 use Rattle.card_records.proofs.scanning.is_padding.Tie as tie

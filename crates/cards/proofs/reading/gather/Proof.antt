@@ -4,8 +4,8 @@ use Prim.Native.Nat.{◌-◌, ◌≤◌}
 use native.Mathlib.Omega.{arith}
 use lib.ListN.{length, length-set}
 use Rattle.card_format.specs.Cards.{Card, written}
-use Rattle.card_format.specs.Laws.Written.{place_inside, rule-there}
-use Rattle.card_format.specs.Laws.Filling.{filled, filled_more, filled-all}
+use Rattle.card_format.proofs.Laws.Written.{place_inside, rule-there}
+use Rattle.card_format.proofs.Laws.Filling.{filled, filled_more, filled-all}
 use Rattle.cards.proofs.reading.gather.Statement.{statement}
 use Rattle.cards.proofs.reading.gather.Tie as tie
 

@@ -3,7 +3,7 @@ use mathlib.Core.Path.{sym}
 use native.Mathlib.Omega.{arith}
 use Rattle.syntax.specs.Limits.{rule_limit, rule_area_need, flag_bits}
 use Rattle.refusals.specs.Fitness.{fitness_of}
-use Rattle.card_format.specs.Laws.Ruling.{rule-long, flag-unknown, budget-large, area-short, fit}
+use Rattle.card_format.proofs.Laws.Ruling.{rule-long, flag-unknown, budget-large, area-short, fit}
 use Rattle.cards.proofs.ruling.unfit.Statement.{statement}
 use Rattle.cards.proofs.ruling.unfit.Tie as tie
 

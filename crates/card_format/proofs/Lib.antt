@@ -1,0 +1,4 @@
+-- The laws that are proved of the definitions.
+pub mod Laws
+pub mod CardDemandsHold
+pub mod CardTheorems

@@ -1,0 +1,2 @@
+-- The laws that are proved of the definitions.
+pub mod Laws
