@@ -1,0 +1,13 @@
+-- `tell_batch` meets its contract: each case of the outcome has the numbers of its own law.
+use mathlib.Core.Path.{◌∙◌}
+use Rattle.answers.specs.Laws.{of-all, of-unmade, batch-place}
+use Rattle.answers.proofs.calls.tell_batch.Goals as goal
+
+pub tell_refusal-requires : goal.tell_refusal-requires
+tell_refusal-requires c = batch-place _ _ c.in-Refused.is c.requires
+
+pub returns-in-Done : goal.returns-in-Done
+returns-in-Done c = c.tell.ensures ∙ of-all _ _ c.in-Done.is
+
+pub returns-in-Refused : goal.returns-in-Refused
+returns-in-Refused c = c.tell_refusal.ensures ∙ of-unmade _ _ c.in-Refused.is

@@ -1,0 +1,7 @@
+use mathlib.Core.Bool.{◌||◌}
+use Rattle.charset.specs.Class.{has}
+use Rattle.charset.proofs.Words.{Done}
+use Rattle.charset.proofs.add_class.Given as goal
+
+abbrev pub invariant-loop-i : goal.invariant-loop-i
+invariant-loop-i l = Done (λ x. has l.b x || has l.a x) l.i l.c

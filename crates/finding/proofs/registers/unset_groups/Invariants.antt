@@ -1,0 +1,12 @@
+use mathlib.Core.Path.{◌≡◌}
+use mathlib.Core.List.{◌++◌}
+use Prim.Native.Nat.{◌*◌, ◌≤◌, ◌-◌}
+use lib.ListN.{length, drop, replicate}
+use Rattle.syntax.specs.Limits.{unset}
+use Rattle.finding.proofs.registers.unset_groups.Given as goal
+
+abbrev pub invariant-loop-i : goal.invariant-loop-i
+invariant-loop-i l = (l.i ≤ 2 * l.groups) × (length l.regs ≡ length l.initial.regs) × (l.regs ≡ replicate l.i unset ++ drop l.i l.initial.regs)
+
+abbrev pub decreases-loop-i : goal.decreases-loop-i
+decreases-loop-i l = l.all - l.i

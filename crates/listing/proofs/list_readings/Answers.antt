@@ -1,0 +1,47 @@
+-- `list_readings` meets its contract: a call is refused as it is prepared, or its inside finds the rule that stands, and its areas are cleared.
+use mathlib.Core.Path.{refl, sym}
+use native.Mathlib.Omega.{arith}
+use Rattle.syntax.specs.Limits.{rule_area_need, work_per_step, row_length}
+use Rattle.semantics.specs.Calls.{work_area_need, list_refused, list_rule, list_call}
+use Rattle.frame.specs.Inputs.{call_of}
+use Rattle.frame.specs.Laws.Preparing.{is-ready, is-denied, rule_area-long, work_area-long, readied-held, denied-returns, readied-returns}
+use Rattle.gathering.specs.Listing.{listing_of}
+use Rattle.listing.specs.Laws.Listings.{list-clears, lists-told}
+use Rattle.listing.proofs.list_readings.Goals as goal
+
+pub slice_bounds-list_held-end : goal.slice_bounds-list_held-end
+unfolding rule_area_need row_length
+slice_bounds-list_held-end c = let a = c.args in
+    let p = is-ready (c.prepare.ensures row_length a.subject.now a.results.now refl refl) _ _ c.in-Ready.is in
+    rule_area-long p
+
+pub slice_bounds-list_held-end-in-Ready : goal.slice_bounds-list_held-end-in-Ready
+unfolding rule_area_need row_length
+slice_bounds-list_held-end-in-Ready c = let a = c.args in
+    let p = is-ready (c.prepare.ensures row_length a.subject.now a.results.now refl refl) _ _ c.in-Ready.is in
+    sym (readied-held p).code_size
+
+pub list_held-told-requires : goal.list_held-told-requires
+unfolding rule_area_need row_length
+list_held-told-requires c = let a = c.args in
+    let p = is-ready (c.prepare.ensures row_length a.subject.now a.results.now refl refl) _ _ c.in-Ready.is in
+    readied-held p
+
+pub finish-requires : goal.finish-requires
+unfolding row_length work_area_need work_per_step
+finish-requires c = let a = c.args in
+    let p = is-ready (c.prepare.ensures row_length a.subject.now a.results.now refl refl) _ _ c.in-Ready.is in
+    (rule_area-long p, omega (arith, work_area-long p, c.list_held-told.auto.work))
+
+pub returns-in-Refused : goal.returns-in-Refused
+unfolding row_length list_call listing_of
+returns-in-Refused c = let a = c.args in
+    let p = c.prepare.ensures row_length a.subject.now a.results.now refl refl in
+    denied-returns list_refused row_length list_rule (is-denied p _ c.in-Refused.is)
+
+pub returns-in-Ready : goal.returns-in-Ready
+unfolding rule_area_need row_length list_call
+returns-in-Ready c = let a = c.args in
+    let d = call_of a.rule.now a.flags a.subject.now a.budget a.rule_area.now a.work_area.now a.results.now a.names.now in
+    let p = is-ready (c.prepare.ensures row_length a.subject.now a.results.now refl refl) _ _ c.in-Ready.is in
+    readied-returns list_refused row_length list_rule (list-clears d) p _ c.list_held-told.ensures.work_unchanged (lists-told d p.tree _ _ (c.list_held-told.ensures.lists p.tree p.stands)) c.finish.ensures.rule_area_after c.finish.ensures.work_area_after

@@ -1,0 +1,56 @@
+-- `compile` meets its contract: what stands in the part that is lent on and in the table stands in the whole area, whose rest is as it was.
+use mathlib.Core.Path.{◌≡◌, sym, subst, ◌∙◌}
+use mathlib.Core.List.{List}
+use Prim.Native.Nat.{ℕ, ◌≤◌}
+use native.Mathlib.Omega.{arith}
+use lib.ListN.{length, length-take}
+use Rattle.syntax.specs.Limits.{group_limit, rule_area_need, spans_length}
+use Rattle.reader.specs.Areas.{table_start}
+use Rattle.reader.specs.Compiles.{Compiles}
+use Rattle.reader.proofs.Compilations.{back_long, part-wide, wider, is-joined, back-joined}
+use Rattle.reader.proofs.compiling.compile.Goals as goal
+
+pub slice_bounds-compile_into-end : goal.slice_bounds-compile_into-end
+unfolding rule_area_need
+slice_bounds-compile_into-end c = omega arith
+
+pub slice_bounds-compile_into-end-2 : goal.slice_bounds-compile_into-end-2
+unfolding rule_area_need
+slice_bounds-compile_into-end-2 c = simp length-take (omega arith)
+
+pub compile_into-r-requires : goal.compile_into-r-requires
+unfolding table_start rule_area_need spans_length group_limit
+compile_into-r-requires c = (omega arith, simp length-take (omega arith), omega arith)
+
+pub slice_bounds-put_table-end : goal.slice_bounds-put_table-end
+unfolding table_start rule_area_need spans_length group_limit
+slice_bounds-put_table-end c = let a = c.args in
+    let into = c.compile_into-r in
+    let long : length into.new.area ≡ table_start = into.auto.area ∙ simp length-take (omega (arith, c.requires.1)) in
+    subst (λ (n : ℕ). rule_area_need ≤ n) (sym (back_long into.new.area a.area.now long c.requires.1)) c.requires.1
+
+pub put_table-requires : goal.put_table-requires
+unfolding table_start rule_area_need spans_length group_limit
+put_table-requires c = let a = c.args in
+    let into = c.compile_into-r in
+    let long : length into.new.area ≡ table_start = into.auto.area ∙ simp length-take (omega (arith, c.requires.1)) in
+    subst (λ (n : ℕ). spans_length ≤ n) (sym (part-wide into.new.area a.area.now long c.requires.1)) (omega arith)
+
+pub shape_of-area : goal.shape_of-area
+unfolding table_start rule_area_need spans_length group_limit
+shape_of-area c = let a = c.args in
+    let into = c.compile_into-r in
+    let long : length into.new.area ≡ table_start = into.auto.area ∙ simp length-take (omega (arith, c.requires.1)) in
+    let copy = c.put_table in
+    let wide : length copy.new.part ≡ spans_length = copy.auto.part ∙ part-wide into.new.area a.area.now long c.requires.1 in
+    back-joined a.checked a.rule.now a.flags a.area.now into.new.area _ copy.new.part _ long wide c.requires.1 copy.ensures
+
+pub returns : goal.returns
+unfolding table_start rule_area_need spans_length group_limit
+returns c = let a = c.args in
+    let into = c.compile_into-r in
+    let long : length into.new.area ≡ table_start = into.auto.area ∙ simp length-take (omega (arith, c.requires.1)) in
+    let copy = c.put_table in
+    let wide : length copy.new.part ≡ spans_length = copy.auto.part ∙ part-wide into.new.area a.area.now long c.requires.1 in
+    subst (λ (l : List ℕ). Compiles a.checked a.rule.now a.flags a.area.now l into.result) (sym (is-joined a.checked a.rule.now a.flags a.area.now into.new.area _ copy.new.part _ long wide c.requires.1 copy.ensures))
+    (wider a.checked a.rule.now a.flags a.area.now into.new.area _ copy.new.part _ long wide c.requires.1 copy.ensures into.result into.ensures)
