@@ -1,7 +1,7 @@
 #!/usr/bin/env python3
 """Times the walking machine: nanoseconds a step, by kind of rule.
 
-It runs target/bin/walk_vectors (made by `rt check walk_vectors`) on many copies of a walk, once with a budget and once with none, takes the
+It runs target/bin/walk_vectors (made by `./build walk_vectors`) on many copies of a walk, once with a budget and once with none, takes the
 shortest of many runs of each, and divides the difference by the steps. What both runs do (reading lines, compiling the rule) falls out.
 Usage: harness/bench_machine.py [RUNS] (in the repository's root)
 """

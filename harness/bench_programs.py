@@ -4,7 +4,7 @@
 The file has 500,000 lines such as `1234,5 L`, a third of which the rule does not match. The programs take turns, and of each the shortest of
 several runs counts. With a folder that holds other builds of `gateway` and `readings`, such as those from before a change, they are run too,
 and what both builds write has to be the same.
-Usage: harness/bench_programs.py [RUNS] [FOLDER] (in the repository's root; target/bin is made by `rt check gateway readings`)
+Usage: harness/bench_programs.py [RUNS] [FOLDER] (in the repository's root; target/bin is made by `./build gateway readings`)
 """
 import os
 import random

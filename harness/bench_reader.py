@@ -1,7 +1,7 @@
 #!/usr/bin/env python3
 """Times the rule reader on rules of 1,000 bytes: microseconds a rule, by kind.
 
-It runs target/bin/rule_vectors (made by `rt check rule_vectors`) on 32 copies of a rule and on none, takes the shortest of many runs of
+It runs target/bin/rule_vectors (made by `./build rule_vectors`) on 32 copies of a rule and on none, takes the shortest of many runs of
 each, and divides the difference by 32. Decoding the hex digits and writing the verdict are in the time.
 Usage: harness/bench_reader.py [RUNS] (in the repository's root)
 """

@@ -3,7 +3,7 @@
 
 Clearing is no call of its own: it is the difference between a match of the empty rule on the empty subject with a budget of 100,000 and one
 with a budget of 0, which clears no work area. One process makes all runs in turn; the shortest of each counts.
-Usage: harness/bench_zeroing.py [RUNS] (in the repository's root, after `rt staticlib terravisco`; it needs a C compiler, cc)
+Usage: harness/bench_zeroing.py [RUNS] (in the repository's root, after `./build library`; it needs a C compiler, cc)
 """
 import subprocess
 import sys
@@ -17,7 +17,7 @@ ARCHIVE = HERE.parent / "target" / "staticlib" / "libterravisco.a"
 
 def main():
     if not ARCHIVE.exists():
-        sys.exit("bench_zeroing: no %s; make it by `rt staticlib terravisco`" % ARCHIVE)
+        sys.exit("bench_zeroing: no %s; make it by `./build library`" % ARCHIVE)
     with tempfile.TemporaryDirectory() as folder:
         program = Path(folder) / "bench_zeroing"
         subprocess.run(["cc", "-O2", "-I", HERE.parent / "include", HERE / "bench_zeroing.c", ARCHIVE, "-o", program], check=True)

@@ -2,7 +2,7 @@
 """Runs the program of rule cards, target/bin/card, on cases of its own and compares what it writes.
 
 Cards are written and read here a second time, from document 02 alone, with the rules' refusals and groups of reference.py. Messages are written by hand.
-Usage: harness/card_cases.py [SEED] (in the repository's root, after `rt check card`). The last line is 'N passed, M failed'.
+Usage: harness/card_cases.py [SEED] (in the repository's root, after `./build card`). The last line is 'N passed, M failed'.
 """
 import os
 import random

@@ -3,7 +3,7 @@
 
 Small cases and all messages are held to texts written here by hand. Large ones, and random rules and lines, are held to `table` below: the table
 written a second time, over the rows and the lookup of reference.py. It shares nothing with the program.
-Usage: harness/fields_cases.py [SEED] (in the repository's root, after `rt check fields`). The last line is 'N passed, M failed'.
+Usage: harness/fields_cases.py [SEED] (in the repository's root, after `./build fields`). The last line is 'N passed, M failed'.
 """
 import random
 import subprocess

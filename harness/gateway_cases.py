@@ -1,5 +1,5 @@
 #!/usr/bin/env python3
-"""Runs the gateway program over cases and compares what it writes; run in the repository's root after `rt check gateway`.
+"""Runs the gateway program over cases and compares what it writes; run in the repository's root after `./build gateway`.
 
 A case is a folder harness/gateway/NAME with stdin, stdout and, unless the file is to be missing, rule.txt. Each is run with its input
 in one piece and in pieces of several sizes through a pipe. What is expected was written by hand or, with --write, by reference.py, which

@@ -1,7 +1,7 @@
 #!/usr/bin/env python3
 """Builds the programs of docs/GUIDE.md as it says, runs them, and compares what they print with what stands below them.
 
-Usage: harness/guide_programs.py (after `rt staticlib terravisco`). The last line is 'N passed, M failed'.
+Usage: harness/guide_programs.py (after `./build library`). The last line is 'N passed, M failed'.
 """
 import os
 import re

@@ -1,7 +1,7 @@
 #!/usr/bin/env python3
 """Installs below a prefix of its own, uses what is there as a new user would, and takes it away again.
 
-Usage: harness/install_cases.py (after `rt staticlib terravisco` and `rt check gateway readings fields card propose gateway_check`). The last line is 'N passed, M failed'.
+Usage: harness/install_cases.py (after `./build`). The last line is 'N passed, M failed'.
 """
 import os
 import re
@@ -159,13 +159,13 @@ def not_built(t):
         else:
             shutil.copy(source, clone / name)
     script = (clone / "install").resolve()
-    t.same("no library", t.install("p", status=1, script=script), "install: there is no static library yet: rt staticlib terravisco\n")
-    t.same("no library to link", t.ran([clone / "bindings" / "link-shared", "l.so"], 1), "link-shared: there is no static library yet: rt staticlib terravisco\n")
+    t.same("no library", t.install("p", status=1, script=script), "install: there is no static library yet: ./build library\n")
+    t.same("no library to link", t.ran([clone / "bindings" / "link-shared", "l.so"], 1), "link-shared: there is no static library yet: ./build library\n")
     (clone / "target" / "staticlib").mkdir(parents=True)
     shutil.copy(ROOT / "target" / "staticlib" / "libterravisco.a", clone / "target" / "staticlib")
     (clone / "target" / "bin").mkdir()
     for program in PROGRAMS:
-        wanted = "install: the program %s is not built yet: rt check %s\n" % (program, " ".join(PROGRAMS))
+        wanted = "install: the program %s is not built yet: ./build\n" % program
         t.same("no " + program, t.install("p", status=1, script=script), wanted)
         shutil.copy(ROOT / "target" / "bin" / program, clone / "target" / "bin")
     t.same("nothing was installed", Path("p").exists(), False)

@@ -4,7 +4,7 @@
 The page has to be ASCII, to have no element and no attribute but those of the fixed markup, and for each line that needs a person exactly the parts
 that `articles` below makes of the rows of reference.py: so no byte of a line, of a rule or of a name becomes markup, and none is lost.
 Both programs also run at a terminal, where they say how far they are, and without one, where they do not.
-Usage: harness/page_cases.py [SEED] (in the repository's root, after `rt check readings fields`). The last line is 'N passed, M failed'.
+Usage: harness/page_cases.py [SEED] (in the repository's root, after `./build readings fields`). The last line is 'N passed, M failed'.
 With `--keep FOLDER` the pages of the dairy's day and of the hostile lines are left there, for a look at them in a browser.
 """
 import os

@@ -4,7 +4,7 @@
 The commands are the indented lines of docs/GUIDE.md, "Several processes and hosts"; only the blocks are made smaller, so that small files have several. What one
 run writes is the claim, and so it is what is expected; the programs by themselves are tested elsewhere. Processes are killed by a stand-in for the program,
 which kills itself, or parallel, at its first tries of one block. Hosts are folders with a home and a PATH of their own, reached by a stand-in for ssh.
-Usage: harness/parallel_cases.py (after `rt check gateway fields`; needs GNU parallel). The last line is 'N passed, M failed'.
+Usage: harness/parallel_cases.py (after `./build gateway fields`; needs GNU parallel). The last line is 'N passed, M failed'.
 """
 import os
 import random

@@ -3,7 +3,7 @@
 
 A proposal is held to reference.py, which shares no line with the library: its follower has to accept it, with the match's row and in the steps that are
 told. What the check answers is written by hand, or told a second time over that follower. Messages are written by hand.
-Usage: harness/propose_cases.py [SEED] (in the repository's root, after `rt check gateway propose gateway_check`). The last line is 'N passed, M failed'.
+Usage: harness/propose_cases.py [SEED] (in the repository's root, after `./build gateway propose gateway_check`). The last line is 'N passed, M failed'.
 """
 import os
 import random

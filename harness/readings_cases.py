@@ -3,7 +3,7 @@
 
 Small cases and all messages are held to texts written here by hand. Large ones, and random rules and lines, are held to `report` below: the
 layout written a second time, over the rows of reference.py. It shares nothing with the program.
-Usage: harness/readings_cases.py [SEED] (in the repository's root, after `rt check readings`). The last line is 'N passed, M failed'.
+Usage: harness/readings_cases.py [SEED] (in the repository's root, after `./build readings`). The last line is 'N passed, M failed'.
 """
 import random
 import subprocess

@@ -1,7 +1,7 @@
 /* Terravisco: matching a Perl regular expression against a line or a day's lines, within a budget of steps, telling why a line does not match, checking a
  * proposed reading, and rule cards.
  *
- * Link with libterravisco.a, which `rt staticlib terravisco` writes to target/staticlib/.
+ * Link with libterravisco.a, which `./build library` writes to target/staticlib/.
  *
  * Nothing is required of what is handed in: any bytes, any flags, any budget and areas of any length give an answer or a refusal.
  * What a caller owes is only what C cannot tell: each pointer leads to as many bytes or numbers as the length beside it says, and the three

@@ -29,7 +29,7 @@ fn main() {
         Err(tried) => {
             eprintln!("terravisco: there is no static library {FILE} to link:\n{tried}");
             eprintln!(
-                "Build it (`rt staticlib terravisco` in the project's root), install it (`./install PREFIX` there, and PREFIX/lib/pkgconfig in"
+                "Build it (`./build library` in the project's root), install it (`./install PREFIX` there, and PREFIX/lib/pkgconfig in"
             );
             eprintln!("PKG_CONFIG_PATH), or name its file in {VARIABLE}.");
             std::process::exit(1);

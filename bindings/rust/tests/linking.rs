@@ -87,7 +87,7 @@ fn nowhere() {
     let said = copied.built(None).unwrap_err();
     assert_says(&said, &["terravisco: there is no static library libterravisco.a to link:", "TERRAVISCO_ARCHIVE is not set"]);
     assert_says(&said, &["target/staticlib/libterravisco.a, which is not there", "pkg-config knows no terravisco"]);
-    assert_says(&said, &["rt staticlib terravisco", "./install PREFIX", "or name its file in TERRAVISCO_ARCHIVE"]);
+    assert_says(&said, &["./build library", "./install PREFIX", "or name its file in TERRAVISCO_ARCHIVE"]);
     // An installation without the static library.
     copied.put_pkgconfig("lib");
     assert_says(&copied.built(None).unwrap_err(), &["lib/libterravisco.a, which is not there"]);
