@@ -6,6 +6,7 @@ mod showing;
 mod writing;
 
 use check::same;
+use office::{arg, arg_count};
 
 // Where the arguments stand.
 const COMMAND: usize = 1;
@@ -13,27 +14,27 @@ const COMMAND: usize = 1;
 const CARD_TO_SHOW: usize = 2;
 
 // Whether the program is asked for this.
-fn is_asked(command: &[u8]) -> bool {
+fn is_asked(rt: &HostRuntime, command: &[u8]) -> bool {
     let mut text = io::buffer();
-    let n = os::arg(COMMAND, &mut text);
+    let n = arg(rt, COMMAND, &mut text);
     same(&text[..n], command)
 }
 
-fn main() {
-    let count = os::arg_count();
-    if is_asked(b"show") {
+fn main(rt: HostRuntime) {
+    let count = arg_count(&rt);
+    if is_asked(&rt, b"show") {
         if count == CARD_TO_SHOW + 1 {
-            showing::show_file(CARD_TO_SHOW);
+            showing::show_file(&rt, CARD_TO_SHOW);
             return;
         }
     }
-    if is_asked(b"write") {
+    if is_asked(&rt, b"write") {
         if writing::CARD_FILE < count {
             if count <= writing::BUDGET + 1 {
-                writing::write_file();
+                writing::write_file(&rt);
                 return;
             }
         }
     }
-    messages::usage();
+    messages::usage(&rt);
 }

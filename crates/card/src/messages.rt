@@ -1,8 +1,9 @@
 // Messages to the one who started the program.
 use office::say;
 
-pub(crate) fn usage() {
+pub(crate) fn usage(rt: &HostRuntime) {
     say(
+        rt,
         b"usage: card write RULE-FILE CARD-FILE [FLAGS [BUDGET]]\n       \
 card show CARD-FILE\n\
 \n\
@@ -24,11 +25,14 @@ under it.\n",
 }
 
 // An argument that stands for no flags.
-pub(crate) fn say_no_flags() {
-    say(b"card: FLAGS are a number from 0 to 31, letters out of s, m, i, x and D, or - for none\n");
+pub(crate) fn say_no_flags(rt: &HostRuntime) {
+    say(
+        rt,
+        b"card: FLAGS are a number from 0 to 31, letters out of s, m, i, x and D, or - for none\n",
+    );
 }
 
 // An argument that stands for no budget.
-pub(crate) fn say_no_budget() {
-    say(b"card: BUDGET is a number from 0 to 65535\n");
+pub(crate) fn say_no_budget(rt: &HostRuntime) {
+    say(rt, b"card: BUDGET is a number from 0 to 65535\n");
 }

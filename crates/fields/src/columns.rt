@@ -6,7 +6,7 @@ use fields_columns::{COLUMN_LIMIT, add_column, all_columns};
 use frame::NAME_INDEX_NEED;
 use index::{ROW_LENGTH, UNSET};
 use lookup::{Found, find};
-use office::{say, say_number};
+use office::{arg, arg_count, say, say_number};
 use syntax::NAME_LIMIT;
 
 // The room for all names, in the layout of a name index.
@@ -31,14 +31,15 @@ fn is_named(name: &[u8], names: &[u8; NAME_INDEX_NEED]) -> bool {
 }
 
 // Says that the rule has no such name.
-fn say_unknown(name: &[u8]) {
-    say(b"fields: the rule has no name ");
-    say(name);
-    say(b"\n");
+fn say_unknown(rt: &HostRuntime, name: &[u8]) {
+    say(rt, b"fields: the rule has no name ");
+    say(rt, name);
+    say(rt, b"\n");
 }
 
 // The name that an argument asks for, put behind so many others. Where that cannot be, it is said why.
 fn ask_for(
+    rt: &HostRuntime,
     argument: usize,
     names: &[u8; NAME_INDEX_NEED],
     columns: &mut [u8; COLUMNS],
@@ -48,17 +49,17 @@ fn ask_for(
     ensures { result ≤ group_limit + 1 }
 {
     let mut text = io::buffer();
-    let n = os::arg(argument, &mut text);
+    let n = arg(rt, argument, &mut text);
     if NAME_LIMIT < n {
-        say_unknown(&text[..n]);
+        say_unknown(rt, &text[..n]);
         return NONE;
     }
     if !is_named(&text[..n], names) {
-        say_unknown(&text[..n]);
+        say_unknown(rt, &text[..n]);
         return NONE;
     }
     if count == COLUMN_LIMIT {
-        say_number(b"fields: more than ", MOST, b" names\n");
+        say_number(rt, b"fields: more than ", MOST, b" names\n");
         return NONE;
     }
     add_column(&text[..n], columns, count)
@@ -67,6 +68,7 @@ fn ask_for(
 // The columns: the names that the arguments from one on ask for, or all of the rule where there are none. It says how many there are, and one
 // more than there can be where they cannot be had.
 pub(crate) fn collect(
+    rt: &HostRuntime,
     first: usize,
     names: &[u8; NAME_INDEX_NEED],
     columns: &mut [u8; COLUMNS],
@@ -74,14 +76,14 @@ pub(crate) fn collect(
     requires { first < 300 }
     ensures { result ≤ group_limit + 1 }
 {
-    let end = os::arg_count();
+    let end = arg_count(rt);
     if end <= first {
         return all_columns(names, columns);
     }
     let mut count: usize = 0;
     let mut at = first;
     while at < end {
-        count = ask_for(at, names, columns, count);
+        count = ask_for(rt, at, names, columns, count);
         if count == NONE {
             return NONE;
         }

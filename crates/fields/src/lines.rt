@@ -11,12 +11,15 @@ use frame::NAME_INDEX_NEED;
 use index::ROW_LENGTH;
 use office::{CLOSED, PIECE, ROOM, Rest, flush, next_line, say_progress};
 use page_lines::{LINE, RESULT_AREA, RULE_AREA, Setting, WORK_AREA};
+use std::fs::File;
+use std::io::{Error, ErrorKind};
 
 // How many lines pass between two messages.
 const PROGRESS: u64 = 10000;
 
 // Puts the row of a line, or of one that is too long and of which the beginning is there.
 fn tell_line<'a>(
+    rt: &HostRuntime,
     number: u64,
     area: &[u32; RULE_AREA],
     setting: Setting,
@@ -32,7 +35,7 @@ fn tell_line<'a>(
     requires { Holds area.now setting.entry setting.budget × (setting.count ≤ group_limit) }
 {
     if number % PROGRESS == 0 {
-        say_progress(b"fields: ", number, b" lines\n");
+        say_progress(rt, b"fields: ", number, b" lines\n");
     }
     let mut row = [0u32; ROW_LENGTH];
     let word = ask(
@@ -50,6 +53,7 @@ fn tell_line<'a>(
         results,
     );
     put_row(
+        rt,
         number,
         word,
         columns,
@@ -63,36 +67,37 @@ fn tell_line<'a>(
     )
 }
 
-// How the telling of lines ended: how many bytes wait to be written out, and whether the file could be read to its end.
+// How the telling of lines ended: how many bytes wait to be written out, and why the file could not be read to its end, if so.
 #[derive(Drop)]
 pub struct Told {
     pub at: usize,
-    pub whole: bool,
+    pub failed: Option<Error>,
 }
 
 // The file could not be read: what was told comes before the message that says so, and of no line nothing is written, not even the head.
-fn break_off(number: u64, out: &[u8; ROOM], at: usize) -> Told {
+fn break_off(
+    rt: &HostRuntime,
+    failed: Option<Error>,
+    number: u64,
+    out: &[u8; ROOM],
+    at: usize,
+) -> Told {
     if number == 0 {
-        return Told {
-            at: 0,
-            whole: false,
-        };
+        return Told { at: 0, failed };
     }
-    if flush(out, at) {
-        return Told {
-            at: 0,
-            whole: false,
-        };
+    if flush(rt, out, at) {
+        return Told { at: 0, failed };
     }
     Told {
         at: CLOSED,
-        whole: true,
+        failed: None,
     }
 }
 
 // Puts the head, and the rows of all lines of a file, up to its end or to where nothing can be written any more.
 pub(crate) fn tell_lines(
-    fd: i32,
+    rt: &HostRuntime,
+    file: &mut File,
     area: &[u32; RULE_AREA],
     setting: Setting,
     columns: &[u8; COLUMNS],
@@ -109,24 +114,25 @@ pub(crate) fn tell_lines(
     let mut rest = Rest {
         at: 0,
         end: 0,
-        failed: false,
+        failed: None,
     };
     let mut at = write_head(columns, setting.count, out, 0);
     // nothing says that a file ends: the lines are counted
     let mut number: u64 = 0;
     while number < 18446744073709551615 {
-        let next = next_line(fd, piece, rest, &mut line, true);
+        let next = next_line(file, piece, rest, &mut line, true);
         let n = next.have;
-        if next.failed {
-            return break_off(number, out, at);
+        if next.failed.is_some() {
+            return break_off(rt, next.failed, number, out, at);
         }
         if next.last {
             if n == 0 {
-                return Told { at, whole: true };
+                return Told { at, failed: None };
             }
         }
         number += 1;
         at = tell_line(
+            rt,
             number,
             area,
             setting,
@@ -140,16 +146,19 @@ pub(crate) fn tell_lines(
             at,
         );
         if next.last {
-            return Told { at, whole: true };
+            return Told { at, failed: None };
         }
         if at == CLOSED {
-            return Told { at, whole: true };
+            return Told { at, failed: None };
         }
         rest = Rest {
             at: next.at,
             end: next.end,
-            failed: false,
+            failed: None,
         };
     }
-    Told { at, whole: false }
+    Told {
+        at,
+        failed: Some(Error::from(ErrorKind::TimedOut)),
+    }
 }

@@ -15,26 +15,28 @@ ghost use Rattle.page_lines.specs.Rules.{Holds};
 use columns::{COLUMNS, collect};
 use frame::{NAME_INDEX_NEED, Preparation, prepare};
 use lines::Told;
-use office::{PIECE, ROOM, Rest, flush, next_line, open, say, say_refusal};
+use office::{PIECE, ROOM, Rest, arg, arg_count, fail, flush, next_line, open, say, say_refusal};
 use options::Options;
 use page_lines::{RESULT_AREA, RULE_AREA, Setting, WORK_AREA, write_page};
+use std::fs::File;
 
 // One byte more than the longest rule: a rule that fills this is too long, whatever follows.
 const RULE: usize = frame::RULE_LIMIT + 1;
 
 // Writes out what waits of the table, and says what went wrong.
-fn end_table(told: Told, out: &[u8; ROOM]) {
-    if !told.whole {
-        os::fail(b"fields: the lines could not be read to their end");
+fn end_table(rt: &HostRuntime, told: Told, out: &[u8; ROOM]) {
+    if let Some(e) = told.failed {
+        fail(rt, b"fields: the lines could not be read to their end", e);
     }
-    if !flush(out, told.at) {
-        say(b"fields: the table could not be written\n");
+    if !flush(rt, out, told.at) {
+        say(rt, b"fields: the table could not be written\n");
     }
 }
 
 // Writes the table of the lines of a file, with a rule that stands compiled.
 fn write_table(
-    fd: i32,
+    rt: &HostRuntime,
+    file: &mut File,
     area: &[u32; RULE_AREA],
     setting: Setting,
     columns: &[u8; COLUMNS],
@@ -48,15 +50,16 @@ fn write_table(
 {
     let mut out = io::large_buffer();
     let told = lines::tell_lines(
-        fd, area, setting, columns, names, standing, piece, work, results, &mut out,
+        rt, file, area, setting, columns, names, standing, piece, work, results, &mut out,
     );
-    end_table(told, &out);
+    end_table(rt, told, &out);
 }
 
 // Writes the table, or the page, of the lines of a file.
 fn write_out(
+    rt: &HostRuntime,
     paged: bool,
-    fd: i32,
+    file: &mut File,
     rule: &[u8],
     area: &[u32; RULE_AREA],
     setting: Setting,
@@ -72,19 +75,20 @@ fn write_out(
 {
     if !paged {
         write_table(
-            fd, area, setting, columns, names, standing, piece, work, results,
+            rt, file, area, setting, columns, names, standing, piece, work, results,
         );
         return;
     }
     if !write_page(
-        fd, rule, area, setting, columns, names, standing, piece, work, results,
+        rt, file, rule, area, setting, columns, names, standing, piece, work, results,
     ) {
-        say(b"fields: the page could not be written\n");
+        say(rt, b"fields: the page could not be written\n");
     }
 }
 
 // Looks at the names that are asked for and at the lines, with a rule that stands compiled, and writes the table if there are such.
 fn look_on(
+    rt: &HostRuntime,
     o: Options,
     rule: &[u8],
     entry: u32,
@@ -99,15 +103,14 @@ fn look_on(
     requires { Holds area.now entry o.budget × (o.at < 200) × (length rule.now ≤ 1001) }
 {
     let mut columns = [0u8; COLUMNS];
-    let count = collect(o.at + 2, names, &mut columns);
+    let count = collect(rt, o.at + 2, names, &mut columns);
     let most = syntax::group_limit() as usize;
     if most < count {
         return;
     }
-    let fd = open(b"fields", o.at + 1);
-    if fd < 0 {
+    let Some(mut file) = open(rt, b"fields", o.at + 1) else {
         return;
-    }
+    };
     let setting = Setting {
         entry,
         groups,
@@ -117,22 +120,24 @@ fn look_on(
         count,
     };
     write_out(
-        o.paged, fd, rule, area, setting, &columns, names, standing, piece, work, results,
+        rt, o.paged, &mut file, rule, area, setting, &columns, names, standing, piece, work,
+        results,
     );
 }
 
 // Reads the standing text from its place among the arguments; with none it is empty.
-fn read_text(argument: usize, text: &mut [u8]) -> usize
+fn read_text(rt: &HostRuntime, argument: usize, text: &mut [u8]) -> usize
     ensures { result ≤ length text.old }
 {
     if argument == 0 {
         return 0;
     }
-    os::arg(argument, text)
+    arg(rt, argument, text)
 }
 
 // Goes on with a rule, if it is not refused. It is compiled once, and then held over all lines.
 fn run(
+    rt: &HostRuntime,
     o: Options,
     rule: &[u8],
     piece: &mut [u8; PIECE],
@@ -143,14 +148,15 @@ fn run(
     requires { (length rule.now ≤ 1001) × (o.at < 200) }
 {
     let mut text = io::buffer();
-    let n = read_text(o.text, &mut text);
+    let n = read_text(rt, o.text, &mut text);
     let mut names = [0u8; NAME_INDEX_NEED];
     match prepare(
         rule, o.flags, false, 0, o.budget, area, work, false, &mut names,
     ) {
-        Preparation::Refused(f) => say_refusal(b"fields", f, rule),
+        Preparation::Refused(f) => say_refusal(rt, b"fields", f, rule),
         Preparation::Ready(entry, groups) => {
             look_on(
+                rt,
                 o,
                 rule,
                 entry,
@@ -167,23 +173,22 @@ fn run(
 }
 
 // With the options, and the areas that are lent. The rule is the first line of its file, or all of it.
-fn start(o: Options)
+fn start(rt: &HostRuntime, o: Options)
     requires { o.at < 200 }
 {
-    let fd = open(b"fields", o.at);
-    if fd < 0 {
+    let Some(mut file) = open(rt, b"fields", o.at) else {
         return;
-    }
+    };
     let mut piece = io::large_buffer();
     let mut rule = [0u8; RULE];
     let nothing = Rest {
         at: 0,
         end: 0,
-        failed: false,
+        failed: None,
     };
-    let line = next_line(fd, &mut piece, nothing, &mut rule, false);
-    if line.failed {
-        os::fail(b"fields: the rule could not be read");
+    let line = next_line(&mut file, &mut piece, nothing, &mut rule, false);
+    if let Some(e) = line.failed {
+        fail(rt, b"fields: the rule could not be read", e);
         return;
     }
     let n = line.have;
@@ -191,6 +196,7 @@ fn start(o: Options)
     let mut work = [0u32; WORK_AREA];
     let mut results = [0u32; RESULT_AREA];
     run(
+        rt,
         o,
         &rule[..n],
         &mut piece,
@@ -200,15 +206,15 @@ fn start(o: Options)
     );
 }
 
-fn main() {
-    let o = options::read_options();
+fn main(rt: HostRuntime) {
+    let o = options::read_options(&rt);
     if !o.good {
-        messages::usage();
+        messages::usage(&rt);
         return;
     }
-    if os::arg_count() < o.at + 2 {
-        messages::usage();
+    if arg_count(&rt) < o.at + 2 {
+        messages::usage(&rt);
         return;
     }
-    start(o);
+    start(&rt, o);
 }

@@ -1,8 +1,9 @@
 // Messages to the one who started the program.
 use office::say;
 
-pub(crate) fn usage() {
+pub(crate) fn usage(rt: &HostRuntime) {
     say(
+        rt,
         b"usage: fields [--page] [-f FLAGS] [-b BUDGET] [-s TEXT] RULE-FILE LINES-FILE [NAME ..]\n\
 \n\
 Writes a table in columns between tabs: a head, and for every line its number, a word and what the\n\

@@ -2,7 +2,8 @@
 ghost use Rattle.std.specs.Prelude.{◌≤◌, ◌<◌};
 
 use frame::BUDGET_LIMIT;
-use office::{Value, asks_for_page};
+use office::{Value, arg, asks_for_page};
+use std::env::Env;
 
 // Behind so many arguments no option is looked for.
 const LAST: usize = 100;
@@ -20,9 +21,9 @@ pub struct Options {
 }
 
 // The letter of an option; 0 for an argument that is none, and `-` for one that looks like an option and is not a letter.
-fn letter(argument: usize) -> u8 {
+fn letter(rt: &HostRuntime, argument: usize) -> u8 {
     let mut text = io::buffer();
-    let n = os::arg(argument, &mut text);
+    let n = arg(rt, argument, &mut text);
     if n == 0 {
         return 0;
     }
@@ -36,12 +37,11 @@ fn letter(argument: usize) -> u8 {
 }
 
 // What the argument of an option stands for. A standing text is only looked at: it must not be longer than the buffer.
-fn value(letter: u8, argument: usize) -> Value {
+fn value(rt: &HostRuntime, letter: u8, argument: usize) -> Value {
     let mut text = io::buffer();
-    let n = os::arg(argument, &mut text);
-    if os::errno() != 0 {
+    let Ok(n) = rt.arg(argument, &mut text) else {
         return Value::Wrong;
-    }
+    };
     if letter == b'f' {
         return office::flags(&text[..n]);
     }
@@ -62,16 +62,16 @@ fn first_letter(paged: bool) -> usize
 }
 
 // Reads the options, up to the first argument that is none.
-pub(crate) fn read_options() -> Options
+pub(crate) fn read_options(rt: &HostRuntime) -> Options
     ensures { result.at < 200 }
 {
-    let paged = asks_for_page();
+    let paged = asks_for_page(rt);
     let mut flags: u32 = 0;
     let mut budget: u32 = BUDGET_LIMIT;
     let mut text: usize = 0;
     let mut at = first_letter(paged);
     while at < LAST {
-        let option = letter(at);
+        let option = letter(rt, at);
         if option == 0 {
             return Options {
                 paged,
@@ -82,7 +82,7 @@ pub(crate) fn read_options() -> Options
                 good: true,
             };
         }
-        match value(option, at + 1) {
+        match value(rt, option, at + 1) {
             Value::Wrong => {
                 return Options {
                     paged,

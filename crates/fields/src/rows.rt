@@ -9,13 +9,13 @@ use index::ROW_LENGTH;
 use office::{CLOSED, ROOM, flush, put};
 
 // Makes room for so many bytes behind those that wait, and says how many wait then; more than there is room for if nothing can be written any more.
-fn make_room(out: &[u8; ROOM], at: usize, need: usize) -> usize
+fn make_room(rt: &HostRuntime, out: &[u8; ROOM], at: usize, need: usize) -> usize
     requires { need ≤ 65536 }
 {
     if at <= ROOM - need {
         return at;
     }
-    if flush(out, at) {
+    if flush(rt, out, at) {
         return 0;
     }
     CLOSED
@@ -23,6 +23,7 @@ fn make_room(out: &[u8; ROOM], at: usize, need: usize) -> usize
 
 // Puts the fields of a row.
 fn put_fields<'a>(
+    rt: &HostRuntime,
     columns: &[u8; COLUMNS],
     count: usize,
     names: &[u8; NAME_INDEX_NEED],
@@ -41,7 +42,7 @@ fn put_fields<'a>(
         put: at,
     };
     while p.column < count {
-        let put = make_room(out, p.put, PART_ROOM);
+        let put = make_room(rt, out, p.put, PART_ROOM);
         if ROOM - PART_ROOM < put {
             return CLOSED;
         }
@@ -57,6 +58,7 @@ fn put_fields<'a>(
 
 // Puts the row of a line under its number.
 pub(crate) fn put_row<'a>(
+    rt: &HostRuntime,
     number: u64,
     word: Word,
     columns: &[u8; COLUMNS],
@@ -70,12 +72,13 @@ pub(crate) fn put_row<'a>(
 ) -> usize
     requires { count ≤ group_limit }
 {
-    let put_at = make_room(out, at, OPENING_ROOM);
+    let put_at = make_room(rt, out, at, OPENING_ROOM);
     if ROOM - OPENING_ROOM < put_at {
         return CLOSED;
     }
     let opened = open_row(number, word, out, put_at);
     let filled = put_fields(
+        rt,
         columns,
         count,
         names,
@@ -86,5 +89,5 @@ pub(crate) fn put_row<'a>(
         out,
         opened,
     );
-    put(out, filled, b"\n")
+    put(rt, out, filled, b"\n")
 }

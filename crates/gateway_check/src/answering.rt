@@ -23,7 +23,13 @@ const PROPOSAL_LIMIT: usize = 2 + BUDGET as usize;
 pub const LINE_ROOM: usize = 2 * PROPOSAL_LIMIT + 1 + LINE_LIMIT + 1;
 
 // The line for a reading: that of a match, with another letter.
-fn put_reading(row: &[u32; ROW_LENGTH], groups: u32, out: &mut [u8; ROOM], at: usize) -> usize
+fn put_reading(
+    rt: &HostRuntime,
+    row: &[u32; ROW_LENGTH],
+    groups: u32,
+    out: &mut [u8; ROOM],
+    at: usize,
+) -> usize
     requires { groups ≤ group_limit }
 {
     let mut text = [0u8; ANSWER_ROOM];
@@ -35,18 +41,18 @@ fn put_reading(row: &[u32; ROW_LENGTH], groups: u32, out: &mut [u8; ROOM], at: u
     if ANSWER_ROOM < end {
         return at;
     }
-    let p = put(out, at, b"A");
-    put(out, p, &text[1..end])
+    let p = put(rt, out, at, b"A");
+    put(rt, out, p, &text[1..end])
 }
 
 // The line for a start at which the budget was used up.
-fn put_exhausted(start: u32, out: &mut [u8; ROOM], at: usize) -> usize {
+fn put_exhausted(rt: &HostRuntime, start: u32, out: &mut [u8; ROOM], at: usize) -> usize {
     let mut text = [0u8; ANSWER_ROOM];
     let end = write_exhausted(start, &mut text, 0);
     if ANSWER_ROOM < end {
         return at;
     }
-    put(out, at, &text[..end])
+    put(rt, out, at, &text[..end])
 }
 
 // The line for a refused rule.
@@ -61,6 +67,7 @@ pub(crate) fn put_unreadable(out: &mut [u8; ROOM]) -> usize {
 
 // Checks a proposal of a line.
 fn answer_sent(
+    rt: &HostRuntime,
     code: &[u32; RULE_AREA],
     entry: u32,
     groups: u32,
@@ -72,19 +79,20 @@ fn answer_sent(
     requires { ((x : Rule) × Stands code.now x entry) × (groups ≤ group_limit) }
 {
     if LINE_LIMIT < subject.len() {
-        return put(out, at, b"L\n");
+        return put(rt, out, at, b"L\n");
     }
     let mut row = [0u32; ROW_LENGTH];
     match check_held(code, entry, subject, BUDGET, proposal, &mut row) {
-        Verdict::Reading(_steps) => put_reading(&row, groups, out, at),
-        Verdict::Nothing(_steps) => put(out, at, b"N\n"),
-        Verdict::Exhausted(start, _steps) => put_exhausted(start, out, at),
-        Verdict::Refused(_why) => put(out, at, b"N\n"),
+        Verdict::Reading(_steps) => put_reading(rt, &row, groups, out, at),
+        Verdict::Nothing(_steps) => put(rt, out, at, b"N\n"),
+        Verdict::Exhausted(start, _steps) => put_exhausted(rt, start, out, at),
+        Verdict::Refused(_why) => put(rt, out, at, b"N\n"),
     }
 }
 
 // Answers a line with its proposal in front, by a rule that stands compiled and has so many groups.
 pub(crate) fn answer(
+    rt: &HostRuntime,
     code: &[u32; RULE_AREA],
     entry: u32,
     groups: u32,
@@ -95,17 +103,18 @@ pub(crate) fn answer(
     requires { ((x : Rule) × Stands code.now x entry) × (groups ≤ group_limit) }
 {
     if LINE_ROOM <= line.len() {
-        return put(out, at, b"L\n");
+        return put(rt, out, at, b"L\n");
     }
     let end = blank_at(line);
     if end == line.len() {
-        return put(out, at, b"H\n");
+        return put(rt, out, at, b"H\n");
     }
     let from = end + 1;
     let all = line.len();
     let mut proposal = [0u8; PROPOSAL_LIMIT];
     match read_bytes(&line[..end], &mut proposal) {
         Sent::Bytes(n) => answer_sent(
+            rt,
             code,
             entry,
             groups,
@@ -114,7 +123,7 @@ pub(crate) fn answer(
             out,
             at,
         ),
-        Sent::TooLong => put(out, at, b"L\n"),
-        Sent::Wrong => put(out, at, b"H\n"),
+        Sent::TooLong => put(rt, out, at, b"L\n"),
+        Sent::Wrong => put(rt, out, at, b"H\n"),
     }
 }

@@ -13,47 +13,47 @@ use frame::RULE_LIMIT;
 use gateway_line::{Readiness, prepare};
 use lines::{answer_input, write_out};
 use office::{PIECE, ROOM, Rest, next_line};
+use std::fs;
 
 // One byte more than a rule may have: with so many, it is known to be too long.
 const RULE: usize = RULE_LIMIT + 1;
 
 // Answers standard input by a rule, which is compiled once for all lines, or says why it is refused.
-fn serve_or_refuse(rule: &[u8], piece: &mut [u8; PIECE], out: &mut [u8; ROOM]) {
+fn serve_or_refuse(rt: &HostRuntime, rule: &[u8], piece: &mut [u8; PIECE], out: &mut [u8; ROOM]) {
     let mut area = [0u32; RULE_AREA];
     match prepare(rule, true, &mut area) {
-        Readiness::Ready(entry, groups) => answer_input(&area, entry, groups, piece, out),
+        Readiness::Ready(entry, groups) => answer_input(rt, &area, entry, groups, piece, out),
         Readiness::Refused(f) => {
             let at = put_refusal(f, out);
-            write_out(out, at);
+            write_out(rt, out, at);
         }
     }
 }
 
 // Says that the rule file cannot be read.
-fn say_unreadable(out: &mut [u8; ROOM]) {
+fn say_unreadable(rt: &HostRuntime, out: &mut [u8; ROOM]) {
     let at = put_unreadable(out);
-    write_out(out, at);
+    write_out(rt, out, at);
 }
 
-fn main() {
+fn main(rt: HostRuntime) {
     let mut out = io::large_buffer();
-    let fd = os::open_read(b"rule.txt");
-    if fd < 0 {
-        say_unreadable(&mut out);
+    let Ok(mut file) = fs::open(&rt, "rule.txt") else {
+        say_unreadable(&rt, &mut out);
         return;
-    }
+    };
     let mut piece = io::large_buffer();
     let mut rule = [0u8; RULE];
     let nothing = Rest {
         at: 0,
         end: 0,
-        failed: false,
+        failed: None,
     };
-    let line = next_line(fd, &mut piece, nothing, &mut rule, false);
+    let line = next_line(&mut file, &mut piece, nothing, &mut rule, false);
     let n = line.have;
-    if line.failed {
-        say_unreadable(&mut out);
+    if line.failed.is_some() {
+        say_unreadable(&rt, &mut out);
         return;
     }
-    serve_or_refuse(&rule[..n], &mut piece, &mut out);
+    serve_or_refuse(&rt, &rule[..n], &mut piece, &mut out);
 }

@@ -1,7 +1,27 @@
-// What the program is started with.
+// What the program is started with. An argument need not be UTF-8.
 ghost use Rattle.std.specs.Prelude.{◌≤◌};
+ghost use Rattle.io.specs.Counts.{IsPrefixLen};
 
 use check::same;
+use std::env::{Env, FillError};
+
+// How many arguments there are, the program's name among them.
+pub fn arg_count(rt: &HostRuntime) -> usize {
+    let mut nothing = [0u8; 1];
+    for i in 0..usize::MAX {
+        if let Err(FillError::NotPresent) = rt.arg(i, &mut nothing) {
+            return i;
+        }
+    }
+    usize::MAX
+}
+
+// The length of an argument that is put at the start of a buffer; 0 where it is missing or longer than the buffer.
+pub fn arg(rt: &HostRuntime, i: usize, buffer: &mut [u8]) -> usize
+    ensures { IsPrefixLen result buffer.new }
+{
+    rt.arg(i, buffer).unwrap_or(0)
+}
 
 // What an argument stands for: a number, or nothing that is allowed.
 #[derive(Drop)]
@@ -83,8 +103,8 @@ pub fn flags(text: &[u8]) -> Value {
 }
 
 // Whether the arguments begin with the word that asks for a page.
-pub fn asks_for_page() -> bool {
+pub fn asks_for_page(rt: &HostRuntime) -> bool {
     let mut text = io::buffer();
-    let n = os::arg(1, &mut text);
+    let n = arg(rt, 1, &mut text);
     same(&text[..n], b"--page")
 }

@@ -2,7 +2,10 @@
 ghost use Rattle.std.specs.Prelude.{◌≤◌, length};
 ghost use Rattle.office.specs.Parts.{Within};
 
-use crate::output::say;
+use crate::messages::{fail, say};
+use std::env::{Env, FillError};
+use std::fs::File;
+use std::{fs, io};
 use text::{gather, line_end};
 
 // How much of a file is read at once.
@@ -13,7 +16,7 @@ pub const PIECE: usize = 65536;
 pub struct Rest {
     pub at: usize,
     pub end: usize,
-    pub failed: bool,
+    pub failed: Option<io::Error>,
 }
 
 // A line that was brought into a buffer.
@@ -26,29 +29,65 @@ pub struct Line {
     pub end: usize,
     // no 0A ends it: there is none if it is empty
     pub last: bool,
-    pub failed: bool,
+    pub failed: Option<io::Error>,
 }
 
-// Opens the file that an argument names. Where that fails it says so, and answers -1.
-pub fn open(program: &[u8], argument: usize) -> i32 {
-    let mut path = io::buffer();
-    let n = os::arg(argument, &mut path);
-    if os::errno() != 0 {
-        say(program);
-        os::fail(b": the name of a file");
-        return -1;
+// The system's numbers for a name that is too long, for one that is missing, and for one that is no text.
+const NAME_TOO_LONG: i32 = 36;
+
+const INVALID: i32 = 22;
+
+const NO_TEXT: i32 = 84;
+
+// Opens the file that an argument names. Where that fails it says so, and answers none.
+pub fn open(rt: &HostRuntime, program: &[u8], argument: usize) -> Option<File> {
+    let mut path = [0u8; 4096];
+    match rt.arg(argument, &mut path) {
+        Ok(n) => open_or_say(rt, program, &path[..n]),
+        Err(why) => {
+            say(rt, program);
+            fail(rt, b": the name of a file", unnamed(why));
+            None
+        }
     }
-    let fd = os::open_read(&path[..n]);
-    if fd < 0 {
-        say(program);
-        say(b": ");
-        os::fail(&path[..n]);
+}
+
+// Why an argument gives no name, as the system would put it.
+pub fn unnamed(why: FillError) -> io::Error {
+    match why {
+        FillError::TooLong => io::Error::from_raw_os_error(NAME_TOO_LONG),
+        FillError::NotPresent => io::Error::from_raw_os_error(INVALID),
     }
-    fd
+}
+
+// Opens the file of a name, or says why that fails.
+fn open_or_say(rt: &HostRuntime, program: &[u8], name: &[u8]) -> Option<File> {
+    match open_named(rt, name) {
+        Ok(file) => Some(file),
+        Err(e) => {
+            say(rt, program);
+            say(rt, b": ");
+            fail(rt, name, e);
+            None
+        }
+    }
+}
+
+// A path is text here: a file whose name is not UTF-8 cannot be opened.
+fn open_named(rt: &HostRuntime, name: &[u8]) -> io::Result<File> {
+    match std::str::from_utf8(name) {
+        Ok(path) => fs::open(rt, path),
+        Err(_) => Err(no_text()),
+    }
+}
+
+// What a name that is not UTF-8 fails with.
+pub fn no_text() -> io::Error {
+    io::Error::from_raw_os_error(NO_TEXT)
 }
 
 // Reads the next piece where nothing is left of the one before. At the end of the file nothing is left then, either.
-fn fill(fd: i32, piece: &mut [u8], rest: Rest) -> Rest
+fn fill<R: io::Read>(reader: &mut R, piece: &mut [u8], rest: Rest) -> Rest
     requires { Within (length piece.old) rest.at rest.end }
     ensures { Within (length piece.old) result.at result.end }
 {
@@ -58,21 +97,32 @@ fn fill(fd: i32, piece: &mut [u8], rest: Rest) -> Rest
         return Rest {
             at,
             end,
-            failed: false,
+            failed: None,
         };
     }
-    let got = libc::read(fd, piece);
-    let n = io::count(got, piece);
-    Rest {
-        at: 0,
-        end: n,
-        failed: got < 0,
+    match reader.read(piece) {
+        Ok(n) => Rest {
+            at: 0,
+            end: n,
+            failed: None,
+        },
+        Err(e) => Rest {
+            at: 0,
+            end: 0,
+            failed: Some(e),
+        },
     }
 }
 
 // Brings the next line into a buffer, or as much of it as there is room for. A line that fills the buffer is read to its end if that is asked
 // for; else it is the last.
-pub fn next_line(fd: i32, piece: &mut [u8], rest: Rest, line: &mut [u8], to_end: bool) -> Line
+pub fn next_line<R: io::Read>(
+    reader: &mut R,
+    piece: &mut [u8],
+    rest: Rest,
+    line: &mut [u8],
+    to_end: bool,
+) -> Line
     requires { Within (length piece.old) rest.at rest.end }
     ensures { (result.have ≤ length line.old) × Within (length piece.old) result.at result.end }
 {
@@ -81,7 +131,7 @@ pub fn next_line(fd: i32, piece: &mut [u8], rest: Rest, line: &mut [u8], to_end:
     // nothing says that a file ends: the reads are counted
     let mut left: u64 = 18446744073709551615;
     while 0 < left {
-        let r = fill(fd, piece, from);
+        let r = fill(reader, piece, from);
         let at = r.at;
         let end = r.end;
         // the file is over, or it could not be read
@@ -102,7 +152,7 @@ pub fn next_line(fd: i32, piece: &mut [u8], rest: Rest, line: &mut [u8], to_end:
                 at: stop + 1,
                 end,
                 last: false,
-                failed: false,
+                failed: None,
             };
         }
         if !to_end {
@@ -112,14 +162,14 @@ pub fn next_line(fd: i32, piece: &mut [u8], rest: Rest, line: &mut [u8], to_end:
                     at: end,
                     end,
                     last: true,
-                    failed: false,
+                    failed: None,
                 };
             }
         }
         from = Rest {
             at: end,
             end,
-            failed: false,
+            failed: None,
         };
         left -= 1;
     }
@@ -128,6 +178,6 @@ pub fn next_line(fd: i32, piece: &mut [u8], rest: Rest, line: &mut [u8], to_end:
         at: 0,
         end: 0,
         last: true,
-        failed: true,
+        failed: Some(io::Error::from(io::ErrorKind::TimedOut)),
     }
 }

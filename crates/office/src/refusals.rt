@@ -1,7 +1,7 @@
 // Why a rule or a card is refused, as the one who started the program is told.
 ghost use Rattle.std.specs.Prelude.{◌≤◌, ◌<◌, length};
 
-use crate::output::{say, say_number};
+use crate::messages::{say, say_number};
 use syntax::{GROUP_LIMIT, Refusal};
 use text::line_end;
 
@@ -20,13 +20,13 @@ fn is_of_card(number: u32) -> bool {
 }
 
 // Says what stands on a line of a text. The lines are counted from 1.
-fn say_line(text: &[u8], number: u32) {
+fn say_line(rt: &HostRuntime, text: &[u8], number: u32) {
     let mut from: usize = 0;
     let mut left = number;
     while 0 < left {
         let end = line_end(text, from);
         if left == 1 {
-            say(&text[from..end]);
+            say(rt, &text[from..end]);
             return;
         }
         if end == text.len() {
@@ -38,8 +38,9 @@ fn say_line(text: &[u8], number: u32) {
 }
 
 // Says what a refusal means: each is on the line of its number.
-fn say_meaning(number: u32) {
+fn say_meaning(rt: &HostRuntime, number: u32) {
     say_line(
+        rt,
         b"the rule has more than 1000 bytes\n\
 the line has more than 65535 bytes\n\
 a flag that there is not\n\
@@ -79,34 +80,34 @@ the 257th branch begins behind this bar; a check follows at most 256\n",
         number,
     );
     if number == TOO_MANY_GROUPS {
-        say_number(b"", GROUP_LIMIT as u64, b"");
+        say_number(rt, b"", GROUP_LIMIT as u64, b"");
     }
 }
 
 // The window of the rule that begins at a position, with the place marked if it lies there.
-fn say_window(rule: &[u8], at: usize, place: usize)
+fn say_window(rt: &HostRuntime, rule: &[u8], at: usize, place: usize)
     requires { (at ≤ length rule.now) × (length rule.now ≤ 1001) × (place < length rule.now) }
 {
     let mut text = [0u8; report::WIDTH];
     let n = report::show(&rule[at..], &mut text);
-    say(b"  ");
-    say(&text[..n]);
-    say(b"\n");
+    say(rt, b"  ");
+    say(rt, &text[..n]);
+    say(rt, b"\n");
     if report::touches(place as u32, place as u32 + 1, at as u32) {
         report::mark(b'^', place as u32, place as u32 + 1, at as u32, &mut text);
-        say(b"  ");
-        say(&text[..n]);
-        say(b"\n");
+        say(rt, b"  ");
+        say(rt, &text[..n]);
+        say(rt, b"\n");
     }
 }
 
 // The rule with the place marked.
-fn say_rule(rule: &[u8], place: usize)
+fn say_rule(rt: &HostRuntime, rule: &[u8], place: usize)
     requires { (length rule.now ≤ 1001) × (place < length rule.now) }
 {
     let mut at: usize = 0;
     loop {
-        say_window(rule, at, place);
+        say_window(rt, rule, at, place);
         if rule.len() - at <= report::WIDTH {
             return;
         }
@@ -116,27 +117,27 @@ fn say_rule(rule: &[u8], place: usize)
 
 // Why the rule is refused: the number, the place and what it means, and the rule with the place marked if it is one in the rule. Or why a card
 // is.
-pub fn say_refusal(program: &[u8], f: Refusal, rule: &[u8])
+pub fn say_refusal(rt: &HostRuntime, program: &[u8], f: Refusal, rule: &[u8])
     requires { length rule.now ≤ 1001 }
 {
     let reason = f.reason;
     let place = f.place;
     let number = syntax::number(reason);
-    say(program);
+    say(rt, program);
     if is_of_card(number) {
-        say_number(b": the card is refused, ", number as u64, b": ");
-        say_meaning(number);
-        say(b"\n");
+        say_number(rt, b": the card is refused, ", number as u64, b": ");
+        say_meaning(rt, number);
+        say(rt, b"\n");
         return;
     }
-    say_number(b": the rule is refused, ", number as u64, b" at ");
-    say_number(b"", place as u64, b": ");
-    say_meaning(number);
-    say(b"\n");
+    say_number(rt, b": the rule is refused, ", number as u64, b" at ");
+    say_number(rt, b"", place as u64, b": ");
+    say_meaning(rt, number);
+    say(rt, b"\n");
     if number < FIRST_IN_RULE {
         return;
     }
     if place < rule.len() {
-        say_rule(rule, place);
+        say_rule(rt, rule, place);
     }
 }

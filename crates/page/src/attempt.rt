@@ -9,14 +9,27 @@ use office::{ROOM, put};
 const SIGN: u8 = b'^';
 
 // The place where an attempt ended, and what is shown of the line behind it.
-fn put_stop(out: &mut [u8; ROOM], at: usize, line: &[u8], stop: usize, to: usize) -> usize
+fn put_stop(
+    rt: &HostRuntime,
+    out: &mut [u8; ROOM],
+    at: usize,
+    line: &[u8],
+    stop: usize,
+    to: usize,
+) -> usize
     requires { (stop ≤ length line.now) × (to ≤ length line.now) }
 {
     if stop == line.len() {
-        return put(out, at, b"<mark class=\"stop\">the line&#8217;s end</mark>");
+        return put(
+            rt,
+            out,
+            at,
+            b"<mark class=\"stop\">the line&#8217;s end</mark>",
+        );
     }
     let next = stop + 1;
     let p = put_within(
+        rt,
         out,
         at,
         b"<mark class=\"stop\">",
@@ -26,11 +39,12 @@ fn put_stop(out: &mut [u8; ROOM], at: usize, line: &[u8], stop: usize, to: usize
     if to <= next {
         return p;
     }
-    put_shown(out, p, &line[next..to])
+    put_shown(rt, out, p, &line[next..to])
 }
 
 // What is shown of the line before an attempt, and what the attempt took.
 fn put_taken(
+    rt: &HostRuntime,
     out: &mut [u8; ROOM],
     at: usize,
     line: &[u8],
@@ -42,6 +56,7 @@ fn put_taken(
 {
     if start <= from {
         return put_within(
+            rt,
             out,
             at,
             b"<span class=\"fit\">",
@@ -49,8 +64,9 @@ fn put_taken(
             b"</span>",
         );
     }
-    let p = put_shown(out, at, &line[from..start]);
+    let p = put_shown(rt, out, at, &line[from..start]);
     put_within(
+        rt,
         out,
         p,
         b"<span class=\"fit\">",
@@ -60,17 +76,24 @@ fn put_taken(
 }
 
 // A line with an attempt.
-pub fn put_attempt(out: &mut [u8; ROOM], at: usize, line: &[u8], start: usize, stop: usize) -> usize
+pub fn put_attempt(
+    rt: &HostRuntime,
+    out: &mut [u8; ROOM],
+    at: usize,
+    line: &[u8],
+    start: usize,
+    stop: usize,
+) -> usize
     requires { (start ≤ stop) × (stop ≤ length line.now) }
 {
     let from = shown_from(stop);
     let to = shown_to(from, line.len());
-    let mut p = put(out, at, b"<p class=\"line\">");
-    p = put_left_out(out, p, from);
-    p = put_taken(out, p, line, from, start, stop);
-    p = put_stop(out, p, line, stop, to);
-    p = put_left_out(out, p, line.len() - to);
-    put(out, p, b"</p>\n")
+    let mut p = put(rt, out, at, b"<p class=\"line\">");
+    p = put_left_out(rt, out, p, from);
+    p = put_taken(rt, out, p, line, from, start, stop);
+    p = put_stop(rt, out, p, line, stop, to);
+    p = put_left_out(rt, out, p, line.len() - to);
+    put(rt, out, p, b"</p>\n")
 }
 
 // Where the bytes end that begin at a place and have one sign.
@@ -90,23 +113,29 @@ fn signs_end(signs: &[u8], from: usize) -> usize
 }
 
 // Bytes of a rule that have one sign.
-fn put_signed(out: &mut [u8; ROOM], at: usize, sign: u8, text: &[u8]) -> usize {
+fn put_signed(rt: &HostRuntime, out: &mut [u8; ROOM], at: usize, sign: u8, text: &[u8]) -> usize {
     if sign == SIGN {
-        return put_within(out, at, b"<mark>", text, b"</mark>");
+        return put_within(rt, out, at, b"<mark>", text, b"</mark>");
     }
-    put_shown(out, at, text)
+    put_shown(rt, out, at, text)
 }
 
 // A rule, in which the items are marked that have a sign.
-pub fn put_marked(out: &mut [u8; ROOM], at: usize, rule: &[u8], signs: &[u8]) -> usize
+pub fn put_marked(
+    rt: &HostRuntime,
+    out: &mut [u8; ROOM],
+    at: usize,
+    rule: &[u8],
+    signs: &[u8],
+) -> usize
     requires { length signs.now ≡ length rule.now }
 {
-    let mut p = put(out, at, b"<p class=\"line\"><b>rule </b>");
+    let mut p = put(rt, out, at, b"<p class=\"line\"><b>rule </b>");
     let mut i: usize = 0;
     while i < signs.len() {
         let end = signs_end(signs, i);
-        p = put_signed(out, p, signs[i], &rule[i..end]);
+        p = put_signed(rt, out, p, signs[i], &rule[i..end]);
         i = end;
     }
-    put(out, p, b"</p>\n")
+    put(rt, out, p, b"</p>\n")
 }

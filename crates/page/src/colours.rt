@@ -55,23 +55,24 @@ fn run_end(row: &[u32], from: usize, to: usize) -> usize
 }
 
 // Bytes of one colour. What the reading took and no field has is underlined.
-fn put_run(out: &mut [u8; ROOM], at: usize, span: usize, text: &[u8]) -> usize {
+fn put_run(rt: &HostRuntime, out: &mut [u8; ROOM], at: usize, span: usize, text: &[u8]) -> usize {
     if span == OUTSIDE {
-        return put_shown(out, at, text);
+        return put_shown(rt, out, at, text);
     }
     let mut p = at;
     if span < 2 {
-        p = put(out, at, b"<span class=\"t\">");
+        p = put(rt, out, at, b"<span class=\"t\">");
     } else {
         let colour = (span / 2 - 1) % COLOURS;
-        p = put_number(out, at, b"<span class=\"f", colour as u64, b"\">");
+        p = put_number(rt, out, at, b"<span class=\"f", colour as u64, b"\">");
     }
-    let q = put_shown(out, p, text);
-    put(out, q, b"</span>")
+    let q = put_shown(rt, out, p, text);
+    put(rt, out, q, b"</span>")
 }
 
 // A part of a line.
 fn put_runs(
+    rt: &HostRuntime,
     out: &mut [u8; ROOM],
     at: usize,
     row: &[u32],
@@ -86,7 +87,7 @@ fn put_runs(
     while i < to {
         let end = run_end(row, i, to);
         let span = span_at(row, i as u32);
-        p = put_run(out, p, span, &line[i..end]);
+        p = put_run(rt, out, p, span, &line[i..end]);
         i = end;
     }
     p
@@ -114,7 +115,13 @@ pub(crate) fn shown_to(from: usize, size: usize) -> usize
 }
 
 // A line in the colours of a row, or a part of it in which the row's first span begins.
-pub(crate) fn put_line(out: &mut [u8; ROOM], at: usize, row: &[u32], line: &[u8]) -> usize
+pub(crate) fn put_line(
+    rt: &HostRuntime,
+    out: &mut [u8; ROOM],
+    at: usize,
+    row: &[u32],
+    line: &[u8],
+) -> usize
     requires { length line.now ≤ 65536 }
 {
     let mut from: usize = 0;
@@ -125,19 +132,26 @@ pub(crate) fn put_line(out: &mut [u8; ROOM], at: usize, row: &[u32], line: &[u8]
             from = shown_from(place);
         }
     }
-    let p = put(out, at, b"<p class=\"line\">");
-    put_line_from(out, p, row, line, from)
+    let p = put(rt, out, at, b"<p class=\"line\">");
+    put_line_from(rt, out, p, row, line, from)
 }
 
-fn put_line_from(out: &mut [u8; ROOM], at: usize, row: &[u32], line: &[u8], from: usize) -> usize
+fn put_line_from(
+    rt: &HostRuntime,
+    out: &mut [u8; ROOM],
+    at: usize,
+    row: &[u32],
+    line: &[u8],
+    from: usize,
+) -> usize
     requires { length line.now ≤ 65536 }
 {
     if line.len() < from {
         return at;
     }
     let to = shown_to(from, line.len());
-    let p = put_left_out(out, at, from);
-    let q = put_runs(out, p, row, line, from, to);
-    let r = put_left_out(out, q, line.len() - to);
-    put(out, r, b"</p>\n")
+    let p = put_left_out(rt, out, at, from);
+    let q = put_runs(rt, out, p, row, line, from, to);
+    let r = put_left_out(rt, out, q, line.len() - to);
+    put(rt, out, r, b"</p>\n")
 }

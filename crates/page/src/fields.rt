@@ -14,37 +14,45 @@ const GROUPS: usize = syntax::GROUP_LIMIT as usize;
 const MOST: usize = 200;
 
 // What a field took, or the beginning of it.
-fn put_value(out: &mut [u8; ROOM], at: usize, value: &[u8]) -> usize {
+fn put_value(rt: &HostRuntime, out: &mut [u8; ROOM], at: usize, value: &[u8]) -> usize {
     if value.len() == 0 {
-        return put(out, at, b"<i>empty</i>");
+        return put(rt, out, at, b"<i>empty</i>");
     }
-    let p = put(out, at, b"<code>");
+    let p = put(rt, out, at, b"<code>");
     if value.len() <= MOST {
-        let q = put_shown(out, p, value);
-        return put(out, q, b"</code>");
+        let q = put_shown(rt, out, p, value);
+        return put(rt, out, q, b"</code>");
     }
-    let q = put_shown(out, p, &value[..MOST]);
-    let r = put_left_out(out, q, value.len() - MOST);
-    put(out, r, b"</code>")
+    let q = put_shown(rt, out, p, &value[..MOST]);
+    let r = put_left_out(rt, out, q, value.len() - MOST);
+    put(rt, out, r, b"</code>")
 }
 
 // The name of the group that so many others come before, in its colour.
-fn put_named(out: &mut [u8; ROOM], at: usize, names: &[u8; NAME_INDEX_NEED], passed: usize) -> usize
+fn put_named(
+    rt: &HostRuntime,
+    out: &mut [u8; ROOM],
+    at: usize,
+    names: &[u8; NAME_INDEX_NEED],
+    passed: usize,
+) -> usize
     requires { passed < group_limit }
 {
     let p = put_number(
+        rt,
         out,
         at,
         b"<li class=\"f",
         (passed % COLOURS) as u64,
         b"\"><b>",
     );
-    let q = put_name(out, p, names, passed);
-    put(out, q, b"</b>")
+    let q = put_name(rt, out, p, names, passed);
+    put(rt, out, q, b"</b>")
 }
 
 // The group that so many others come before, with its span. One that is not set has its span behind every line.
 fn put_field(
+    rt: &HostRuntime,
     out: &mut [u8; ROOM],
     at: usize,
     names: &[u8; NAME_INDEX_NEED],
@@ -61,28 +69,30 @@ fn put_field(
     if to < from {
         return at;
     }
-    let p = put_named(out, at, names, passed);
-    let q = put(out, p, b" ");
-    let r = put_value(out, q, &line[from..to]);
-    put(out, r, b"</li>\n")
+    let p = put_named(rt, out, at, names, passed);
+    let q = put(rt, out, p, b" ");
+    let r = put_value(rt, out, q, &line[from..to]);
+    put(rt, out, r, b"</li>\n")
 }
 
 // The groups of a row.
 pub(crate) fn put_fields(
+    rt: &HostRuntime,
     out: &mut [u8; ROOM],
     at: usize,
     names: &[u8; NAME_INDEX_NEED],
     line: &[u8],
     row: &[u32],
 ) -> usize {
-    let mut p = put(out, at, b"<ul>\n");
+    let mut p = put(rt, out, at, b"<ul>\n");
     let mut passed: usize = 0;
     while passed < GROUPS {
         let k = 2 * passed + 2;
         if row.len() <= k + 1 {
-            return put(out, p, b"</ul>\n");
+            return put(rt, out, p, b"</ul>\n");
         }
         p = put_field(
+            rt,
             out,
             p,
             names,
@@ -93,28 +103,29 @@ pub(crate) fn put_fields(
         );
         passed += 1;
     }
-    put(out, p, b"</ul>\n")
+    put(rt, out, p, b"</ul>\n")
 }
 
 // The fields of a rule that has so many groups.
 pub fn put_legend(
+    rt: &HostRuntime,
     out: &mut [u8; ROOM],
     at: usize,
     names: &[u8; NAME_INDEX_NEED],
     groups: u32,
 ) -> usize {
     if groups == 0 {
-        return put(out, at, b"<p>It has no fields.</p>\n");
+        return put(rt, out, at, b"<p>It has no fields.</p>\n");
     }
-    let mut p = put(out, at, b"<ul>\n");
+    let mut p = put(rt, out, at, b"<ul>\n");
     let mut passed: usize = 0;
     while passed < GROUPS {
         if groups as usize <= passed {
-            return put(out, p, b"</ul>\n");
+            return put(rt, out, p, b"</ul>\n");
         }
-        p = put_named(out, p, names, passed);
-        p = put(out, p, b"</li>\n");
+        p = put_named(rt, out, p, names, passed);
+        p = put(rt, out, p, b"</li>\n");
         passed += 1;
     }
-    put(out, p, b"</ul>\n")
+    put(rt, out, p, b"</ul>\n")
 }

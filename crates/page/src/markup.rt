@@ -3,8 +3,9 @@ use crate::shown::put_shown;
 use office::{ROOM, put, put_number};
 
 // How the page looks: the text, and what is the same on every screen.
-fn put_style(out: &mut [u8; ROOM], at: usize) -> usize {
+fn put_style(rt: &HostRuntime, out: &mut [u8; ROOM], at: usize) -> usize {
     put(
+        rt,
         out,
         at,
         b"<style>\n\
@@ -29,8 +30,9 @@ article{border:1px solid #ccc;border-left:.4rem solid #888;border-radius:.25rem;
 }
 
 // The colours. Text on them has a contrast of ten to one or more.
-fn put_colours(out: &mut [u8; ROOM], at: usize) -> usize {
+fn put_colours(rt: &HostRuntime, out: &mut [u8; ROOM], at: usize) -> usize {
     put(
+        rt,
         out,
         at,
         b".f0{background:#cfe3ff;border-color:#1f5fbf}\n\
@@ -62,8 +64,9 @@ main{margin-top:.75rem}\n\
 }
 
 // The page up to its counts.
-pub fn put_head(out: &mut [u8; ROOM], at: usize) -> usize {
+pub fn put_head(rt: &HostRuntime, out: &mut [u8; ROOM], at: usize) -> usize {
     let mut p = put(
+        rt,
         out,
         at,
         b"<!DOCTYPE html>\n\
@@ -74,9 +77,10 @@ pub fn put_head(out: &mut [u8; ROOM], at: usize) -> usize {
 <meta name=\"viewport\" content=\"width=device-width, initial-scale=1\">\n\
 <title>Lines that need a person</title>\n",
     );
-    p = put_style(out, p);
-    p = put_colours(out, p);
+    p = put_style(rt, out, p);
+    p = put_colours(rt, out, p);
     put(
+        rt,
         out,
         p,
         b"</head>\n<body>\n<h1>Lines that need a person</h1>\n",
@@ -84,30 +88,43 @@ pub fn put_head(out: &mut [u8; ROOM], at: usize) -> usize {
 }
 
 // How many lines there are of a kind.
-fn put_count(out: &mut [u8; ROOM], at: usize, n: u64, kind: &[u8]) -> usize {
-    let p = put_number(out, at, b"<li><b>", n, b"</b> ");
-    let q = put(out, p, kind);
-    put(out, q, b"</li>\n")
+fn put_count(rt: &HostRuntime, out: &mut [u8; ROOM], at: usize, n: u64, kind: &[u8]) -> usize {
+    let p = put_number(rt, out, at, b"<li><b>", n, b"</b> ");
+    let q = put(rt, out, p, kind);
+    put(rt, out, q, b"</li>\n")
 }
 
 // How many lines need nobody. The report and the table call them by words of their own.
-fn put_matched(out: &mut [u8; ROOM], at: usize, by_fields: bool, n: u64) -> usize {
+fn put_matched(
+    rt: &HostRuntime,
+    out: &mut [u8; ROOM],
+    at: usize,
+    by_fields: bool,
+    n: u64,
+) -> usize {
     if by_fields {
-        return put_count(out, at, n, b"matched");
+        return put_count(rt, out, at, n, b"matched");
     }
-    put_count(out, at, n, b"matched once")
+    put_count(rt, out, at, n, b"matched once")
 }
 
 // How many lines are undecided, a word that only the table has.
-fn put_undecided(out: &mut [u8; ROOM], at: usize, by_fields: bool, n: u64) -> usize {
+fn put_undecided(
+    rt: &HostRuntime,
+    out: &mut [u8; ROOM],
+    at: usize,
+    by_fields: bool,
+    n: u64,
+) -> usize {
     if by_fields {
-        return put_count(out, at, n, b"undecided");
+        return put_count(rt, out, at, n, b"undecided");
     }
     at
 }
 
 // How many lines there are of each kind.
 pub fn put_counts(
+    rt: &HostRuntime,
     out: &mut [u8; ROOM],
     at: usize,
     by_fields: bool,
@@ -119,27 +136,36 @@ pub fn put_counts(
     exhausted: u64,
     too_long: u64,
 ) -> usize {
-    let mut p = put(out, at, b"<ul class=\"counts\">\n");
-    p = put_count(out, p, lines, b"lines");
-    p = put_matched(out, p, by_fields, matched);
-    p = put_count(out, p, ambiguous, b"ambiguous");
-    p = put_undecided(out, p, by_fields, undecided);
-    p = put_count(out, p, unmatched, b"not matched");
-    p = put_count(out, p, exhausted, b"exhausted");
-    p = put_count(out, p, too_long, b"too long");
-    put(out, p, b"</ul>\n")
+    let mut p = put(rt, out, at, b"<ul class=\"counts\">\n");
+    p = put_count(rt, out, p, lines, b"lines");
+    p = put_matched(rt, out, p, by_fields, matched);
+    p = put_count(rt, out, p, ambiguous, b"ambiguous");
+    p = put_undecided(rt, out, p, by_fields, undecided);
+    p = put_count(rt, out, p, unmatched, b"not matched");
+    p = put_count(rt, out, p, exhausted, b"exhausted");
+    p = put_count(rt, out, p, too_long, b"too long");
+    put(rt, out, p, b"</ul>\n")
 }
 
 // The rule, its flags and the budget. Its fields follow.
-pub fn put_rule(out: &mut [u8; ROOM], at: usize, rule: &[u8], flags: u32, budget: u32) -> usize {
+pub fn put_rule(
+    rt: &HostRuntime,
+    out: &mut [u8; ROOM],
+    at: usize,
+    rule: &[u8],
+    flags: u32,
+    budget: u32,
+) -> usize {
     let mut p = put(
+        rt,
         out,
         at,
         b"<h2>The rule and its fields</h2>\n<p class=\"line\"><b>rule </b>",
     );
-    p = put_shown(out, p, rule);
-    p = put_number(out, p, b"</p>\n<p>flags ", flags as u64, b"");
+    p = put_shown(rt, out, p, rule);
+    p = put_number(rt, out, p, b"</p>\n<p>flags ", flags as u64, b"");
     put_number(
+        rt,
         out,
         p,
         b", up to ",
@@ -149,8 +175,9 @@ pub fn put_rule(out: &mut [u8; ROOM], at: usize, rule: &[u8], flags: u32, budget
 }
 
 // The boxes by which kinds of lines are hidden, and what each is called. Their style alone does it.
-fn put_boxes(out: &mut [u8; ROOM], at: usize, by_fields: bool) -> usize {
+fn put_boxes(rt: &HostRuntime, out: &mut [u8; ROOM], at: usize, by_fields: bool) -> usize {
     let p = put(
+        rt,
         out,
         at,
         b"<input type=\"checkbox\" id=\"a\" checked><label for=\"a\">ambiguous</label>\n\
@@ -158,50 +185,66 @@ fn put_boxes(out: &mut [u8; ROOM], at: usize, by_fields: bool) -> usize {
 <input type=\"checkbox\" id=\"e\" checked><label for=\"e\">",
     );
     if by_fields {
-        return put(out, p, b"undecided, exhausted or too long</label>\n");
+        return put(rt, out, p, b"undecided, exhausted or too long</label>\n");
     }
-    put(out, p, b"exhausted or too long</label>\n")
+    put(rt, out, p, b"exhausted or too long</label>\n")
 }
 
 // What the marks mean, and which kinds are shown, or that no line needs a person. The lines follow.
 pub fn put_note(
+    rt: &HostRuntime,
     out: &mut [u8; ROOM],
     at: usize,
     by_fields: bool,
     lines: u64,
     matched: u64,
 ) -> usize {
-    let mut p = put(out, at, b"<h2>Lines</h2>\n");
+    let mut p = put(rt, out, at, b"<h2>Lines</h2>\n");
     if lines == matched {
-        return put(out, p, b"<p>No line needs a person.</p>\n<main>\n");
+        return put(rt, out, p, b"<p>No line needs a person.</p>\n<main>\n");
     }
     p = put(
+        rt,
         out,
         p,
         b"<p>Lines that are matched, and not ambiguous, are not shown. <span class=\"fit\">Green</span> is what fits of a line that is not matched, \
 <mark class=\"stop\">red</mark> the place where that ends, and <mark>yellow</mark> what the rule expected there. &#8249;0A&#8250; stands for the byte \
 of that number, which cannot be printed.</p>\n",
     );
-    p = put_boxes(out, p, by_fields);
-    put(out, p, b"<main>\n")
+    p = put_boxes(rt, out, p, by_fields);
+    put(rt, out, p, b"<main>\n")
 }
 
 // The head of a line's part: its kind, by a letter, its number, and what is said of it.
-pub fn put_card(out: &mut [u8; ROOM], at: usize, kind: &[u8], number: u64, said: &[u8]) -> usize {
-    let mut p = put(out, at, b"<article class=\"");
-    p = put(out, p, kind);
-    p = put_number(out, p, b"\">\n<h3>Line ", number, b": ");
-    p = put(out, p, said);
-    put(out, p, b"</h3>\n")
+pub fn put_card(
+    rt: &HostRuntime,
+    out: &mut [u8; ROOM],
+    at: usize,
+    kind: &[u8],
+    number: u64,
+    said: &[u8],
+) -> usize {
+    let mut p = put(rt, out, at, b"<article class=\"");
+    p = put(rt, out, p, kind);
+    p = put_number(rt, out, p, b"\">\n<h3>Line ", number, b": ");
+    p = put(rt, out, p, said);
+    put(rt, out, p, b"</h3>\n")
 }
 
-pub fn put_card_end(out: &mut [u8; ROOM], at: usize) -> usize {
-    put(out, at, b"</article>\n")
+pub fn put_card_end(rt: &HostRuntime, out: &mut [u8; ROOM], at: usize) -> usize {
+    put(rt, out, at, b"</article>\n")
 }
 
 // At which start the steps were used up, after so many readings.
-pub fn put_spent(out: &mut [u8; ROOM], at: usize, start: u32, readings: usize) -> usize {
+pub fn put_spent(
+    rt: &HostRuntime,
+    out: &mut [u8; ROOM],
+    at: usize,
+    start: u32,
+    readings: usize,
+) -> usize {
     let p = put_number(
+        rt,
         out,
         at,
         b"<p>The steps were used up at column ",
@@ -209,6 +252,7 @@ pub fn put_spent(out: &mut [u8; ROOM], at: usize, start: u32, readings: usize) -
         b"",
     );
     put_number(
+        rt,
         out,
         p,
         b"; readings until then: ",
@@ -218,8 +262,9 @@ pub fn put_spent(out: &mut [u8; ROOM], at: usize, start: u32, readings: usize) -
 }
 
 // That there are more readings than so many.
-pub fn put_more(out: &mut [u8; ROOM], at: usize, readings: usize) -> usize {
+pub fn put_more(rt: &HostRuntime, out: &mut [u8; ROOM], at: usize, readings: usize) -> usize {
     put_number(
+        rt,
         out,
         at,
         b"<p>There are more than ",
@@ -229,12 +274,19 @@ pub fn put_more(out: &mut [u8; ROOM], at: usize, readings: usize) -> usize {
 }
 
 // The end of the page. Where not as many lines were shown as were counted, it says so.
-pub fn put_tail(out: &mut [u8; ROOM], at: usize, counted: u64, seen: u64) -> usize {
-    let p = put(out, at, b"</main>\n");
+pub fn put_tail(
+    rt: &HostRuntime,
+    out: &mut [u8; ROOM],
+    at: usize,
+    counted: u64,
+    seen: u64,
+) -> usize {
+    let p = put(rt, out, at, b"</main>\n");
     if counted == seen {
-        return put(out, p, b"</body>\n</html>\n");
+        return put(rt, out, p, b"</body>\n</html>\n");
     }
     put_number(
+        rt,
         out,
         p,
         b"<p><b>The lines changed while the page was written, or could not be read again; lines seen the second time: ",

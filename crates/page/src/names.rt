@@ -9,6 +9,7 @@ use syntax::NAME_INDEX_NEED;
 
 // What the group is called that so many others come before.
 pub(crate) fn put_name(
+    rt: &HostRuntime,
     out: &mut [u8; ROOM],
     at: usize,
     names: &[u8; NAME_INDEX_NEED],
@@ -18,13 +19,14 @@ pub(crate) fn put_name(
 {
     let name = column(names, passed);
     if name.len() == 0 {
-        return put_number(out, at, b"group ", passed as u64 + 1, b"");
+        return put_number(rt, out, at, b"group ", passed as u64 + 1, b"");
     }
-    put_shown(out, at, name)
+    put_shown(rt, out, at, name)
 }
 
 // The names of the columns in which the readings of a line have to agree: there is one at least.
 fn put_listed(
+    rt: &HostRuntime,
     out: &mut [u8; ROOM],
     at: usize,
     columns: &[u8; NAME_INDEX_NEED],
@@ -33,20 +35,22 @@ fn put_listed(
     requires { count ≤ group_limit }
 {
     let mut p = put(
+        rt,
         out,
         at,
         b"<p>A line is ambiguous if another reading of what the rule took has another value in one of:",
     );
     let mut i: usize = 0;
     while i < count {
-        p = put_within(out, p, b" <b>", column(columns, i), b"</b>");
+        p = put_within(rt, out, p, b" <b>", column(columns, i), b"</b>");
         i += 1;
     }
-    put(out, p, b"</p>\n")
+    put(rt, out, p, b"</p>\n")
 }
 
 // In which columns the readings of a line have to agree. Where there are none, no line is ambiguous.
 pub fn put_columns(
+    rt: &HostRuntime,
     out: &mut [u8; ROOM],
     at: usize,
     columns: &[u8; NAME_INDEX_NEED],
@@ -56,10 +60,11 @@ pub fn put_columns(
 {
     if count == 0 {
         return put(
+            rt,
             out,
             at,
             b"<p>The table has no columns, so that no line is ambiguous.</p>\n",
         );
     }
-    put_listed(out, at, columns, count)
+    put_listed(rt, out, at, columns, count)
 }

@@ -11,6 +11,7 @@ const MOST: usize = 20;
 
 // A reading: the line in its colours, and its fields.
 fn put_reading(
+    rt: &HostRuntime,
     out: &mut [u8; ROOM],
     at: usize,
     number: usize,
@@ -20,13 +21,14 @@ fn put_reading(
 ) -> usize
     requires { length line.now ≤ 65536 }
 {
-    let p = put_number(out, at, b"<h4>Reading ", number as u64, b"</h4>\n");
-    let q = put_line(out, p, row, line);
-    put_fields(out, q, names, line, row)
+    let p = put_number(rt, out, at, b"<h4>Reading ", number as u64, b"</h4>\n");
+    let q = put_line(rt, out, p, row, line);
+    put_fields(rt, out, q, names, line, row)
 }
 
 // The readings of rows, up to as many as are shown.
 pub fn put_readings(
+    rt: &HostRuntime,
     out: &mut [u8; ROOM],
     at: usize,
     names: &[u8; NAME_INDEX_NEED],
@@ -42,6 +44,7 @@ pub fn put_readings(
         if number == MOST {
             let left = (rows.len() - from) / ROW_LENGTH;
             return put_number(
+                rt,
                 out,
                 p,
                 b"<p>Readings that are not shown here: ",
@@ -51,17 +54,17 @@ pub fn put_readings(
         }
         let to = from + ROW_LENGTH;
         number += 1;
-        p = put_reading(out, p, number, names, line, &rows[from..to]);
+        p = put_reading(rt, out, p, number, names, line, &rows[from..to]);
         from = to;
     }
     p
 }
 
 // A line with no reading.
-pub fn put_plain(out: &mut [u8; ROOM], at: usize, line: &[u8]) -> usize
+pub fn put_plain(rt: &HostRuntime, out: &mut [u8; ROOM], at: usize, line: &[u8]) -> usize
     requires { length line.now ≤ 65536 }
 {
     // a span behind every line
     let nothing = [4294967295u32; 2];
-    put_line(out, at, &nothing, line)
+    put_line(rt, out, at, &nothing, line)
 }

@@ -20,21 +20,21 @@ fn piece_end(from: usize, size: usize) -> usize
     from + PIECE
 }
 
-fn put_piece(out: &mut [u8; ROOM], at: usize, piece: &[u8]) -> usize
+fn put_piece(rt: &HostRuntime, out: &mut [u8; ROOM], at: usize, piece: &[u8]) -> usize
     requires { length piece.now ≤ 64 }
 {
     let mut shown = [0u8; PIECE_ROOM];
     let n = write_shown(piece, &mut shown, 0);
-    put(out, at, &shown[..n])
+    put(rt, out, at, &shown[..n])
 }
 
 // Puts a text as it is shown.
-pub fn put_shown(out: &mut [u8; ROOM], at: usize, text: &[u8]) -> usize {
+pub fn put_shown(rt: &HostRuntime, out: &mut [u8; ROOM], at: usize, text: &[u8]) -> usize {
     let mut p = at;
     let mut from: usize = 0;
     while from < text.len() {
         let to = piece_end(from, text.len());
-        p = put_piece(out, p, &text[from..to]);
+        p = put_piece(rt, out, p, &text[from..to]);
         from = to;
     }
     p
@@ -42,6 +42,7 @@ pub fn put_shown(out: &mut [u8; ROOM], at: usize, text: &[u8]) -> usize {
 
 // A text between two pieces of markup, if it has any bytes.
 pub(crate) fn put_within(
+    rt: &HostRuntime,
     out: &mut [u8; ROOM],
     at: usize,
     before: &[u8],
@@ -51,17 +52,18 @@ pub(crate) fn put_within(
     if text.len() == 0 {
         return at;
     }
-    let p = put(out, at, before);
-    let q = put_shown(out, p, text);
-    put(out, q, behind)
+    let p = put(rt, out, at, before);
+    let q = put_shown(rt, out, p, text);
+    put(rt, out, q, behind)
 }
 
 // Says how many bytes are left out, if there are any.
-pub(crate) fn put_left_out(out: &mut [u8; ROOM], at: usize, n: usize) -> usize {
+pub(crate) fn put_left_out(rt: &HostRuntime, out: &mut [u8; ROOM], at: usize, n: usize) -> usize {
     if n == 0 {
         return at;
     }
     put_number(
+        rt,
         out,
         at,
         b"<i> &#8230; ",
@@ -71,8 +73,8 @@ pub(crate) fn put_left_out(out: &mut [u8; ROOM], at: usize, n: usize) -> usize {
 }
 
 // A text in a paragraph of its own.
-pub fn put_paragraph(out: &mut [u8; ROOM], at: usize, text: &[u8]) -> usize {
-    let p = put(out, at, b"<p>");
-    let q = put_shown(out, p, text);
-    put(out, q, b"</p>\n")
+pub fn put_paragraph(rt: &HostRuntime, out: &mut [u8; ROOM], at: usize, text: &[u8]) -> usize {
+    let p = put(rt, out, at, b"<p>");
+    let q = put_shown(rt, out, p, text);
+    put(rt, out, q, b"</p>\n")
 }

@@ -14,6 +14,8 @@ use listing::list_held;
 use office::{CLOSED, PIECE, ROOM, Rest, flush, next_line, say_progress};
 use page::{put_card, put_card_end};
 use report_line::RULE;
+use std::fs::File;
+use std::io::{Error, ErrorKind};
 
 // What is lent to the calls: 16 numbers for each step of the largest budget, and 1,000 rows.
 pub const RULE_AREA: usize = frame::RULE_AREA_NEED;
@@ -41,14 +43,14 @@ pub struct Setting {
 }
 
 // Says how far the run is, after so many lines.
-fn say_lines(by_fields: bool, n: u64, done: &[u8]) {
+fn say_lines(rt: &HostRuntime, by_fields: bool, n: u64, done: &[u8]) {
     if n % PROGRESS != 0 {
         return;
     }
     if by_fields {
-        say_progress(b"fields: ", n, done);
+        say_progress(rt, b"fields: ", n, done);
     } else {
-        say_progress(b"readings: ", n, done);
+        say_progress(rt, b"readings: ", n, done);
     }
 }
 
@@ -97,6 +99,7 @@ fn judge<'a>(
 
 // Counts a line.
 fn count_line<'a>(
+    rt: &HostRuntime,
     area: &[u32; RULE_AREA],
     setting: Setting,
     columns: &[u8; NAME_INDEX_NEED],
@@ -110,7 +113,7 @@ fn count_line<'a>(
     requires holds { Holds area.now setting.entry setting.budget × (setting.count ≤ group_limit) }
     requires line_len_bound { length line.now ≤ 65536 }
 {
-    say_lines(setting.by_fields, counts[LINES], b" lines counted\n");
+    say_lines(rt, setting.by_fields, counts[LINES], b" lines counted\n");
     if line.len() == LINE {
         count(counts, TOO_LONG);
         return;
@@ -121,6 +124,7 @@ fn count_line<'a>(
 
 // Shows a line that has no readings, and why it does not fit.
 fn show_unmatched(
+    rt: &HostRuntime,
     rule: &[u8],
     area: &[u32; RULE_AREA],
     setting: Setting,
@@ -144,6 +148,7 @@ fn show_unmatched(
     );
     match told {
         Explanation::NotMatched(_, _, closest) => show_reason(
+            rt,
             out,
             at,
             rule,
@@ -162,6 +167,7 @@ fn show_unmatched(
 
 // Shows a line with all its readings, under its number, its kind by a letter, and what is said of it.
 fn show_read(
+    rt: &HostRuntime,
     area: &[u32; RULE_AREA],
     names: &[u8; NAME_INDEX_NEED],
     setting: Setting,
@@ -177,7 +183,7 @@ fn show_read(
     requires holds { Holds area.now setting.entry setting.budget }
     requires line_len_bound { length line.now ≤ 65535 }
 {
-    let p = put_card(out, at, kind, number, said);
+    let p = put_card(rt, out, at, kind, number, said);
     let listing = list_held(
         area,
         setting.entry,
@@ -187,11 +193,12 @@ fn show_read(
         work,
         results,
     );
-    show_listing(out, p, names, line, results, listing)
+    show_listing(rt, out, p, names, line, results, listing)
 }
 
 // Shows a line by its word, if it needs a person.
 fn show_word(
+    rt: &HostRuntime,
     word: Word,
     rule: &[u8],
     area: &[u32; RULE_AREA],
@@ -210,6 +217,7 @@ fn show_word(
     match word {
         Word::Matched => at,
         Word::Ambiguous => show_read(
+            rt,
             area,
             names,
             setting,
@@ -223,6 +231,7 @@ fn show_word(
             at,
         ),
         Word::Undecided => show_read(
+            rt,
             area,
             names,
             setting,
@@ -236,11 +245,12 @@ fn show_word(
             at,
         ),
         Word::NotMatched => {
-            let p = put_card(out, at, b"n", n, b"not matched");
-            let q = show_unmatched(rule, area, setting, line, work, out, p);
-            put_card_end(out, q)
+            let p = put_card(rt, out, at, b"n", n, b"not matched");
+            let q = show_unmatched(rt, rule, area, setting, line, work, out, p);
+            put_card_end(rt, out, q)
         }
         Word::Exhausted => show_read(
+            rt,
             area,
             names,
             setting,
@@ -260,6 +270,7 @@ fn show_word(
 
 // Shows a line, if it needs a person.
 fn show_line<'a>(
+    rt: &HostRuntime,
     rule: &[u8],
     area: &[u32; RULE_AREA],
     setting: Setting,
@@ -276,19 +287,20 @@ fn show_line<'a>(
     requires holds { Holds area.now setting.entry setting.budget × (setting.count ≤ group_limit) }
     requires rule_len_bound { (length rule.now ≤ 1001) × (length line.now ≤ 65536) }
 {
-    say_lines(setting.by_fields, n, b" lines shown\n");
+    say_lines(rt, setting.by_fields, n, b" lines shown\n");
     if line.len() == LINE {
-        let p = put_card(out, at, b"e", n, b"too long, over 65535 bytes");
-        return put_card_end(out, p);
+        let p = put_card(rt, out, at, b"e", n, b"too long, over 65535 bytes");
+        return put_card_end(rt, out, p);
     }
     let word = judge(area, setting, columns, names, line, standing, work, results);
     show_word(
-        word, rule, area, names, setting, line, work, results, n, out, at,
+        rt, word, rule, area, names, setting, line, work, results, n, out, at,
     )
 }
 
 // Counts a line, or shows it.
 fn take_line<'a>(
+    rt: &HostRuntime,
     showing: bool,
     rule: &[u8],
     area: &[u32; RULE_AREA],
@@ -310,39 +322,37 @@ fn take_line<'a>(
     if showing {
         let n = counts[LINES];
         return show_line(
-            rule, area, setting, columns, names, line, standing, work, results, n, out, at,
+            rt, rule, area, setting, columns, names, line, standing, work, results, n, out, at,
         );
     }
     count_line(
-        area, setting, columns, names, line, standing, work, results, counts,
+        rt, area, setting, columns, names, line, standing, work, results, counts,
     );
     at
 }
 
-// How a reading of the lines ended: how many bytes wait to be written out, and whether the file could be read to its end.
+// How a reading of the lines ended: how many bytes wait to be written out, and why the file could not be read to its end, if so.
 #[derive(Drop)]
 pub struct Told {
     pub at: usize,
-    pub whole: bool,
+    pub failed: Option<Error>,
 }
 
 // The file could not be read: what was shown comes before the message that says so.
-fn break_off(out: &[u8; ROOM], at: usize) -> Told {
-    if flush(out, at) {
-        return Told {
-            at: 0,
-            whole: false,
-        };
+fn break_off(rt: &HostRuntime, failed: Option<Error>, out: &[u8; ROOM], at: usize) -> Told {
+    if flush(rt, out, at) {
+        return Told { at: 0, failed };
     }
     Told {
         at: CLOSED,
-        whole: true,
+        failed: None,
     }
 }
 
 // Counts all lines of a file, or shows those that need a person, up to its end or to where nothing can be written any more.
 pub(crate) fn take_lines(
-    fd: i32,
+    rt: &HostRuntime,
+    file: &mut File,
     showing: bool,
     rule: &[u8],
     area: &[u32; RULE_AREA],
@@ -363,23 +373,24 @@ pub(crate) fn take_lines(
     let mut rest = Rest {
         at: 0,
         end: 0,
-        failed: false,
+        failed: None,
     };
     let mut at: usize = 0;
     // nothing says that a file ends: the lines are counted
     let mut left: u64 = 18446744073709551615;
     while 0 < left {
-        let next = next_line(fd, piece, rest, &mut line, true);
+        let next = next_line(file, piece, rest, &mut line, true);
         let n = next.have;
-        if next.failed {
-            return break_off(out, at);
+        if next.failed.is_some() {
+            return break_off(rt, next.failed, out, at);
         }
         if next.last {
             if n == 0 {
-                return Told { at, whole: true };
+                return Told { at, failed: None };
             }
         }
         at = take_line(
+            rt,
             showing,
             rule,
             area,
@@ -395,17 +406,20 @@ pub(crate) fn take_lines(
             at,
         );
         if next.last {
-            return Told { at, whole: true };
+            return Told { at, failed: None };
         }
         if at == CLOSED {
-            return Told { at, whole: true };
+            return Told { at, failed: None };
         }
         rest = Rest {
             at: next.at,
             end: next.end,
-            failed: false,
+            failed: None,
         };
         left -= 1;
     }
-    Told { at, whole: false }
+    Told {
+        at,
+        failed: Some(Error::from(ErrorKind::TimedOut)),
+    }
 }

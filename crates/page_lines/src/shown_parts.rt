@@ -14,6 +14,7 @@ use report_line::{RULE, put_sentence};
 
 // Shows the readings of so many rows, and ends the line's part. A line with none is shown as it is.
 fn show_rows(
+    rt: &HostRuntime,
     out: &mut [u8; ROOM],
     at: usize,
     names: &[u8; NAME_INDEX_NEED],
@@ -24,20 +25,21 @@ fn show_rows(
     requires { length line.now ≤ 65536 }
 {
     if rows == 0 {
-        let p = put_plain(out, at, line);
-        return put_card_end(out, p);
+        let p = put_plain(rt, out, at, line);
+        return put_card_end(rt, out, p);
     }
     // a listing has written as many rows as it says, so that this does not happen
     if results.len() / ROW_LENGTH < rows {
-        return put_card_end(out, at);
+        return put_card_end(rt, out, at);
     }
     let n = rows * ROW_LENGTH;
-    let p = put_readings(out, at, names, line, &results[..n]);
-    put_card_end(out, p)
+    let p = put_readings(rt, out, at, names, line, &results[..n]);
+    put_card_end(rt, out, p)
 }
 
 // Shows what a listing tells of a line, and ends the line's part.
 pub(crate) fn show_listing(
+    rt: &HostRuntime,
     out: &mut [u8; ROOM],
     at: usize,
     names: &[u8; NAME_INDEX_NEED],
@@ -48,17 +50,17 @@ pub(crate) fn show_listing(
     requires { length line.now ≤ 65536 }
 {
     match listing {
-        Listing::Complete(rows, _) => show_rows(out, at, names, line, results, rows),
+        Listing::Complete(rows, _) => show_rows(rt, out, at, names, line, results, rows),
         Listing::Full(rows, _) => {
-            let p = put_more(out, at, rows);
-            show_rows(out, p, names, line, results, rows)
+            let p = put_more(rt, out, at, rows);
+            show_rows(rt, out, p, names, line, results, rows)
         }
         Listing::Exhausted(start, rows, _) => {
-            let p = put_spent(out, at, start, rows);
-            show_rows(out, p, names, line, results, rows)
+            let p = put_spent(rt, out, at, start, rows);
+            show_rows(rt, out, p, names, line, results, rows)
         }
         // the rule was accepted before, and the line is short enough
-        Listing::Refused(_) => put_card_end(out, at),
+        Listing::Refused(_) => put_card_end(rt, out, at),
     }
 }
 
@@ -71,7 +73,7 @@ fn sign_items(rule: &[u8], flags: u32, marks: &[u8], signs: &mut [u8])
 }
 
 // Shows the first of so many bytes but the last, which is a sentence's line end.
-fn show_said(out: &mut [u8; ROOM], at: usize, text: &[u8], n: usize) -> usize {
+fn show_said(rt: &HostRuntime, out: &mut [u8; ROOM], at: usize, text: &[u8], n: usize) -> usize {
     // a sentence is far shorter than the buffer, and ends its line
     if text.len() < n {
         return at;
@@ -80,16 +82,23 @@ fn show_said(out: &mut [u8; ROOM], at: usize, text: &[u8], n: usize) -> usize {
         return at;
     }
     let end = n - 1;
-    put_paragraph(out, at, &text[..end])
+    put_paragraph(rt, out, at, &text[..end])
 }
 
 // Shows a sentence that stands at the beginning of a buffer.
-fn show_written(out: &mut [u8; ROOM], at: usize, text: &[u8; ROOM], n: usize) -> usize {
-    show_said(out, at, text, n)
+fn show_written(
+    rt: &HostRuntime,
+    out: &mut [u8; ROOM],
+    at: usize,
+    text: &[u8; ROOM],
+    n: usize,
+) -> usize {
+    show_said(rt, out, at, text, n)
 }
 
 // The sentence that says why a line does not fit. It is written as the report has it, and then shown.
 fn show_sentence(
+    rt: &HostRuntime,
     out: &mut [u8; ROOM],
     at: usize,
     rule: &[u8],
@@ -103,12 +112,13 @@ fn show_sentence(
     requires start_le_stop { (start ≤ stop) × (stop ≤ length line.now) }
 {
     let mut text = io::large_buffer();
-    let n = put_sentence(&mut text, 0, rule, flags, marks, line, start, stop);
-    show_written(out, at, &text, n)
+    let n = put_sentence(rt, &mut text, 0, rule, flags, marks, line, start, stop);
+    show_written(rt, out, at, &text, n)
 }
 
 // Why a line does not fit: an attempt, and the items that are marked at the beginning of the marks.
 pub(crate) fn show_reason(
+    rt: &HostRuntime,
     out: &mut [u8; ROOM],
     at: usize,
     rule: &[u8],
@@ -125,9 +135,10 @@ pub(crate) fn show_reason(
     let marked = &marks[..n];
     let mut signs = [0u8; RULE];
     sign_items(rule, flags, marked, &mut signs);
-    let mut p = put_attempt(out, at, line, start as usize, stop as usize);
-    p = put_marked(out, p, rule, &signs[..n]);
+    let mut p = put_attempt(rt, out, at, line, start as usize, stop as usize);
+    p = put_marked(rt, out, p, rule, &signs[..n]);
     show_sentence(
+        rt,
         out,
         p,
         rule,

@@ -6,21 +6,23 @@ ghost use Rattle.page_lines.specs.Rules.{Holds};
 use crate::counts::{AMBIGUOUS, EXHAUSTED, KINDS, LINES, MATCHED, TOO_LONG, UNDECIDED, UNMATCHED};
 use crate::lines::{RESULT_AREA, RULE_AREA, Setting, WORK_AREA, take_lines};
 use frame::NAME_INDEX_NEED;
-use libc::SEEK_SET;
-use office::{CLOSED, PIECE, ROOM, flush, say};
+use office::{CLOSED, PIECE, ROOM, fail, flush, say};
 use page::{put_columns, put_counts, put_head, put_legend, put_note, put_rule, put_tail};
+use std::fs::File;
+use std::io::{Seek, SeekFrom};
 
 // Says which program it is that has something to say.
-fn say_program(by_fields: bool) {
+fn say_program(rt: &HostRuntime, by_fields: bool) {
     if by_fields {
-        say(b"fields");
+        say(rt, b"fields");
     } else {
-        say(b"readings");
+        say(rt, b"readings");
     }
 }
 
 // By which columns lines are judged, if they are.
 fn put_judged(
+    rt: &HostRuntime,
     out: &mut [u8; ROOM],
     at: usize,
     setting: Setting,
@@ -29,13 +31,14 @@ fn put_judged(
     requires { setting.count ≤ group_limit }
 {
     if setting.by_fields {
-        return put_columns(out, at, columns, setting.count);
+        return put_columns(rt, out, at, columns, setting.count);
     }
     at
 }
 
 // The page up to its lines.
 fn put_opening(
+    rt: &HostRuntime,
     rule: &[u8],
     setting: Setting,
     columns: &[u8; NAME_INDEX_NEED],
@@ -45,8 +48,9 @@ fn put_opening(
 ) -> usize
     requires { setting.count ≤ group_limit }
 {
-    let mut p = put_head(out, 0);
+    let mut p = put_head(rt, out, 0);
     p = put_counts(
+        rt,
         out,
         p,
         setting.by_fields,
@@ -58,20 +62,28 @@ fn put_opening(
         counts[EXHAUSTED],
         counts[TOO_LONG],
     );
-    p = put_rule(out, p, rule, setting.flags, setting.budget);
-    p = put_legend(out, p, names, setting.groups);
-    p = put_judged(out, p, setting, columns);
-    put_note(out, p, setting.by_fields, counts[LINES], counts[MATCHED])
+    p = put_rule(rt, out, p, rule, setting.flags, setting.budget);
+    p = put_legend(rt, out, p, names, setting.groups);
+    p = put_judged(rt, out, p, setting, columns);
+    put_note(
+        rt,
+        out,
+        p,
+        setting.by_fields,
+        counts[LINES],
+        counts[MATCHED],
+    )
 }
 
 // Writes out what waits in the buffer.
-fn flush_all(out: &[u8; ROOM], at: usize) -> bool {
-    flush(out, at)
+fn flush_all(rt: &HostRuntime, out: &[u8; ROOM], at: usize) -> bool {
+    flush(rt, out, at)
 }
 
 // Counts the lines of a file. It says whether they could be read to their end, and can be read again.
 fn count_lines(
-    fd: i32,
+    rt: &HostRuntime,
+    file: &mut File,
     rule: &[u8],
     area: &[u32; RULE_AREA],
     setting: Setting,
@@ -88,25 +100,27 @@ fn count_lines(
     requires rule_len_bound { length rule.now ≤ 1001 }
 {
     // before the lines are counted, which may take long
-    if libc::lseek(fd, 0, SEEK_SET) != 0 {
-        say_program(setting.by_fields);
-        os::fail(b": a page needs lines that can be read twice");
+    if let Err(e) = file.seek(SeekFrom::Start(0)) {
+        say_program(rt, setting.by_fields);
+        fail(rt, b": a page needs lines that can be read twice", e);
         return false;
     }
     let told = take_lines(
-        fd, false, rule, area, setting, columns, names, standing, piece, work, results, counts, out,
+        rt, file, false, rule, area, setting, columns, names, standing, piece, work, results,
+        counts, out,
     );
-    if !told.whole {
-        say_program(setting.by_fields);
-        os::fail(b": the lines could not be read to their end");
+    if let Some(e) = told.failed {
+        say_program(rt, setting.by_fields);
+        fail(rt, b": the lines could not be read to their end", e);
         return false;
     }
-    libc::lseek(fd, 0, SEEK_SET) == 0
+    file.seek(SeekFrom::Start(0)).is_ok()
 }
 
 // Shows the lines that need a person, and ends the page. It says whether the page could be written.
 fn show_lines(
-    fd: i32,
+    rt: &HostRuntime,
+    file: &mut File,
     rule: &[u8],
     area: &[u32; RULE_AREA],
     setting: Setting,
@@ -124,27 +138,28 @@ fn show_lines(
 {
     let mut again = [0u64; KINDS];
     let told = take_lines(
-        fd, true, rule, area, setting, columns, names, standing, piece, work, results, &mut again,
-        out,
+        rt, file, true, rule, area, setting, columns, names, standing, piece, work, results,
+        &mut again, out,
     );
     if told.at == CLOSED {
         return false;
     }
-    if !told.whole {
-        say_program(setting.by_fields);
-        os::fail(b": the lines could not be read to their end");
+    if let Some(e) = told.failed {
+        say_program(rt, setting.by_fields);
+        fail(rt, b": the lines could not be read to their end", e);
     }
     if again[LINES] != counted {
-        say_program(setting.by_fields);
-        say(b": the lines changed while the page was written\n");
+        say_program(rt, setting.by_fields);
+        say(rt, b": the lines changed while the page was written\n");
     }
-    let end = put_tail(out, told.at, counted, again[LINES]);
-    flush(out, end)
+    let end = put_tail(rt, out, told.at, counted, again[LINES]);
+    flush(rt, out, end)
 }
 
 // Writes a page of the lines of a file, with a rule that stands compiled. It says whether all of it could be written.
 pub fn write_page(
-    fd: i32,
+    rt: &HostRuntime,
+    file: &mut File,
     rule: &[u8],
     area: &[u32; RULE_AREA],
     setting: Setting,
@@ -161,7 +176,8 @@ pub fn write_page(
     let mut counts = [0u64; KINDS];
     let mut out = io::large_buffer();
     let counted = count_lines(
-        fd,
+        rt,
+        file,
         rule,
         area,
         setting,
@@ -178,12 +194,13 @@ pub fn write_page(
     if !counted {
         return true;
     }
-    let opened = put_opening(rule, setting, columns, names, &counts, &mut out);
-    if !flush_all(&out, opened) {
+    let opened = put_opening(rt, rule, setting, columns, names, &counts, &mut out);
+    if !flush_all(rt, &out, opened) {
         return false;
     }
     show_lines(
-        fd,
+        rt,
+        file,
         rule,
         area,
         setting,

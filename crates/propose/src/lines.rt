@@ -7,6 +7,8 @@ use frame::{BUDGET_LIMIT, SUBJECT_LIMIT};
 use index::ROW_LENGTH;
 use office::{CLOSED, PIECE, ROOM, Rest, flush, next_line, put, put_number};
 use proposing::{Proposed, propose_held};
+use std::fs::File;
+use std::io::{Error, ErrorKind};
 
 // What is lent to the calls: 16 numbers for each step of the largest budget, and of a proposal two bytes of start and one for each of those steps.
 pub const RULE_AREA: usize = frame::RULE_AREA_NEED;
@@ -36,37 +38,44 @@ fn digit(n: u8) -> u8
 }
 
 // Bytes in hexadecimal digits.
-fn put_bytes(out: &mut [u8; ROOM], at: usize, bytes: &[u8]) -> usize {
+fn put_bytes(rt: &HostRuntime, out: &mut [u8; ROOM], at: usize, bytes: &[u8]) -> usize {
     let mut p = at;
     let mut i: usize = 0;
     while i < bytes.len() {
         let b = bytes[i];
         let pair = [digit(b / 16), digit(b % 16)];
-        p = put(out, p, &pair);
+        p = put(rt, out, p, &pair);
         i += 1;
     }
     p
 }
 
 // The proposal that was made for a line, or why there is none.
-fn put_proposed(out: &mut [u8; ROOM], at: usize, proposed: Proposed, proposal: &[u8]) -> usize {
+fn put_proposed(
+    rt: &HostRuntime,
+    out: &mut [u8; ROOM],
+    at: usize,
+    proposed: Proposed,
+    proposal: &[u8],
+) -> usize {
     match proposed {
         Proposed::Made(n, steps) => {
             // it has no more bytes than were lent
             if proposal.len() < n {
-                return put(out, at, b"- no room\n");
+                return put(rt, out, at, b"- no room\n");
             }
-            let p = put_bytes(out, at, &proposal[..n]);
-            put_number(out, p, b" ", steps, b"\n")
+            let p = put_bytes(rt, out, at, &proposal[..n]);
+            put_number(rt, out, p, b" ", steps, b"\n")
         }
-        Proposed::Exhausted => put(out, at, b"- exhausted\n"),
-        Proposed::NoRoom => put(out, at, b"- no room\n"),
-        Proposed::Unfound => put(out, at, b"- not made\n"),
+        Proposed::Exhausted => put(rt, out, at, b"- exhausted\n"),
+        Proposed::NoRoom => put(rt, out, at, b"- no room\n"),
+        Proposed::Unfound => put(rt, out, at, b"- not made\n"),
     }
 }
 
 // A line under its number, or one that is too long and of which the beginning is there.
 fn tell_line(
+    rt: &HostRuntime,
     number: u64,
     area: &[u32; RULE_AREA],
     setting: Setting,
@@ -79,9 +88,9 @@ fn tell_line(
 ) -> usize
     requires { Holds area.now setting.entry setting.budget × (length line.now ≤ 65536) }
 {
-    let p = put_number(out, at, b"", number, b" ");
+    let p = put_number(rt, out, at, b"", number, b" ");
     if line.len() == LINE {
-        return put(out, p, b"- too long\n");
+        return put(rt, out, p, b"- too long\n");
     }
     let mut row = [0u32; ROW_LENGTH];
     match match_held(area, setting.entry, line, setting.budget, work, &mut row) {
@@ -96,25 +105,26 @@ fn tell_line(
                 ways,
                 proposal,
             );
-            put_proposed(out, p, proposed, proposal)
+            put_proposed(rt, out, p, proposed, proposal)
         }
-        Outcome::NotMatched(_steps) => put(out, p, b"- not matched\n"),
-        Outcome::Exhausted(_start, _steps) => put(out, p, b"- exhausted\n"),
+        Outcome::NotMatched(_steps) => put(rt, out, p, b"- not matched\n"),
+        Outcome::Exhausted(_start, _steps) => put(rt, out, p, b"- exhausted\n"),
         // a rule that stands is not refused
-        Outcome::Refused(_f) => put(out, p, b"- not matched\n"),
+        Outcome::Refused(_f) => put(rt, out, p, b"- not matched\n"),
     }
 }
 
-// How the telling of lines ended: how many bytes wait to be written out, and whether the file could be read to its end.
+// How the telling of lines ended: how many bytes wait to be written out, and why the file could not be read to its end, if so.
 #[derive(Drop)]
 pub struct Told {
     pub at: usize,
-    pub whole: bool,
+    pub failed: Option<Error>,
 }
 
 // Tells of all lines of a file, up to its end or to where nothing can be written any more.
 pub(crate) fn tell_lines(
-    fd: i32,
+    rt: &HostRuntime,
+    file: &mut File,
     area: &[u32; RULE_AREA],
     setting: Setting,
     piece: &mut [u8; PIECE],
@@ -129,34 +139,35 @@ pub(crate) fn tell_lines(
     let mut rest = Rest {
         at: 0,
         end: 0,
-        failed: false,
+        failed: None,
     };
     let mut at: usize = 0;
     // nothing says that a file ends: the lines are counted
     let mut number: u64 = 0;
     while number < 18446744073709551615 {
-        let next = next_line(fd, piece, rest, &mut line, true);
+        let next = next_line(file, piece, rest, &mut line, true);
         let n = next.have;
-        if next.failed {
+        if next.failed.is_some() {
             // what was told comes before the message that says what failed
-            if flush(out, at) {
+            if flush(rt, out, at) {
                 return Told {
                     at: 0,
-                    whole: false,
+                    failed: next.failed,
                 };
             }
             return Told {
                 at: CLOSED,
-                whole: true,
+                failed: None,
             };
         }
         if next.last {
             if n == 0 {
-                return Told { at, whole: true };
+                return Told { at, failed: None };
             }
         }
         number += 1;
         at = tell_line(
+            rt,
             number,
             area,
             setting,
@@ -168,16 +179,19 @@ pub(crate) fn tell_lines(
             at,
         );
         if next.last {
-            return Told { at, whole: true };
+            return Told { at, failed: None };
         }
         if at == CLOSED {
-            return Told { at, whole: true };
+            return Told { at, failed: None };
         }
         rest = Rest {
             at: next.at,
             end: next.end,
-            failed: false,
+            failed: None,
         };
     }
-    Told { at, whole: false }
+    Told {
+        at,
+        failed: Some(Error::from(ErrorKind::TimedOut)),
+    }
 }

@@ -9,7 +9,10 @@ ghost use Rattle.propose.specs.Rules.{Holds};
 
 use frame::{BUDGET_LIMIT, NAME_INDEX_NEED, Preparation, RULE_LIMIT, prepare};
 use lines::{CHOICES, RULE_AREA, Setting, WORK_AREA};
-use office::{PIECE, ROOM, Rest, Value, flush, next_line, open, say, say_refusal};
+use office::{
+    PIECE, ROOM, Rest, Value, arg, arg_count, fail, flush, next_line, open, say, say_refusal,
+};
+use std::fs::File;
 
 // Where the arguments stand.
 const RULE_FILE: usize = 1;
@@ -24,31 +27,32 @@ const BUDGET: usize = 4;
 const RULE: usize = RULE_LIMIT + 1;
 
 // What an argument stands for: flags, or a budget; where it is missing, none, or the largest.
-fn value(argument: usize) -> Value {
+fn value(rt: &HostRuntime, argument: usize) -> Value {
     let mut text = io::buffer();
-    let n = os::arg(argument, &mut text);
+    let n = arg(rt, argument, &mut text);
     if argument == FLAGS {
-        if os::arg_count() <= FLAGS {
+        if arg_count(rt) <= FLAGS {
             return Value::Is(0);
         }
         return office::flags(&text[..n]);
     }
-    if os::arg_count() <= BUDGET {
+    if arg_count(rt) <= BUDGET {
         return Value::Is(BUDGET_LIMIT);
     }
     office::decimal(&text[..n], BUDGET_LIMIT)
 }
 
 // Writes out what waits in the buffer. No proposal is lost in silence.
-fn write_out(out: &[u8; ROOM], at: usize) {
-    if !flush(out, at) {
-        say(b"propose: the proposals could not be written\n");
+fn write_out(rt: &HostRuntime, out: &[u8; ROOM], at: usize) {
+    if !flush(rt, out, at) {
+        say(rt, b"propose: the proposals could not be written\n");
     }
 }
 
 // Proposes for the lines of a file, with a rule that stands compiled.
 fn propose_lines(
-    fd: i32,
+    rt: &HostRuntime,
+    file: &mut File,
     area: &[u32; RULE_AREA],
     setting: Setting,
     piece: &mut [u8; PIECE],
@@ -59,15 +63,18 @@ fn propose_lines(
     requires { Holds area.now setting.entry setting.budget }
 {
     let mut out = io::large_buffer();
-    let told = lines::tell_lines(fd, area, setting, piece, work, ways, proposal, &mut out);
-    if !told.whole {
-        os::fail(b"propose: the lines could not be read to their end");
+    let told = lines::tell_lines(
+        rt, file, area, setting, piece, work, ways, proposal, &mut out,
+    );
+    if let Some(e) = told.failed {
+        fail(rt, b"propose: the lines could not be read to their end", e);
     }
-    write_out(&out, told.at);
+    write_out(rt, &out, told.at);
 }
 
 // Proposes with a rule, if it is not refused. It is compiled once, and then held over all lines.
 fn run(
+    rt: &HostRuntime,
     rule: &[u8],
     flags: u32,
     budget: u32,
@@ -81,33 +88,31 @@ fn run(
 {
     let mut names = [0u8; NAME_INDEX_NEED];
     match prepare(rule, flags, true, 0, budget, area, work, false, &mut names) {
-        Preparation::Refused(f) => say_refusal(b"propose", f, rule),
+        Preparation::Refused(f) => say_refusal(rt, b"propose", f, rule),
         Preparation::Ready(entry, _groups) => {
-            let fd = open(b"propose", LINES_FILE);
-            if 0 <= fd {
+            if let Some(mut file) = open(rt, b"propose", LINES_FILE) {
                 let setting = Setting { entry, budget };
-                propose_lines(fd, area, setting, piece, work, ways, proposal);
+                propose_lines(rt, &mut file, area, setting, piece, work, ways, proposal);
             }
         }
     }
 }
 
 // With the flags and the budget, and the areas that are lent. The rule is the first line of its file, or all of it.
-fn start(flags: u32, budget: u32) {
-    let fd = open(b"propose", RULE_FILE);
-    if fd < 0 {
+fn start(rt: &HostRuntime, flags: u32, budget: u32) {
+    let Some(mut file) = open(rt, b"propose", RULE_FILE) else {
         return;
-    }
+    };
     let mut piece = io::large_buffer();
     let mut rule = [0u8; RULE];
     let nothing = Rest {
         at: 0,
         end: 0,
-        failed: false,
+        failed: None,
     };
-    let line = next_line(fd, &mut piece, nothing, &mut rule, false);
-    if line.failed {
-        os::fail(b"propose: the rule could not be read");
+    let line = next_line(&mut file, &mut piece, nothing, &mut rule, false);
+    if let Some(e) = line.failed {
+        fail(rt, b"propose: the rule could not be read", e);
         return;
     }
     let n = line.have;
@@ -116,6 +121,7 @@ fn start(flags: u32, budget: u32) {
     let mut ways = [0u8; CHOICES];
     let mut proposal = [0u8; CHOICES];
     run(
+        rt,
         &rule[..n],
         flags,
         budget,
@@ -127,23 +133,23 @@ fn start(flags: u32, budget: u32) {
     );
 }
 
-fn main() {
-    let count = os::arg_count();
+fn main(rt: HostRuntime) {
+    let count = arg_count(&rt);
     if count <= LINES_FILE {
-        messages::usage();
+        messages::usage(&rt);
         return;
     }
     if BUDGET + 1 < count {
-        messages::usage();
+        messages::usage(&rt);
         return;
     }
-    let f = value(FLAGS);
-    let b = value(BUDGET);
+    let f = value(&rt, FLAGS);
+    let b = value(&rt, BUDGET);
     match f {
-        Value::Wrong => messages::usage(),
+        Value::Wrong => messages::usage(&rt),
         Value::Is(flags) => match b {
-            Value::Wrong => messages::usage(),
-            Value::Is(budget) => start(flags, budget),
+            Value::Wrong => messages::usage(&rt),
+            Value::Is(budget) => start(&rt, flags, budget),
         },
     }
 }

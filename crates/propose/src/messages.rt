@@ -1,8 +1,9 @@
 // Messages to the one who started the program.
 use office::say;
 
-pub(crate) fn usage() {
+pub(crate) fn usage(rt: &HostRuntime) {
     say(
+        rt,
         b"usage: propose RULE-FILE LINES-FILE [FLAGS [BUDGET]]\n\
 \n\
 Makes a proposal of each line that the rule matches: the choices of the match, by which a box that\n\

@@ -35,19 +35,39 @@ pub(crate) fn count(counts: &mut [u64; KINDS], kind: usize)
 }
 
 // How many there are of a kind, if there are any.
-fn put_some(out: &mut [u8; ROOM], at: usize, before: &[u8], n: u64, behind: &[u8]) -> usize {
+fn put_some(
+    rt: &HostRuntime,
+    out: &mut [u8; ROOM],
+    at: usize,
+    before: &[u8],
+    n: u64,
+    behind: &[u8],
+) -> usize {
     if n == 0 {
         return at;
     }
-    put_number(out, at, before, n, behind)
+    put_number(rt, out, at, before, n, behind)
 }
 
 // The summary, with which the report ends. It says whether the report could be written.
-pub(crate) fn summarize(counts: &[u64; KINDS], out: &mut [u8; ROOM], at: usize) -> bool {
-    let mut p = put_number(out, at, b"\nlines: ", counts[LINES], b"\nmatched once: ");
-    p = put_number(out, p, b"", counts[ONCE], b"\nambiguous: ");
-    p = put_number(out, p, b"", counts[AMBIGUOUS], b"");
+pub(crate) fn summarize(
+    rt: &HostRuntime,
+    counts: &[u64; KINDS],
+    out: &mut [u8; ROOM],
+    at: usize,
+) -> bool {
+    let mut p = put_number(
+        rt,
+        out,
+        at,
+        b"\nlines: ",
+        counts[LINES],
+        b"\nmatched once: ",
+    );
+    p = put_number(rt, out, p, b"", counts[ONCE], b"\nambiguous: ");
+    p = put_number(rt, out, p, b"", counts[AMBIGUOUS], b"");
     p = put_some(
+        rt,
         out,
         p,
         b" (with more readings than are shown: ",
@@ -55,22 +75,31 @@ pub(crate) fn summarize(counts: &[u64; KINDS], out: &mut [u8; ROOM], at: usize) 
         b")",
     );
     p = put_number(
+        rt,
         out,
         p,
         b"\nnot matched: ",
         counts[UNMATCHED],
         b"\nexhausted: ",
     );
-    p = put_number(out, p, b"", counts[EXHAUSTED], b"");
-    p = put_some(out, p, b" (ambiguous already: ", counts[UNSETTLED], b")");
-    p = put_number(out, p, b"\ntoo long: ", counts[TOO_LONG], b"");
+    p = put_number(rt, out, p, b"", counts[EXHAUSTED], b"");
     p = put_some(
+        rt,
+        out,
+        p,
+        b" (ambiguous already: ",
+        counts[UNSETTLED],
+        b")",
+    );
+    p = put_number(rt, out, p, b"\ntoo long: ", counts[TOO_LONG], b"");
+    p = put_some(
+        rt,
         out,
         p,
         b"\nA dot may stand for a byte that cannot be shown; lines shown with such a dot: ",
         counts[DOTTED],
         b"",
     );
-    p = put(out, p, b"\n");
-    flush(out, p)
+    p = put(rt, out, p, b"\n");
+    flush(rt, out, p)
 }

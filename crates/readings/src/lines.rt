@@ -10,6 +10,8 @@ use listing::list_held;
 use office::{CLOSED, PIECE, ROOM, Rest, flush, next_line, put, put_number, say_progress};
 use page_lines::{LINE, RESULT_AREA, RULE_AREA, WORK_AREA};
 use report_line::{RULE, put_reason};
+use std::fs::File;
+use std::io::{Error, ErrorKind};
 
 // How many lines pass between two messages.
 const PROGRESS: u64 = 10000;
@@ -27,6 +29,7 @@ pub struct Setting {
 
 // Tells of a line that has no readings, and why it does not fit.
 fn tell_unmatched(
+    rt: &HostRuntime,
     rule: &[u8],
     area: &[u32; RULE_AREA],
     setting: Setting,
@@ -43,7 +46,7 @@ fn tell_unmatched(
     if report::is_odd(line) {
         count(counts, DOTTED);
     }
-    let p = put(out, at, b"not matched\n");
+    let p = put(rt, out, at, b"not matched\n");
     let mut marks = [0u8; RULE];
     let told = explain_held(
         area,
@@ -56,6 +59,7 @@ fn tell_unmatched(
     );
     match told {
         Explanation::NotMatched(_, _, closest) => put_reason(
+            rt,
             out,
             p,
             setting.margin,
@@ -75,6 +79,7 @@ fn tell_unmatched(
 
 // Tells of a line under its number, from 1, or of one that is too long and of which the beginning is there.
 fn tell_line(
+    rt: &HostRuntime,
     rule: &[u8],
     area: &[u32; RULE_AREA],
     names: &[u8; NAME_INDEX_NEED],
@@ -92,12 +97,12 @@ fn tell_line(
     count(counts, LINES);
     let n = counts[LINES];
     if n % PROGRESS == 0 {
-        say_progress(b"readings: ", n, b" lines\n");
+        say_progress(rt, b"readings: ", n, b" lines\n");
     }
-    let p = put_number(out, at, b"line ", n, b": ");
+    let p = put_number(rt, out, at, b"line ", n, b": ");
     if line.len() == LINE {
         count(counts, TOO_LONG);
-        return put(out, p, b"too long, over 65535 bytes\n");
+        return put(rt, out, p, b"too long, over 65535 bytes\n");
     }
     let r = list_held(
         area,
@@ -109,21 +114,22 @@ fn tell_line(
         results,
     );
     if is_unmatched(r) {
-        return tell_unmatched(rule, area, setting, line, work, counts, out, p);
+        return tell_unmatched(rt, rule, area, setting, line, work, counts, out, p);
     }
-    tell(out, p, setting.margin, names, line, results, r, counts)
+    tell(rt, out, p, setting.margin, names, line, results, r, counts)
 }
 
-// How the telling of lines ended: how many bytes wait to be written out, and whether the file could be read to its end.
+// How the telling of lines ended: how many bytes wait to be written out, and why the file could not be read to its end, if so.
 #[derive(Drop)]
 pub struct Told {
     pub at: usize,
-    pub whole: bool,
+    pub failed: Option<Error>,
 }
 
 // Tells of all lines of a file, up to its end or to where nothing can be written any more.
 pub(crate) fn tell_lines(
-    fd: i32,
+    rt: &HostRuntime,
+    file: &mut File,
     rule: &[u8],
     area: &[u32; RULE_AREA],
     names: &[u8; NAME_INDEX_NEED],
@@ -141,33 +147,34 @@ pub(crate) fn tell_lines(
     let mut rest = Rest {
         at: 0,
         end: 0,
-        failed: false,
+        failed: None,
     };
     let mut at: usize = 0;
     // nothing says that a file ends: the lines are counted
     let mut left: u64 = 18446744073709551615;
     while 0 < left {
-        let next = next_line(fd, piece, rest, &mut line, true);
+        let next = next_line(file, piece, rest, &mut line, true);
         let n = next.have;
-        if next.failed {
+        if next.failed.is_some() {
             // what was told comes before the message that says what failed
-            if flush(out, at) {
+            if flush(rt, out, at) {
                 return Told {
                     at: 0,
-                    whole: false,
+                    failed: next.failed,
                 };
             }
             return Told {
                 at: CLOSED,
-                whole: true,
+                failed: None,
             };
         }
         if next.last {
             if n == 0 {
-                return Told { at, whole: true };
+                return Told { at, failed: None };
             }
         }
         at = tell_line(
+            rt,
             rule,
             area,
             names,
@@ -180,17 +187,20 @@ pub(crate) fn tell_lines(
             at,
         );
         if next.last {
-            return Told { at, whole: true };
+            return Told { at, failed: None };
         }
         if at == CLOSED {
-            return Told { at, whole: true };
+            return Told { at, failed: None };
         }
         rest = Rest {
             at: next.at,
             end: next.end,
-            failed: false,
+            failed: None,
         };
         left -= 1;
     }
-    Told { at, whole: false }
+    Told {
+        at,
+        failed: Some(Error::from(ErrorKind::TimedOut)),
+    }
 }

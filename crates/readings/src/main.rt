@@ -13,9 +13,12 @@ ghost use Rattle.page_lines.specs.Rules.{Holds};
 use counts::KINDS;
 use frame::{BUDGET_LIMIT, NAME_INDEX_NEED, Preparation, prepare};
 use lines::Setting;
-use office::{PIECE, Rest, Value, asks_for_page, next_line, open, put, say_refusal};
+use office::{
+    PIECE, Rest, Value, arg, arg_count, asks_for_page, fail, next_line, open, put, say_refusal,
+};
 use page_lines::{RESULT_AREA, RULE_AREA, WORK_AREA, write_page};
 use report_line::{RULE, margin_for};
+use std::fs::File;
 
 // Where the arguments stand. Those of a page stand one place further, behind the word that asks for it.
 const RULE_FILE: usize = 1;
@@ -27,28 +30,29 @@ const FLAGS: usize = 3;
 const BUDGET: usize = 4;
 
 // The flags that an argument stands for; where it is missing, none.
-fn flags_at(argument: usize) -> Value {
-    if os::arg_count() <= argument {
+fn flags_at(rt: &HostRuntime, argument: usize) -> Value {
+    if arg_count(rt) <= argument {
         return Value::Is(0);
     }
     let mut text = io::buffer();
-    let n = os::arg(argument, &mut text);
+    let n = arg(rt, argument, &mut text);
     office::flags(&text[..n])
 }
 
 // The budget that an argument stands for; where it is missing, the largest.
-fn budget_at(argument: usize) -> Value {
-    if os::arg_count() <= argument {
+fn budget_at(rt: &HostRuntime, argument: usize) -> Value {
+    if arg_count(rt) <= argument {
         return Value::Is(BUDGET_LIMIT);
     }
     let mut text = io::buffer();
-    let n = os::arg(argument, &mut text);
+    let n = arg(rt, argument, &mut text);
     office::decimal(&text[..n], BUDGET_LIMIT)
 }
 
 // Reports on the lines of a file, with a rule that stands compiled.
 fn report_lines(
-    fd: i32,
+    rt: &HostRuntime,
+    file: &mut File,
     rule: &[u8],
     area: &[u32; RULE_AREA],
     names: &[u8; NAME_INDEX_NEED],
@@ -63,7 +67,8 @@ fn report_lines(
     let mut counts = [0u64; KINDS];
     let mut out = io::large_buffer();
     let told = lines::tell_lines(
-        fd,
+        rt,
+        file,
         rule,
         area,
         names,
@@ -75,22 +80,24 @@ fn report_lines(
         &mut out,
     );
     let mut at = told.at;
-    if !told.whole {
-        os::fail(b"readings: the lines could not be read to their end");
+    if let Some(e) = told.failed {
+        fail(rt, b"readings: the lines could not be read to their end", e);
         at = put(
+            rt,
             &mut out,
             at,
             b"\nThe lines could not be read to their end. Up to there:",
         );
     }
-    if !counts::summarize(&counts, &mut out, at) {
-        messages::unwritten();
+    if !counts::summarize(rt, &counts, &mut out, at) {
+        messages::unwritten(rt);
     }
 }
 
 // Writes a page of the lines of a file, which are judged by all their readings and so by no columns.
 fn report_as_page(
-    fd: i32,
+    rt: &HostRuntime,
+    file: &mut File,
     rule: &[u8],
     area: &[u32; RULE_AREA],
     names: &[u8; NAME_INDEX_NEED],
@@ -112,16 +119,17 @@ fn report_as_page(
         count: 0,
     };
     if !write_page(
-        fd, rule, area, judged, &columns, names, b"", piece, work, results,
+        rt, file, rule, area, judged, &columns, names, b"", piece, work, results,
     ) {
-        messages::unwritten();
+        messages::unwritten(rt);
     }
 }
 
 // Reports on the lines of a file as it is asked for.
 fn write_report(
+    rt: &HostRuntime,
     paged: bool,
-    fd: i32,
+    file: &mut File,
     rule: &[u8],
     area: &[u32; RULE_AREA],
     names: &[u8; NAME_INDEX_NEED],
@@ -134,14 +142,15 @@ fn write_report(
     requires rule_len_bound { length rule.now ≤ 1001 }
 {
     if paged {
-        report_as_page(fd, rule, area, names, setting, piece, work, results);
+        report_as_page(rt, file, rule, area, names, setting, piece, work, results);
     } else {
-        report_lines(fd, rule, area, names, setting, piece, work, results);
+        report_lines(rt, file, rule, area, names, setting, piece, work, results);
     }
 }
 
 // Reports with a rule, if it is not refused. It is compiled once, and then held over all lines.
 fn run(
+    rt: &HostRuntime,
     shift: usize,
     rule: &[u8],
     flags: u32,
@@ -155,10 +164,9 @@ fn run(
 {
     let mut names = [0u8; NAME_INDEX_NEED];
     match prepare(rule, flags, false, 0, budget, area, work, false, &mut names) {
-        Preparation::Refused(f) => say_refusal(b"readings", f, rule),
+        Preparation::Refused(f) => say_refusal(rt, b"readings", f, rule),
         Preparation::Ready(entry, groups) => {
-            let fd = open(b"readings", LINES_FILE + shift);
-            if 0 <= fd {
+            if let Some(mut file) = open(rt, b"readings", LINES_FILE + shift) {
                 let setting = Setting {
                     entry,
                     groups,
@@ -167,8 +175,9 @@ fn run(
                     margin: margin_for(&names),
                 };
                 write_report(
+                    rt,
                     shift == 1,
-                    fd,
+                    &mut file,
                     rule,
                     area,
                     &names,
@@ -183,23 +192,22 @@ fn run(
 }
 
 // With the flags and the budget, and the areas that are lent. The rule is the first line of its file, or all of it.
-fn start(shift: usize, flags: u32, budget: u32)
+fn start(rt: &HostRuntime, shift: usize, flags: u32, budget: u32)
     requires { shift ≤ 1 }
 {
-    let fd = open(b"readings", RULE_FILE + shift);
-    if fd < 0 {
+    let Some(mut file) = open(rt, b"readings", RULE_FILE + shift) else {
         return;
-    }
+    };
     let mut piece = io::large_buffer();
     let mut rule = [0u8; RULE];
     let nothing = Rest {
         at: 0,
         end: 0,
-        failed: false,
+        failed: None,
     };
-    let line = next_line(fd, &mut piece, nothing, &mut rule, false);
-    if line.failed {
-        os::fail(b"readings: the rule could not be read");
+    let line = next_line(&mut file, &mut piece, nothing, &mut rule, false);
+    if let Some(e) = line.failed {
+        fail(rt, b"readings: the rule could not be read", e);
         return;
     }
     let n = line.have;
@@ -207,6 +215,7 @@ fn start(shift: usize, flags: u32, budget: u32)
     let mut work = [0u32; WORK_AREA];
     let mut results = [0u32; RESULT_AREA];
     run(
+        rt,
         shift,
         &rule[..n],
         flags,
@@ -219,33 +228,33 @@ fn start(shift: usize, flags: u32, budget: u32)
 }
 
 // With arguments that stand so many places further.
-fn begin(shift: usize)
+fn begin(rt: &HostRuntime, shift: usize)
     requires { shift ≤ 1 }
 {
-    let count = os::arg_count();
+    let count = arg_count(rt);
     if count <= LINES_FILE + shift {
-        messages::usage();
+        messages::usage(rt);
         return;
     }
     if BUDGET + 1 + shift < count {
-        messages::usage();
+        messages::usage(rt);
         return;
     }
-    let f = flags_at(FLAGS + shift);
-    let b = budget_at(BUDGET + shift);
+    let f = flags_at(rt, FLAGS + shift);
+    let b = budget_at(rt, BUDGET + shift);
     match f {
-        Value::Wrong => messages::usage(),
+        Value::Wrong => messages::usage(rt),
         Value::Is(flags) => match b {
-            Value::Wrong => messages::usage(),
-            Value::Is(budget) => start(shift, flags, budget),
+            Value::Wrong => messages::usage(rt),
+            Value::Is(budget) => start(rt, shift, flags, budget),
         },
     }
 }
 
-fn main() {
-    if asks_for_page() {
-        begin(1);
+fn main(rt: HostRuntime) {
+    if asks_for_page(&rt) {
+        begin(&rt, 1);
     } else {
-        begin(0);
+        begin(&rt, 0);
     }
 }

@@ -1,8 +1,9 @@
 // Messages to the one who started the program.
 use office::say;
 
-pub(crate) fn usage() {
+pub(crate) fn usage(rt: &HostRuntime) {
     say(
+        rt,
         b"usage: readings [--page] RULE-FILE LINES-FILE [FLAGS [BUDGET]]\n\
 \n\
 Says of every line how many readings the rule has of it. A line with two or more is shown with\n\
@@ -28,6 +29,6 @@ columns, the first of each named. Up to 1000 readings of a line are shown.\n",
     );
 }
 
-pub(crate) fn unwritten() {
-    say(b"readings: the report could not be written\n");
+pub(crate) fn unwritten(rt: &HostRuntime) {
+    say(rt, b"readings: the report could not be written\n");
 }

@@ -10,21 +10,23 @@ use report_line::put_line;
 
 // How many readings there are, between two texts.
 fn put_readings(
+    rt: &HostRuntime,
     out: &mut [u8; ROOM],
     at: usize,
     before: &[u8],
     rows: usize,
     behind: &[u8],
 ) -> usize {
-    let mut p = put_number(out, at, before, rows as u64, b" reading");
+    let mut p = put_number(rt, out, at, before, rows as u64, b" reading");
     if rows != 1 {
-        p = put(out, p, b"s");
+        p = put(rt, out, p, b"s");
     }
-    put(out, p, behind)
+    put(rt, out, p, behind)
 }
 
 // Shows a line with the readings of so many rows.
 fn show(
+    rt: &HostRuntime,
     out: &mut [u8; ROOM],
     at: usize,
     margin: usize,
@@ -44,7 +46,7 @@ fn show(
         return at;
     }
     let n = rows * ROW_LENGTH;
-    put_line(out, at, margin, names, line, &results[..n])
+    put_line(rt, out, at, margin, names, line, &results[..n])
 }
 
 // Whether a listing is complete, and has no readings.
@@ -59,6 +61,7 @@ pub(crate) fn is_unmatched(listing: Listing) -> bool {
 
 // A listing that is complete, with one reading or more. One is as it should be, and is not shown.
 fn tell_complete(
+    rt: &HostRuntime,
     out: &mut [u8; ROOM],
     at: usize,
     margin: usize,
@@ -70,18 +73,19 @@ fn tell_complete(
 ) -> usize
     requires { length line.now ≤ 65536 }
 {
-    let p = put_readings(out, at, b"", rows, b"\n");
+    let p = put_readings(rt, out, at, b"", rows, b"\n");
     if rows == 1 {
         count(counts, ONCE);
         return p;
     }
     count(counts, AMBIGUOUS);
-    show(out, p, margin, names, line, results, rows, counts)
+    show(rt, out, p, margin, names, line, results, rows, counts)
 }
 
 // What a listing tells of a line. One that used up its budget at a start may have had readings until then, and more may follow: what is known is
 // shown.
 pub(crate) fn tell(
+    rt: &HostRuntime,
     out: &mut [u8; ROOM],
     at: usize,
     margin: usize,
@@ -95,24 +99,24 @@ pub(crate) fn tell(
 {
     match listing {
         Listing::Complete(rows, _) => tell_complete(
-            out, at, margin, names, line, results, rows, counts,
+            rt, out, at, margin, names, line, results, rows, counts,
         ),
         Listing::Full(rows, _) => {
             count(counts, AMBIGUOUS);
             count(counts, MANY);
-            let p = put_readings(out, at, b"more than ", rows, b", the first are shown\n");
-            show(out, p, margin, names, line, results, rows, counts)
+            let p = put_readings(rt, out, at, b"more than ", rows, b", the first are shown\n");
+            show(rt, out, p, margin, names, line, results, rows, counts)
         }
         Listing::Exhausted(start, rows, _) => {
             count(counts, EXHAUSTED);
             if 1 < rows {
                 count(counts, UNSETTLED);
             }
-            let p = put_number(out, at, b"exhausted at start ", start as u64, b", ");
-            let q = put_readings(out, p, b"", rows, b" until then\n");
-            show(out, q, margin, names, line, results, rows, counts)
+            let p = put_number(rt, out, at, b"exhausted at start ", start as u64, b", ");
+            let q = put_readings(rt, out, p, b"", rows, b" until then\n");
+            show(rt, out, q, margin, names, line, results, rows, counts)
         }
         // the rule was accepted before, and the line is short enough
-        Listing::Refused(_) => put(out, at, b"refused\n"),
+        Listing::Refused(_) => put(rt, out, at, b"refused\n"),
     }
 }

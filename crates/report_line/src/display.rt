@@ -21,6 +21,7 @@ fn sign_of(place: usize) -> u8 {
 // The span that stands at a place of the rows, if there is something of it in the window that begins at a column and shows so many bytes: what
 // a reading took, or a group of it. A group that is not set has its span behind every window.
 fn put_span(
+    rt: &HostRuntime,
     out: &mut [u8; ROOM],
     at: usize,
     margin: usize,
@@ -36,19 +37,20 @@ fn put_span(
     if !report::touches(from, to, column) {
         return at;
     }
-    let mut p = put_span_label(out, at, margin, names, place);
+    let mut p = put_span_label(rt, out, at, margin, names, place);
     let mut marks = [0u8; report::WIDTH];
     report::mark(sign_of(place), from, to, column, &mut marks);
-    p = put(out, p, &marks[..shown]);
-    p = put_number(out, p, b"  ", from as u64, b"-");
+    p = put(rt, out, p, &marks[..shown]);
+    p = put_number(rt, out, p, b"  ", from as u64, b"-");
     if from == to {
-        return put_number(out, p, b"", to as u64, b" empty\n");
+        return put_number(rt, out, p, b"", to as u64, b" empty\n");
     }
-    put_number(out, p, b"", to as u64, b"\n")
+    put_number(rt, out, p, b"", to as u64, b"\n")
 }
 
 // The spans of all rows, under a window.
 fn put_spans(
+    rt: &HostRuntime,
     out: &mut [u8; ROOM],
     at: usize,
     margin: usize,
@@ -63,6 +65,7 @@ fn put_spans(
     let mut i: usize = 0;
     while 1 < rows.len() - i {
         p = put_span(
+            rt,
             out,
             p,
             margin,
@@ -91,6 +94,7 @@ pub(crate) fn shown_of(rest: usize) -> usize
 
 // The window of a text that begins at a position. It is labelled by its first column; a text of one window needs no column named.
 pub(crate) fn put_text(
+    rt: &HostRuntime,
     out: &mut [u8; ROOM],
     at: usize,
     margin: usize,
@@ -103,18 +107,19 @@ pub(crate) fn put_text(
 {
     let mut p = at;
     if text.len() <= report::WIDTH {
-        p = put_label(out, at, margin, whole);
+        p = put_label(rt, out, at, margin, whole);
     } else {
-        p = put_numbered(out, at, margin, column, from as u64);
+        p = put_numbered(rt, out, at, margin, column, from as u64);
     }
     let mut shown = [0u8; report::WIDTH];
     let n = report::show(&text[from..], &mut shown);
-    p = put(out, p, &shown[..n]);
-    put(out, p, b"\n")
+    p = put(rt, out, p, &shown[..n]);
+    put(rt, out, p, b"\n")
 }
 
 // The window of a line that begins at a position, with the spans of all rows.
 fn put_window(
+    rt: &HostRuntime,
     out: &mut [u8; ROOM],
     at: usize,
     margin: usize,
@@ -125,13 +130,14 @@ fn put_window(
 ) -> usize
     requires { (from ≤ length line.now) × (length line.now ≤ 65536) }
 {
-    let p = put_text(out, at, margin, b"", b"column ", line, from);
+    let p = put_text(rt, out, at, margin, b"", b"column ", line, from);
     let n = shown_of(line.len() - from);
-    put_spans(out, p, margin, names, rows, from as u32, n)
+    put_spans(rt, out, p, margin, names, rows, from as u32, n)
 }
 
 // A line, in windows, with the readings of the rows under it.
 pub fn put_line(
+    rt: &HostRuntime,
     out: &mut [u8; ROOM],
     at: usize,
     margin: usize,
@@ -144,7 +150,7 @@ pub fn put_line(
     let mut p = at;
     let mut from: usize = 0;
     loop {
-        p = put_window(out, p, margin, names, line, from, rows);
+        p = put_window(rt, out, p, margin, names, line, from, rows);
         if line.len() - from <= report::WIDTH {
             return p;
         }

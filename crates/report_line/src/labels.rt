@@ -43,7 +43,13 @@ pub fn margin_for(names: &[u8; NAME_INDEX_NEED]) -> usize {
 }
 
 // The blanks in front of a label of so many bytes. No label is wider than the margin, which is no wider than a name.
-fn put_blanks(out: &mut [u8; ROOM], at: usize, margin: usize, size: usize) -> usize {
+fn put_blanks(
+    rt: &HostRuntime,
+    out: &mut [u8; ROOM],
+    at: usize,
+    margin: usize,
+    size: usize,
+) -> usize {
     if margin < size {
         return at;
     }
@@ -52,18 +58,25 @@ fn put_blanks(out: &mut [u8; ROOM], at: usize, margin: usize, size: usize) -> us
         return at;
     }
     let blanks = [b' '; NAME_LIMIT];
-    put(out, at, &blanks[..n])
+    put(rt, out, at, &blanks[..n])
 }
 
 // A label.
-pub(crate) fn put_label(out: &mut [u8; ROOM], at: usize, margin: usize, text: &[u8]) -> usize {
-    let p = put_blanks(out, at, margin, text.len());
-    let q = put(out, p, text);
-    put(out, q, b"  ")
+pub(crate) fn put_label(
+    rt: &HostRuntime,
+    out: &mut [u8; ROOM],
+    at: usize,
+    margin: usize,
+    text: &[u8],
+) -> usize {
+    let p = put_blanks(rt, out, at, margin, text.len());
+    let q = put(rt, out, p, text);
+    put(rt, out, q, b"  ")
 }
 
 // A label that ends in a number.
 pub(crate) fn put_numbered(
+    rt: &HostRuntime,
     out: &mut [u8; ROOM],
     at: usize,
     margin: usize,
@@ -76,12 +89,13 @@ pub(crate) fn put_numbered(
     if margin < k {
         return at;
     }
-    let p = put_blanks(out, at, margin - k, text.len());
-    put_number(out, p, text, n, b"  ")
+    let p = put_blanks(rt, out, at, margin - k, text.len());
+    put_number(rt, out, p, text, n, b"  ")
 }
 
 // The label of the group that so many others come before.
 fn put_group(
+    rt: &HostRuntime,
     out: &mut [u8; ROOM],
     at: usize,
     margin: usize,
@@ -92,16 +106,17 @@ fn put_group(
 {
     let n = name_length(names, passed);
     if n == 0 {
-        return put_numbered(out, at, margin, b"group ", passed as u64 + 1);
+        return put_numbered(rt, out, at, margin, b"group ", passed as u64 + 1);
     }
     let from = passed * NAME_ENTRY + 1;
     let to = from + n;
     let index = &names[..];
-    put_label(out, at, margin, &index[from..to])
+    put_label(rt, out, at, margin, &index[from..to])
 }
 
 // The label of the span that stands at a place of the rows: a reading's, or that of a group of it.
 pub(crate) fn put_span_label(
+    rt: &HostRuntime,
     out: &mut [u8; ROOM],
     at: usize,
     margin: usize,
@@ -111,7 +126,7 @@ pub(crate) fn put_span_label(
     let group = place % ROW_LENGTH / 2;
     if group == 0 {
         let reading = (place / ROW_LENGTH) as u64 + 1;
-        return put_numbered(out, at, margin, b"reading ", reading);
+        return put_numbered(rt, out, at, margin, b"reading ", reading);
     }
-    put_group(out, at, margin, names, group - 1)
+    put_group(rt, out, at, margin, names, group - 1)
 }

@@ -23,6 +23,7 @@ const BLANK: u8 = b' ';
 
 // The first columns of a window, with - under what an attempt took, and what ends them.
 fn put_dashes(
+    rt: &HostRuntime,
     out: &mut [u8; ROOM],
     at: usize,
     margin: usize,
@@ -36,14 +37,15 @@ fn put_dashes(
 {
     let mut marks = [0u8; report::WIDTH];
     report::mark(b'-', start, stop, column, &mut marks);
-    let p = put_label(out, at, margin, b"fits up to");
-    let q = put(out, p, &marks[..columns]);
-    put(out, q, end)
+    let p = put_label(rt, out, at, margin, b"fits up to");
+    let q = put(rt, out, p, &marks[..columns]);
+    put(rt, out, q, end)
 }
 
 // What an attempt took and the place to which it came, if there is something of them under the window that begins at a column, where so many bytes
 // are left of the line. Behind its last byte the last window has the line's end.
 fn put_reach(
+    rt: &HostRuntime,
     out: &mut [u8; ROOM],
     at: usize,
     margin: usize,
@@ -57,19 +59,40 @@ fn put_reach(
     }
     let ahead = (stop - column) as usize;
     if ahead < report::WIDTH {
-        return put_dashes(out, at, margin, start, stop, column, ahead, b"^\n");
+        return put_dashes(rt, out, at, margin, start, stop, column, ahead, b"^\n");
     }
     if rest <= report::WIDTH {
-        return put_dashes(out, at, margin, start, stop, column, shown_of(rest), b"^\n");
+        return put_dashes(
+            rt,
+            out,
+            at,
+            margin,
+            start,
+            stop,
+            column,
+            shown_of(rest),
+            b"^\n",
+        );
     }
     if column as u64 + report::WIDTH as u64 <= start as u64 {
         return at;
     }
-    put_dashes(out, at, margin, start, stop, column, report::WIDTH, b"\n")
+    put_dashes(
+        rt,
+        out,
+        at,
+        margin,
+        start,
+        stop,
+        column,
+        report::WIDTH,
+        b"\n",
+    )
 }
 
 // A line, in windows, with an attempt under it.
 fn put_attempt(
+    rt: &HostRuntime,
     out: &mut [u8; ROOM],
     at: usize,
     margin: usize,
@@ -82,9 +105,9 @@ fn put_attempt(
     let mut p = at;
     let mut from: usize = 0;
     loop {
-        p = put_text(out, p, margin, b"", b"column ", line, from);
+        p = put_text(rt, out, p, margin, b"", b"column ", line, from);
         let rest = line.len() - from;
-        p = put_reach(out, p, margin, start, stop, from as u32, rest);
+        p = put_reach(rt, out, p, margin, start, stop, from as u32, rest);
         if rest <= report::WIDTH {
             return p;
         }
@@ -107,27 +130,40 @@ fn signs_end(signs: &[u8]) -> usize
 }
 
 // The signs under a window of the rule, if there are any.
-fn put_signs(out: &mut [u8; ROOM], at: usize, margin: usize, signs: &[u8]) -> usize {
+fn put_signs(
+    rt: &HostRuntime,
+    out: &mut [u8; ROOM],
+    at: usize,
+    margin: usize,
+    signs: &[u8],
+) -> usize {
     let n = signs_end(signs);
     if n == 0 {
         return at;
     }
-    let p = put_label(out, at, margin, b"expected");
-    let q = put(out, p, &signs[..n]);
-    put(out, q, b"\n")
+    let p = put_label(rt, out, at, margin, b"expected");
+    let q = put(rt, out, p, &signs[..n]);
+    put(rt, out, q, b"\n")
 }
 
 // The rule, in windows, with the signs under it.
-fn put_rule(out: &mut [u8; ROOM], at: usize, margin: usize, rule: &[u8], signs: &[u8]) -> usize
+fn put_rule(
+    rt: &HostRuntime,
+    out: &mut [u8; ROOM],
+    at: usize,
+    margin: usize,
+    rule: &[u8],
+    signs: &[u8],
+) -> usize
     requires { (length signs.now ≡ length rule.now) × (length rule.now ≤ 1001) }
 {
     let mut p = at;
     let mut from: usize = 0;
     loop {
-        p = put_text(out, p, margin, b"rule", b"rule ", rule, from);
+        p = put_text(rt, out, p, margin, b"rule", b"rule ", rule, from);
         let rest = rule.len() - from;
         let to = from + shown_of(rest);
-        p = put_signs(out, p, margin, &signs[from..to]);
+        p = put_signs(rt, out, p, margin, &signs[from..to]);
         if rest <= report::WIDTH {
             return p;
         }
@@ -137,6 +173,7 @@ fn put_rule(out: &mut [u8; ROOM], at: usize, margin: usize, rule: &[u8], signs: 
 
 // The rule, with signs under the marked items, in as many bytes that are lent for them.
 fn put_underlined(
+    rt: &HostRuntime,
     out: &mut [u8; ROOM],
     at: usize,
     margin: usize,
@@ -148,11 +185,12 @@ fn put_underlined(
     requires { (length marks.now ≡ length rule.now) × (length signs.old ≡ length rule.now) × (length rule.now ≤ 1001) }
 {
     underline(rule, flags, marks, signs);
-    put_rule(out, at, margin, rule, signs)
+    put_rule(rt, out, at, margin, rule, signs)
 }
 
 // The same, in more bytes than are needed.
 fn put_marked(
+    rt: &HostRuntime,
     out: &mut [u8; ROOM],
     at: usize,
     margin: usize,
@@ -164,11 +202,12 @@ fn put_marked(
     requires { (length marks.now ≡ length rule.now) × (length rule.now ≤ 1001) × (1001 ≤ length signs.old) }
 {
     let n = rule.len();
-    put_underlined(out, at, margin, rule, flags, marks, &mut signs[..n])
+    put_underlined(rt, out, at, margin, rule, flags, marks, &mut signs[..n])
 }
 
 // Why a line does not fit: an attempt, and the items that are marked at the beginning of the marks.
 pub fn put_reason(
+    rt: &HostRuntime,
     out: &mut [u8; ROOM],
     at: usize,
     margin: usize,
@@ -185,10 +224,11 @@ pub fn put_reason(
     let n = rule.len();
     let marked = &marks[..n];
     let mut signs = [0u8; RULE];
-    let mut p = put_attempt(out, at, margin, line, start, stop);
-    p = put_marked(out, p, margin, rule, flags, marked, &mut signs);
-    p = put_label(out, p, margin, b"");
+    let mut p = put_attempt(rt, out, at, margin, line, start, stop);
+    p = put_marked(rt, out, p, margin, rule, flags, marked, &mut signs);
+    p = put_label(rt, out, p, margin, b"");
     put_sentence(
+        rt,
         out,
         p,
         rule,

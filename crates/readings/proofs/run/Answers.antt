@@ -1,0 +1,15 @@
+-- A rule that is ready is held: so `prepare` promises, of any line and of any result area that is not too short, and so of none where nothing is needed in it.
+use mathlib.Core.Path.{refl}
+use mathlib.Core.List.{[]}
+use native.Mathlib.Omega.{arith}
+use Rattle.syntax.specs.Limits.{rule_area_need}
+use Rattle.frame.specs.Laws.Preparing.{is-ready}
+use Rattle.page_lines.specs.Laws.Holding.{readied-holds}
+use Rattle.readings.proofs.run.Goals as goal
+
+pub write_report-requires : goal.write_report-requires
+unfolding rule_area_need
+write_report-requires c = record {
+  holds = readied-holds (is-ready (c.prepare.ensures 0 [] [] refl refl) _ _ c.in-Ready.is) (omega arith);
+  rule_len_bound = c.requires.0;
+}

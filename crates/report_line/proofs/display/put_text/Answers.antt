@@ -1,0 +1,7 @@
+-- What is shown of the text is within the window.
+use native.Mathlib.Omega.{arith}
+use lib.ListN.{length-take}
+use Rattle.report_line.proofs.display.put_text.Goals as goal
+
+pub slice_bounds-put-end : goal.slice_bounds-put-end
+slice_bounds-put-end c = simp length-take (omega arith)
