@@ -16,7 +16,6 @@ use explaining::Explanation;
 use failures::Failed;
 use frame::NAME_INDEX_NEED;
 use index::{ROW_LENGTH, UNSET};
-use libc::{STDIN_FILENO, STDOUT_FILENO};
 use listing::Listing;
 use matching::Outcome;
 use syntax::{NAME_ENTRY, Refusal};
@@ -53,64 +52,64 @@ const NAMES: usize = NAME_INDEX_NEED + 56;
 // The groups that a rule can have.
 const GROUPS: usize = syntax::GROUP_LIMIT as usize;
 
-fn put(text: &[u8]) {
-    io::write_all(STDOUT_FILENO, text);
+fn put(rt: &HostRuntime, text: &[u8]) {
+    let _ = rt.write_all(text);
 }
 
-fn put_number(n: u64) {
-    io::print_decimal(STDOUT_FILENO, n);
+fn put_number(rt: &HostRuntime, n: u64) {
+    let _ = rt.print(n);
 }
 
-fn put_word(n: u32) {
-    put_number(n as u64);
+fn put_word(rt: &HostRuntime, n: u32) {
+    put_number(rt, n as u64);
 }
 
 // A group's span, if it is set.
-fn put_span(group: usize, from: u32, to: u32) {
+fn put_span(rt: &HostRuntime, group: usize, from: u32, to: u32) {
     if from == UNSET {
         return;
     }
-    put(b" ");
-    put_number(group as u64);
-    put(b":");
-    put_word(from);
-    put(b"-");
-    put_word(to);
+    put(rt, b" ");
+    put_number(rt, group as u64);
+    put(rt, b":");
+    put_word(rt, from);
+    put(rt, b"-");
+    put_word(rt, to);
 }
 
 // The spans that are set of the row at a position.
-fn put_spans(results: &[u32], base: usize)
+fn put_spans(rt: &HostRuntime, results: &[u32], base: usize)
     requires { base + row_length ≤ length results.now }
 {
     let mut i: usize = 1;
     while i <= GROUPS {
-        put_span(i, results[base + 2 * i], results[base + 2 * i + 1]);
+        put_span(rt, i, results[base + 2 * i], results[base + 2 * i + 1]);
         i += 1;
     }
 }
 
 // The row at a position, if it is there: start, end and the spans that are set.
-fn put_row(results: &[u32], base: usize) {
+fn put_row(rt: &HostRuntime, results: &[u32], base: usize) {
     if results.len() < ROW_LENGTH {
         return;
     }
     if results.len() - ROW_LENGTH < base {
         return;
     }
-    put(b"  ");
-    put_word(results[base]);
-    put(b" ");
-    put_word(results[base + 1]);
-    put_spans(results, base);
-    put(b"\n");
+    put(rt, b"  ");
+    put_word(rt, results[base]);
+    put(rt, b" ");
+    put_word(rt, results[base + 1]);
+    put_spans(rt, results, base);
+    put(rt, b"\n");
 }
 
 // The first rows.
-fn put_rows(results: &[u32], rows: usize) {
+fn put_rows(rt: &HostRuntime, results: &[u32], rows: usize) {
     let mut i: usize = 0;
     let mut base: usize = 0;
     while i < rows {
-        put_row(results, base);
+        put_row(rt, results, base);
         if results.len() <= base {
             return;
         }
@@ -127,12 +126,12 @@ fn hex_digit(d: u8) -> u8
 }
 
 // Two hex digits for each byte.
-fn put_hex(bytes: &[u8]) {
+fn put_hex(rt: &HostRuntime, bytes: &[u8]) {
     let mut i: usize = 0;
     while i < bytes.len() {
         let b = bytes[i];
         let digits = [hex_digit(b / 16), hex_digit(b % 16)];
-        put(&digits);
+        put(rt, &digits);
         i += 1;
     }
 }
@@ -150,168 +149,168 @@ fn is_clear(bytes: &[u8]) -> bool {
 }
 
 // The entries that are not all 00, each with its group, on one line; no line where there is none.
-fn put_names(names: &[u8]) {
+fn put_names(rt: &HostRuntime, names: &[u8]) {
     if names.len() < NAME_INDEX_NEED {
         return;
     }
     if is_clear(&names[..NAME_INDEX_NEED]) {
         return;
     }
-    put(b"  names");
+    put(rt, b"  names");
     let mut g: usize = 0;
     while g < GROUPS {
         let from = g * NAME_ENTRY;
         let to = from + NAME_ENTRY;
         if !is_clear(&names[from..to]) {
-            put(b" ");
-            put_number(g as u64 + 1);
-            put(b":");
-            put_hex(&names[from..to]);
+            put(rt, b" ");
+            put_number(rt, g as u64 + 1);
+            put(rt, b":");
+            put_hex(rt, &names[from..to]);
         }
         g += 1;
     }
-    put(b"\n");
+    put(rt, b"\n");
 }
 
-fn put_steps(steps: u64) {
-    put_number(steps);
-    put(b" steps\n");
+fn put_steps(rt: &HostRuntime, steps: u64) {
+    put_number(rt, steps);
+    put(rt, b" steps\n");
 }
 
-fn put_refusal(f: Refusal) {
+fn put_refusal(rt: &HostRuntime, f: Refusal) {
     let reason = f.reason;
-    put(b"refused ");
-    put_number(syntax::number(reason) as u64);
-    put(b" at ");
-    put_number(f.place as u64);
-    put(b"\n");
+    put(rt, b"refused ");
+    put_number(rt, syntax::number(reason) as u64);
+    put(rt, b" at ");
+    put_number(rt, f.place as u64);
+    put(rt, b"\n");
 }
 
 // What a match tells, with its row and the names.
-fn put_outcome(outcome: Outcome, results: &[u32], names: &[u8]) {
+fn put_outcome(rt: &HostRuntime, outcome: Outcome, results: &[u32], names: &[u8]) {
     match outcome {
         Outcome::Matched(steps) => {
-            put(b"matched ");
-            put_steps(steps);
-            put_rows(results, 1);
-            put_names(names);
+            put(rt, b"matched ");
+            put_steps(rt, steps);
+            put_rows(rt, results, 1);
+            put_names(rt, names);
         }
         Outcome::NotMatched(steps) => {
-            put(b"not matched ");
-            put_steps(steps);
-            put_names(names);
+            put(rt, b"not matched ");
+            put_steps(rt, steps);
+            put_names(rt, names);
         }
         Outcome::Exhausted(start, steps) => {
-            put(b"exhausted at ");
-            put_word(start);
-            put(b" ");
-            put_steps(steps);
-            put_names(names);
+            put(rt, b"exhausted at ");
+            put_word(rt, start);
+            put(rt, b" ");
+            put_steps(rt, steps);
+            put_names(rt, names);
         }
-        Outcome::Refused(f) => put_refusal(f),
+        Outcome::Refused(f) => put_refusal(rt, f),
     }
 }
 
 // What a listing tells, with its rows and the names.
-fn put_listing(told: Listing, results: &[u32], names: &[u8]) {
+fn put_listing(rt: &HostRuntime, told: Listing, results: &[u32], names: &[u8]) {
     match told {
         Listing::Complete(rows, steps) => {
-            put(b"complete ");
-            put_steps(steps);
-            put_rows(results, rows);
-            put_names(names);
+            put(rt, b"complete ");
+            put_steps(rt, steps);
+            put_rows(rt, results, rows);
+            put_names(rt, names);
         }
         Listing::Full(rows, steps) => {
-            put(b"full ");
-            put_steps(steps);
-            put_rows(results, rows);
-            put_names(names);
+            put(rt, b"full ");
+            put_steps(rt, steps);
+            put_rows(rt, results, rows);
+            put_names(rt, names);
         }
         Listing::Exhausted(start, rows, steps) => {
-            put(b"exhausted at ");
-            put_word(start);
-            put(b" ");
-            put_steps(steps);
-            put_rows(results, rows);
-            put_names(names);
+            put(rt, b"exhausted at ");
+            put_word(rt, start);
+            put(rt, b" ");
+            put_steps(rt, steps);
+            put_rows(rt, results, rows);
+            put_names(rt, names);
         }
-        Listing::Refused(f) => put_refusal(f),
+        Listing::Refused(f) => put_refusal(rt, f),
     }
 }
 
 // What a check tells, with the reading's row and the names.
-fn put_verdict(told: Verdict, results: &[u32], names: &[u8]) {
+fn put_verdict(rt: &HostRuntime, told: Verdict, results: &[u32], names: &[u8]) {
     match told {
         Verdict::Reading(steps) => {
-            put(b"a reading ");
-            put_steps(steps);
-            put_rows(results, 1);
-            put_names(names);
+            put(rt, b"a reading ");
+            put_steps(rt, steps);
+            put_rows(rt, results, 1);
+            put_names(rt, names);
         }
         Verdict::Nothing(steps) => {
-            put(b"no reading ");
-            put_steps(steps);
-            put_names(names);
+            put(rt, b"no reading ");
+            put_steps(rt, steps);
+            put_names(rt, names);
         }
         Verdict::Exhausted(start, steps) => {
-            put(b"exhausted at ");
-            put_word(start);
-            put(b" ");
-            put_steps(steps);
-            put_names(names);
+            put(rt, b"exhausted at ");
+            put_word(rt, start);
+            put(rt, b" ");
+            put_steps(rt, steps);
+            put_names(rt, names);
         }
-        Verdict::Refused(f) => put_refusal(f),
+        Verdict::Refused(f) => put_refusal(rt, f),
     }
 }
 
 // What a line's first two numbers behind its row tell: how it ends, and the start or the refusal. The others have 0 there, which is not written.
-fn put_ending(kind: u32, which: u32) {
+fn put_ending(rt: &HostRuntime, kind: u32, which: u32) {
     if kind == 0 {
-        put(b"  matched");
+        put(rt, b"  matched");
     }
     if kind == 1 {
-        put(b"  not matched");
+        put(rt, b"  not matched");
     }
     if kind == 2 {
-        put(b"  exhausted at ");
+        put(rt, b"  exhausted at ");
     }
     if kind == 3 {
-        put(b"  refused ");
+        put(rt, b"  refused ");
     }
     if kind < 2 {
         if which == 0 {
             return;
         }
     }
-    put_word(which);
+    put_word(rt, which);
 }
 
 // A line's steps, of which the two halves are told.
-fn put_line_steps(low: u32, high: u32) {
-    put(b", ");
-    put_number(high as u64 * 4294967296 + low as u64);
-    put(b" steps");
+fn put_line_steps(rt: &HostRuntime, low: u32, high: u32) {
+    put(rt, b", ");
+    put_number(rt, high as u64 * 4294967296 + low as u64);
+    put(rt, b" steps");
 }
 
 // What a line of a day's gets: how it ends, its steps and, if it is matched, its row.
-fn put_part(part: &[u32])
+fn put_part(rt: &HostRuntime, part: &[u32])
     requires { length part.now ≡ part_length }
 {
     let kind = part[ROW_LENGTH];
-    put_ending(kind, part[ROW_LENGTH + 1]);
-    put_line_steps(part[ROW_LENGTH + 2], part[ROW_LENGTH + 3]);
+    put_ending(rt, kind, part[ROW_LENGTH + 1]);
+    put_line_steps(rt, part[ROW_LENGTH + 2], part[ROW_LENGTH + 3]);
     if kind == 0 {
-        put(b" ");
-        put_word(part[0]);
-        put(b"-");
-        put_word(part[1]);
-        put_spans(part, 0);
+        put(rt, b" ");
+        put_word(rt, part[0]);
+        put(rt, b"-");
+        put_word(rt, part[1]);
+        put_spans(rt, part, 0);
     }
-    put(b"\n");
+    put(rt, b"\n");
 }
 
 // The first parts.
-fn put_parts(results: &[u32], parts: usize) {
+fn put_parts(rt: &HostRuntime, results: &[u32], parts: usize) {
     let mut i: usize = 0;
     let mut base: usize = 0;
     while i < parts {
@@ -319,23 +318,23 @@ fn put_parts(results: &[u32], parts: usize) {
             return;
         }
         let behind = base + PART_LENGTH;
-        put_part(&results[base..behind]);
+        put_part(rt, &results[base..behind]);
         base = behind;
         i += 1;
     }
 }
 
 // What a day's lines tell, with their parts and the names.
-fn put_batch(told: Batch, results: &[u32], names: &[u8]) {
+fn put_batch(rt: &HostRuntime, told: Batch, results: &[u32], names: &[u8]) {
     match told {
         Batch::Done(lines) => {
-            put(b"done ");
-            put_number(lines as u64);
-            put(b" lines\n");
-            put_parts(results, lines);
-            put_names(names);
+            put(rt, b"done ");
+            put_number(rt, lines as u64);
+            put(rt, b" lines\n");
+            put_parts(rt, results, lines);
+            put_names(rt, names);
         }
-        Batch::Refused(f) => put_refusal(f),
+        Batch::Refused(f) => put_refusal(rt, f),
     }
 }
 
@@ -347,58 +346,59 @@ fn lesser(a: usize, b: usize) -> usize
 }
 
 // A digit for each mark.
-fn put_marks(marks: &[u8]) {
+fn put_marks(rt: &HostRuntime, marks: &[u8]) {
     let mut i: usize = 0;
     while i < marks.len() {
-        put_number(marks[i] as u64);
+        put_number(rt, marks[i] as u64);
         i += 1;
     }
 }
 
 // Why a line does not fit: two failures and the marks.
-fn put_why(furthest: Failed, closest: Failed, marks: &[u8]) {
-    put(b"  furthest ");
-    put_word(furthest.at);
-    put(b" ");
-    put_word(furthest.place);
-    put(b"\n  closest ");
-    put_word(closest.start);
-    put(b" ");
-    put_word(closest.at);
-    put(b" ");
-    put_word(closest.place);
-    put(b"\n  marks ");
-    put_marks(marks);
-    put(b"\n");
+fn put_why(rt: &HostRuntime, furthest: Failed, closest: Failed, marks: &[u8]) {
+    put(rt, b"  furthest ");
+    put_word(rt, furthest.at);
+    put(rt, b" ");
+    put_word(rt, furthest.place);
+    put(rt, b"\n  closest ");
+    put_word(rt, closest.start);
+    put(rt, b" ");
+    put_word(rt, closest.at);
+    put(rt, b" ");
+    put_word(rt, closest.place);
+    put(rt, b"\n  marks ");
+    put_marks(rt, marks);
+    put(rt, b"\n");
 }
 
 // What an explanation tells, with the names and, of a line that is not matched, why.
-fn put_explanation(told: Explanation, marks: &[u8], names: &[u8]) {
+fn put_explanation(rt: &HostRuntime, told: Explanation, marks: &[u8], names: &[u8]) {
     match told {
         Explanation::Matched(steps) => {
-            put(b"matched ");
-            put_steps(steps);
-            put_names(names);
+            put(rt, b"matched ");
+            put_steps(rt, steps);
+            put_names(rt, names);
         }
         Explanation::NotMatched(steps, furthest, closest) => {
-            put(b"not matched ");
-            put_steps(steps);
-            put_names(names);
-            put_why(furthest, closest, marks);
+            put(rt, b"not matched ");
+            put_steps(rt, steps);
+            put_names(rt, names);
+            put_why(rt, furthest, closest, marks);
         }
         Explanation::Exhausted(start, steps) => {
-            put(b"exhausted at ");
-            put_word(start);
-            put(b" ");
-            put_steps(steps);
-            put_names(names);
+            put(rt, b"exhausted at ");
+            put_word(rt, start);
+            put(rt, b" ");
+            put_steps(rt, steps);
+            put_names(rt, names);
         }
-        Explanation::Refused(f) => put_refusal(f),
+        Explanation::Refused(f) => put_refusal(rt, f),
     }
 }
 
 // An explanation. Marks that the rule has no byte for are not told.
 fn tell_why(
+    rt: &HostRuntime,
     rule: &[u8],
     flags: u32,
     sub: &[u8],
@@ -410,11 +410,12 @@ fn tell_why(
 ) {
     let told = explaining::explain(rule, flags, sub, budget, area, work, names, marks);
     let shown = lesser(marks.len(), rule.len());
-    put_explanation(told, &marks[..shown], names);
+    put_explanation(rt, told, &marks[..shown], names);
 }
 
 // One of the calls that are lent a result area.
 fn tell_results(
+    rt: &HostRuntime,
     kind: u32,
     rule: &[u8],
     flags: u32,
@@ -428,32 +429,33 @@ fn tell_results(
 ) {
     if kind == MATCH {
         let outcome = matching::match_line(rule, flags, sub, budget, area, work, results, names);
-        put_outcome(outcome, results, names);
+        put_outcome(rt, outcome, results, names);
         return;
     }
     if kind == SCAN {
         let told = scanning::match_all(rule, flags, sub, budget, area, work, results, names);
-        put_listing(told, results, names);
+        put_listing(rt, told, results, names);
         return;
     }
     if kind == BATCH {
         let told = batching::match_lines(rule, flags, sub, budget, area, work, results, names);
-        put_batch(told, results, names);
+        put_batch(rt, told, results, names);
         return;
     }
     if kind == CHECK {
         let told = checking::check(
             rule, flags, sub, budget, proposal, area, work, results, names,
         );
-        put_verdict(told, results, names);
+        put_verdict(rt, told, results, names);
         return;
     }
     let told = listing::list_readings(rule, flags, sub, budget, area, work, results, names);
-    put_listing(told, results, names);
+    put_listing(rt, told, results, names);
 }
 
 // Any call. The marks of an explanation are as many as there are numbers in the result area.
 fn tell(
+    rt: &HostRuntime,
     kind: u32,
     rule: &[u8],
     flags: u32,
@@ -468,11 +470,21 @@ fn tell(
     if kind == EXPLAIN {
         let mut marks = [7u8; RULE_ROOM];
         let k = lesser(results.len(), RULE_ROOM);
-        tell_why(rule, flags, sub, budget, area, work, names, &mut marks[..k]);
+        tell_why(
+            rt,
+            rule,
+            flags,
+            sub,
+            budget,
+            area,
+            work,
+            names,
+            &mut marks[..k],
+        );
         return;
     }
     tell_results(
-        kind, rule, flags, sub, budget, proposal, area, work, results, names,
+        rt, kind, rule, flags, sub, budget, proposal, area, work, results, names,
     );
 }
 
@@ -549,6 +561,7 @@ fn pieces(input: &[u8], from: usize, to: usize, area: &mut [u8]) -> usize
 
 // The call that the line between two positions asks for, on a subject and with what is proposed.
 fn call(
+    rt: &HostRuntime,
     input: &[u8],
     from: usize,
     to: usize,
@@ -572,6 +585,7 @@ fn call(
     let c = within(number(input, from, to, 5), results.len());
     let d = within(number(input, from, to, 6), names.len());
     tell(
+        rt,
         kind,
         &rule[..n],
         flags,
@@ -587,6 +601,7 @@ fn call(
 
 // The subject from its pieces, what is proposed, and then the call.
 fn line(
+    rt: &HostRuntime,
     input: &[u8],
     from: usize,
     to: usize,
@@ -604,6 +619,7 @@ fn line(
     let v = word(input, from, to, 8);
     let m = piece(input, v.at, v.end, &mut proposal, 0);
     call(
+        rt,
         input,
         from,
         to,
@@ -616,26 +632,34 @@ fn line(
     );
 }
 
-fn lines(input: &[u8], area: &mut [u32], work: &mut [u32], results: &mut [u32], names: &mut [u8]) {
+fn lines(
+    rt: &HostRuntime,
+    input: &[u8],
+    area: &mut [u32],
+    work: &mut [u32],
+    results: &mut [u32],
+    names: &mut [u8],
+) {
     let mut at = 0;
     while at < input.len() {
         let end = text::line_end(input, at);
-        line(input, at, end, area, work, results, names);
+        line(rt, input, at, end, area, work, results, names);
         at = end + 1;
     }
 }
 
 // All lines, with an area for work that is lent as an array: it is too long for the checker to be made a slice where it stands.
-fn all(input: &[u8], work: &mut [u32; WORK_AREA]) {
+fn all(rt: &HostRuntime, input: &[u8], work: &mut [u32; WORK_AREA]) {
     let mut area = [7u32; RULE_AREA];
     let mut results = [7u32; RESULT_AREA];
     let mut names = [7u8; NAMES];
-    lines(input, &mut area, work, &mut results, &mut names);
+    lines(rt, input, &mut area, work, &mut results, &mut names);
 }
 
-fn main() {
+fn main(rt: HostRuntime) {
     let mut buffer = vectors::input_buffer();
-    let n = io::read_full(STDIN_FILENO, &mut buffer);
+    let mut input = rt.stdin();
+    let n = vectors::read_full(&mut input, &mut buffer);
     let mut work = [7u32; WORK_AREA];
-    all(&buffer[..n], &mut work);
+    all(&rt, &buffer[..n], &mut work);
 }

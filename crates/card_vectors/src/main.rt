@@ -10,7 +10,6 @@ ghost use Rattle.std.specs.Prelude.{◌≤◌, length};
 
 use cards::{CARD_NEED, ReadAnswer, WriteAnswer};
 use frame::RULE_AREA_NEED;
-use libc::{STDIN_FILENO, STDOUT_FILENO};
 use syntax::Refusal;
 
 // Any other number is to read.
@@ -28,49 +27,57 @@ const ROOM: usize = 2 * CARD_NEED;
 const MOST: u32 = 4294967295;
 
 // A text, and a number behind it.
-fn put(text: &[u8], n: u64) {
-    io::write_all(STDOUT_FILENO, text);
-    io::print_decimal(STDOUT_FILENO, n);
+fn put(rt: &HostRuntime, text: &[u8], n: u64) {
+    let _ = rt.write_all(text);
+    let _ = rt.print(n);
 }
 
 // The first bytes of an area, so many of them.
-fn put_first(area: &[u8], n: usize) {
+fn put_first(rt: &HostRuntime, area: &[u8], n: usize) {
     let mut i: usize = 0;
     while i < n {
         if area.len() <= i {
             return;
         }
-        put(b" ", area[i] as u64);
+        put(rt, b" ", area[i] as u64);
         i += 1;
     }
 }
 
-fn put_refusal(f: Refusal) {
+fn put_refusal(rt: &HostRuntime, f: Refusal) {
     let reason = f.reason;
-    put(b"refused ", syntax::number(reason) as u64);
-    put(b" at ", f.place as u64);
+    put(rt, b"refused ", syntax::number(reason) as u64);
+    put(rt, b" at ", f.place as u64);
 }
 
 // What is said of a rule that is to be written, or of a card that is to be read.
-fn tell(kind: u32, bytes: &[u8], flags: u32, budget: u32, rule_area: &mut [u32], area: &mut [u8]) {
+fn tell(
+    rt: &HostRuntime,
+    kind: u32,
+    bytes: &[u8],
+    flags: u32,
+    budget: u32,
+    rule_area: &mut [u32],
+    area: &mut [u8],
+) {
     if kind == WRITE {
         match cards::write_card(bytes, flags, budget, rule_area, area) {
-            WriteAnswer::Refused(f) => put_refusal(f),
+            WriteAnswer::Refused(f) => put_refusal(rt, f),
             WriteAnswer::Wrote(n) => {
-                put(b"written ", n as u64);
-                put_first(area, n);
+                put(rt, b"written ", n as u64);
+                put_first(rt, area, n);
             }
         }
         return;
     }
     match cards::read_card(bytes, rule_area, area) {
-        ReadAnswer::Refused(f) => put_refusal(f),
+        ReadAnswer::Refused(f) => put_refusal(rt, f),
         ReadAnswer::Holds(n, held_flags, held_budget, groups) => {
-            put(b"read ", n as u64);
-            put(b" ", held_flags as u64);
-            put(b" ", held_budget as u64);
-            put(b" ", groups as u64);
-            put_first(area, n);
+            put(rt, b"read ", n as u64);
+            put(rt, b" ", held_flags as u64);
+            put(rt, b" ", held_budget as u64);
+            put(rt, b" ", groups as u64);
+            put_first(rt, area, n);
         }
     }
 }
@@ -92,7 +99,7 @@ fn number(input: &[u8], at: usize, to: usize, most: u32) -> u32
 }
 
 // What the line between two positions asks for.
-fn line(input: &[u8], from: usize, to: usize)
+fn line(rt: &HostRuntime, input: &[u8], from: usize, to: usize)
     requires { (from ≤ to) × (to ≤ length input.now) }
 {
     let mut rule_area = [7u32; RULE_AREA];
@@ -110,6 +117,7 @@ fn line(input: &[u8], from: usize, to: usize)
     let b = number(input, area_at, to, AREA as u32) as usize;
     let n = vectors::decode(input, bytes_at, to, &mut bytes);
     tell(
+        rt,
         kind,
         &bytes[..n],
         flags,
@@ -117,20 +125,21 @@ fn line(input: &[u8], from: usize, to: usize)
         &mut rule_area[..a],
         &mut area[..b],
     );
-    io::write_all(STDOUT_FILENO, b"\n");
+    let _ = rt.write_all(b"\n");
 }
 
-fn lines(input: &[u8]) {
+fn lines(rt: &HostRuntime, input: &[u8]) {
     let mut at = 0;
     while at < input.len() {
         let end = text::line_end(input, at);
-        line(input, at, end);
+        line(rt, input, at, end);
         at = end + 1;
     }
 }
 
-fn main() {
+fn main(rt: HostRuntime) {
     let mut buffer = vectors::input_buffer();
-    let n = io::read_full(STDIN_FILENO, &mut buffer);
-    lines(&buffer[..n]);
+    let mut input = rt.stdin();
+    let n = vectors::read_full(&mut input, &mut buffer);
+    lines(&rt, &buffer[..n]);
 }

@@ -14,7 +14,7 @@ abbrev pub Read : ℕ → Input → Type 0
 Read room (Bytes n) = n ≤ room
 Read room End = Unit {0}
 Read room Again = Unit {0}
-Read room Failed = Unit {0}
+Read room (Failed e) = Unit {0}
 
 abbrev pub Loaded : ℕ → Loading → Type 0
 Loaded room (More n) = n ≤ room
@@ -48,4 +48,4 @@ pub read_fewer : (i : Input) {a b : ℕ} → a ≤ b → Read a i → Read b i
 read_fewer (Bytes n) h r = omega arith
 read_fewer End h r = tt
 read_fewer Again h r = tt
-read_fewer Failed h r = tt
+read_fewer (Failed e) h r = tt

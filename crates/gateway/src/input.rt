@@ -2,27 +2,29 @@
 ghost use Rattle.std.specs.Prelude.{length};
 ghost use Rattle.gateway.specs.Counts.{Read};
 
+use std::io;
+use std::io::ErrorKind;
+
 // What came of it: so many bytes, the end, a signal in between, or a failure.
 #[derive(Drop)]
 pub enum Input {
     Bytes(usize),
     End,
     Again,
-    Failed,
+    Failed(io::Error),
 }
 
-pub(crate) fn read_some(fd: i32, buffer: &mut [u8]) -> Input
+pub(crate) fn read_some<R: io::Read>(reader: &mut R, buffer: &mut [u8]) -> Input
     ensures { Read (length buffer.old) result }
 {
-    let got = libc::read(fd, buffer);
-    if got > 0 {
-        return Input::Bytes(io::count(got, buffer));
+    match reader.read(buffer) {
+        Ok(0) => Input::End,
+        Ok(n) => Input::Bytes(n),
+        Err(e) => {
+            if e.kind() == ErrorKind::Interrupted {
+                return Input::Again;
+            }
+            Input::Failed(e)
+        }
     }
-    if got == 0 {
-        return Input::End;
-    }
-    if os::errno() == libc::EINTR {
-        return Input::Again;
-    }
-    Input::Failed
 }

@@ -6,10 +6,11 @@ ghost use Rattle.gateway_answers.specs.Promises.{Lent};
 ghost use Rattle.gateway.specs.Counts.{Held};
 
 use crate::input::{Input, read_some};
+use crate::messages::fail;
 use crate::output::deliver;
 use gateway_line::{Progress, advance, finish};
 use gateway_text::ANSWER_ROOM;
-use libc::STDIN_FILENO;
+use std::io::Read;
 
 // How many bytes wait in the output, and whether it can still be written.
 #[derive(Drop)]
@@ -19,14 +20,14 @@ struct Waiting {
 }
 
 // Writes out what waits where the next answer may not find room.
-fn make_room(out: &[u8], put: usize) -> Waiting
+fn make_room(rt: &HostRuntime, out: &[u8], put: usize) -> Waiting
     requires { (put ≤ length out.now) × (answer_room ≤ length out.now) }
     ensures { result.put + answer_room ≤ length out.now }
 {
     if ANSWER_ROOM <= out.len() - put {
         return Waiting { put, open: true };
     }
-    let open = deliver(&out[..put]);
+    let open = deliver(rt, &out[..put]);
     Waiting { put: 0, open }
 }
 
@@ -39,6 +40,7 @@ struct Heard {
 
 // Answers the lines that end in a piece, and writes out all answers.
 fn answer_piece(
+    rt: &HostRuntime,
     code: &[u32],
     entry: u32,
     groups: u32,
@@ -61,13 +63,13 @@ fn answer_piece(
         let q = advance(code, entry, groups, piece, line, work_area, results, out, p);
         at = q.at;
         have = q.have;
-        let w = make_room(out, q.put);
+        let w = make_room(rt, out, q.put);
         if !w.open {
             return Heard { have, open: false };
         }
         put = w.put;
     }
-    let open = deliver(&out[..put]);
+    let open = deliver(rt, &out[..put]);
     Heard { have, open }
 }
 
@@ -80,7 +82,9 @@ pub enum Hearing {
 }
 
 // Reads a piece and answers it. Input that fails is over.
-fn hear(
+fn hear<R: Read>(
+    rt: &HostRuntime,
+    input: &mut R,
     code: &[u32],
     entry: u32,
     groups: u32,
@@ -95,10 +99,10 @@ fn hear(
     requires have_le_held_limit { (have ≤ held_limit) × (held_limit ≤ length line.old) × (answer_room ≤ length out.old) }
     ensures { Held result }
 {
-    let input = read_some(STDIN_FILENO, piece);
-    match input {
+    match read_some(input, piece) {
         Input::Bytes(n) => {
             let h = answer_piece(
+                rt,
                 code,
                 entry,
                 groups,
@@ -116,8 +120,8 @@ fn hear(
         }
         Input::End => Hearing::Over(have),
         Input::Again => Hearing::On(have),
-        Input::Failed => {
-            os::fail(b"standard input");
+        Input::Failed(e) => {
+            fail(rt, b"standard input", e);
             Hearing::Over(have)
         }
     }
@@ -125,6 +129,7 @@ fn hear(
 
 // Answers the last piece, if it is not empty.
 fn end_input(
+    rt: &HostRuntime,
     code: &[u32],
     entry: u32,
     groups: u32,
@@ -137,11 +142,13 @@ fn end_input(
     requires answer_room_in_bounds { answer_room ≤ length out.old }
 {
     let put = finish(code, entry, groups, held, work_area, results, out, 0);
-    deliver(&out[..put]);
+    deliver(rt, &out[..put]);
 }
 
 // Answers all lines of the input. The turns are counted down because a loop has to end, from a number that no run uses up.
-pub(crate) fn answer_input(
+pub(crate) fn answer_input<R: Read>(
+    rt: &HostRuntime,
+    input: &mut R,
     code: &[u32],
     entry: u32,
     groups: u32,
@@ -159,14 +166,14 @@ pub(crate) fn answer_input(
     while turns > 0 {
         turns -= 1;
         let hearing = hear(
-            code, entry, groups, piece, line, work_area, results, out, have,
+            rt, input, code, entry, groups, piece, line, work_area, results, out, have,
         );
         match hearing {
             Hearing::On(n) => {
                 have = n;
             }
             Hearing::Over(n) => {
-                end_input(code, entry, groups, &line[..n], work_area, results, out);
+                end_input(rt, code, entry, groups, &line[..n], work_area, results, out);
                 return;
             }
             Hearing::Closed => return,

@@ -3,6 +3,7 @@
 
 mod input;
 mod lines;
+mod messages;
 mod output;
 mod rule_file;
 
@@ -16,6 +17,7 @@ use gateway_text::{write_refusal, write_unreadable};
 use lines::answer_input;
 use output::deliver;
 use rule_file::{Loading, load};
+use std::fs;
 
 // One byte more than a rule may have: with so many, it is known to be too long.
 const RULE_ROOM: usize = frame::RULE_LIMIT + 1;
@@ -31,23 +33,23 @@ const RESULT_AREA: usize = index::ROW_LENGTH;
 const LINE_ROOM: usize = gateway_line::HELD_LIMIT;
 
 // Says that the rule file cannot be read.
-fn say_unreadable(out: &mut [u8])
+fn say_unreadable(rt: &HostRuntime, out: &mut [u8])
     requires { answer_room ≤ length out.old }
 {
     let n = write_unreadable(out, 0);
-    deliver(&out[..n]);
+    deliver(rt, &out[..n]);
 }
 
 // Says why the rule is refused.
-fn say_refusal(f: syntax::Refusal, out: &mut [u8])
+fn say_refusal(rt: &HostRuntime, f: syntax::Refusal, out: &mut [u8])
     requires { answer_room ≤ length out.old }
 {
     let n = write_refusal(f, out, 0);
-    deliver(&out[..n]);
+    deliver(rt, &out[..n]);
 }
 
 // Answers standard input by a rule that stands compiled.
-fn serve(code: &[u32], entry: u32, groups: u32, out: &mut [u8])
+fn serve(rt: &HostRuntime, code: &[u32], entry: u32, groups: u32, out: &mut [u8])
     requires by_index { (rule : List ℕ) × Standing rule code.now entry groups }
     requires code_len { (length code.now ≡ rule_area_need) × (answer_room ≤ length out.old) }
 {
@@ -55,7 +57,10 @@ fn serve(code: &[u32], entry: u32, groups: u32, out: &mut [u8])
     let mut results = [0u32; RESULT_AREA];
     let mut line = [0u8; LINE_ROOM];
     let mut piece = io::large_buffer();
+    let mut input = rt.stdin();
     answer_input(
+        rt,
+        &mut input,
         code,
         entry,
         groups,
@@ -68,30 +73,29 @@ fn serve(code: &[u32], entry: u32, groups: u32, out: &mut [u8])
 }
 
 // Answers standard input by a rule, which is compiled once for all lines, or says why it is refused.
-fn serve_or_refuse(rule: &[u8], out: &mut [u8])
+fn serve_or_refuse(rt: &HostRuntime, rule: &[u8], out: &mut [u8])
     requires { answer_room ≤ length out.old }
 {
     let mut rule_area = [0u32; RULE_AREA];
     let readiness = prepare(rule, false, &mut rule_area);
     match readiness {
-        Readiness::Ready(entry, groups) => serve(&rule_area, entry, groups, out),
-        Readiness::Refused(f) => say_refusal(f, out),
+        Readiness::Ready(entry, groups) => serve(rt, &rule_area, entry, groups, out),
+        Readiness::Refused(f) => say_refusal(rt, f, out),
     }
 }
 
-fn main() {
+fn main(rt: HostRuntime) {
     let mut out = io::large_buffer();
-    let fd = os::open_read(b"rule.txt");
-    if fd < 0 {
-        say_unreadable(&mut out);
+    let Ok(mut file) = fs::open(&rt, "rule.txt") else {
+        say_unreadable(&rt, &mut out);
         return;
-    }
+    };
     let mut rule = [0u8; RULE_ROOM];
-    let loading = load(fd, &mut rule);
-    libc::close(fd);
+    let loading = load(&mut file, &mut rule);
+    drop(file);
     match loading {
-        Loading::Whole(n) => serve_or_refuse(&rule[..n], &mut out),
-        Loading::More(_n) => say_unreadable(&mut out),
-        Loading::Unreadable => say_unreadable(&mut out),
+        Loading::Whole(n) => serve_or_refuse(&rt, &rule[..n], &mut out),
+        Loading::More(_n) => say_unreadable(&rt, &mut out),
+        Loading::Unreadable => say_unreadable(&rt, &mut out),
     }
 }

@@ -1,10 +1,13 @@
 // Writing to standard output.
+use crate::messages::fail;
 
 // Writes out answers. No answer is lost in silence: where they cannot be written it says so, and answers false.
-pub(crate) fn deliver(answers: &[u8]) -> bool {
-    if io::write_all(libc::STDOUT_FILENO, answers) {
-        return true;
+pub(crate) fn deliver(rt: &HostRuntime, answers: &[u8]) -> bool {
+    match rt.write_all(answers) {
+        Ok(()) => true,
+        Err(e) => {
+            fail(rt, b"gateway: the answers could not be written", e);
+            false
+        }
     }
-    os::fail(b"gateway: the answers could not be written");
-    false
 }

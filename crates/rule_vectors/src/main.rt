@@ -5,56 +5,56 @@
 ghost use Rattle.std.specs.Prelude.{◌≤◌, length};
 ghost use Rattle.syntax.specs.Limits.{rule_limit, rule_area_need};
 
-use libc::{STDIN_FILENO, STDOUT_FILENO};
 use reader::Compilation;
 
 // Greater flags are held at this.
 const FLAGS_MOST: u32 = 1000;
 
 // One rule's verdict.
-fn tell(rule: &[u8], flags: u32, area: &mut [u32])
+fn tell(rt: &HostRuntime, rule: &[u8], flags: u32, area: &mut [u32])
     requires { (length rule.now ≤ rule_limit) × (rule_area_need ≤ length area.old) }
 {
     match reader::compile(rule, flags, false, area) {
         Compilation::Sound(_, groups) => {
-            io::write_all(STDOUT_FILENO, b"sound ");
-            io::print_decimal(STDOUT_FILENO, groups as u64);
+            let _ = rt.write_all(b"sound ");
+            let _ = rt.print(groups as u64);
         }
         Compilation::Refused(f) => {
             let reason = f.reason;
-            io::print_decimal(STDOUT_FILENO, syntax::number(reason) as u64);
-            io::write_all(STDOUT_FILENO, b" at ");
-            io::print_decimal(STDOUT_FILENO, f.place as u64);
+            let _ = rt.print(syntax::number(reason) as u64);
+            let _ = rt.write_all(b" at ");
+            let _ = rt.print(f.place as u64);
         }
     }
-    io::write_all(STDOUT_FILENO, b"\n");
+    let _ = rt.write_all(b"\n");
 }
 
 // The verdict on the rule of the line between two positions.
-fn line(input: &[u8], from: usize, to: usize, area: &mut [u32])
+fn line(rt: &HostRuntime, input: &[u8], from: usize, to: usize, area: &mut [u32])
     requires { (from ≤ to) × (to ≤ length input.now) × (rule_area_need ≤ length area.old) }
 {
     let mut rule = [0u8; 1000];
     let flags_end = vectors::word_end(input, from, to);
     let flags = vectors::number(input, from, flags_end, FLAGS_MOST);
     let n = vectors::decode(input, vectors::next_word(flags_end, to), to, &mut rule);
-    tell(&rule[..n], flags, area);
+    tell(rt, &rule[..n], flags, area);
 }
 
-fn lines(input: &[u8], area: &mut [u32])
+fn lines(rt: &HostRuntime, input: &[u8], area: &mut [u32])
     requires { rule_area_need ≤ length area.old }
 {
     let mut at = 0;
     while at < input.len() {
         let end = text::line_end(input, at);
-        line(input, at, end, area);
+        line(rt, input, at, end, area);
         at = end + 1;
     }
 }
 
-fn main() {
+fn main(rt: HostRuntime) {
     let mut buffer = vectors::input_buffer();
-    let n = io::read_full(STDIN_FILENO, &mut buffer);
+    let mut input = rt.stdin();
+    let n = vectors::read_full(&mut input, &mut buffer);
     let mut area = [0u32; 16384];
-    lines(&buffer[..n], &mut area);
+    lines(&rt, &buffer[..n], &mut area);
 }

@@ -28,7 +28,6 @@ use frame::{RULE_AREA_NEED, RULE_LIMIT, SUBJECT_LIMIT, WORK_PER_STEP};
 use gateway_answers::{BUDGET, Readiness, prepare};
 use gateway_text::ANSWER_ROOM;
 use index::UNSET;
-use libc::{STDIN_FILENO, STDOUT_FILENO};
 use machine::{END, Machine, fall_back, start};
 use parts::Answer;
 use plain::{make_move, tell_missed};
@@ -40,52 +39,52 @@ use text::line_end;
 // What a walk is lent, as the gateway lends it.
 const WORK_AREA: usize = WORK_PER_STEP * BUDGET as usize;
 
-fn put(text: &[u8]) {
-    io::write_all(STDOUT_FILENO, text);
+fn put(rt: &HostRuntime, text: &[u8]) {
+    let _ = rt.write_all(text);
 }
 
-fn put_number(n: u64) {
-    put(b" ");
-    io::print_decimal(STDOUT_FILENO, n);
+fn put_number(rt: &HostRuntime, n: u64) {
+    put(rt, b" ");
+    let _ = rt.print(n);
 }
 
-fn put_word(n: u32) {
-    put_number(n as u64);
+fn put_word(rt: &HostRuntime, n: u32) {
+    put_number(rt, n as u64);
 }
 
 // The first numbers of a slice, and the end of the line.
-fn put_numbers(numbers: &[u32], many: usize)
+fn put_numbers(rt: &HostRuntime, numbers: &[u32], many: usize)
     requires { many ≤ length numbers.now }
 {
     let mut i = 0;
     while i < many {
-        put_word(numbers[i]);
+        put_word(rt, numbers[i]);
         i += 1;
     }
-    put(b"\n");
+    put(rt, b"\n");
 }
 
 // A position, and the one behind what is read there.
-fn put_item(at: usize, end: usize) {
-    put(b"item");
-    put_number(at as u64);
-    put_number(end as u64);
-    put(b"\n");
+fn put_item(rt: &HostRuntime, at: usize, end: usize) {
+    put(rt, b"item");
+    put_number(rt, at as u64);
+    put_number(rt, end as u64);
+    put(rt, b"\n");
 }
 
 // The rule -------------------------------------------------------------------------
 
 // What is read as an item at each position. The reader asks only at the places that the nodes keep.
-fn put_items(rule: &[u8]) {
+fn put_items(rt: &HostRuntime, rule: &[u8]) {
     let mut at = 0;
     while at < rule.len() {
-        put_item(at, item_end(rule, 0, at));
+        put_item(rt, at, item_end(rule, 0, at));
         at += 1;
     }
 }
 
 // The nodes that the first pass leaves, and how many numbers they are.
-fn put_nodes(rule: &[u8], area: &mut [u32]) -> usize
+fn put_nodes(rt: &HostRuntime, rule: &[u8], area: &mut [u32]) -> usize
     requires { (length rule.now ≤ rule_limit) × (table_start ≤ length area.old) }
     ensures { result ≤ length area.new }
 {
@@ -95,33 +94,34 @@ fn put_nodes(rule: &[u8], area: &mut [u32]) -> usize
         return 0;
     };
     let used = d.used;
-    put(b"nodes");
-    put_numbers(area, used);
+    put(rt, b"nodes");
+    put_numbers(rt, area, used);
     used
 }
 
 // The walk -------------------------------------------------------------------------
 
 // The machine before a move, and the item that fails in the move, if one does.
-fn put_move(code: &[u32], sub: &[u8], regs: &[u32], work: &[u32], m: Machine)
+fn put_move(rt: &HostRuntime, code: &[u32], sub: &[u8], regs: &[u32], work: &[u32], m: Machine)
     requires regs_len { (length regs.now ≡ registers) × (length sub.now < 2 ^ 31) × (4 * m.height ≤ length work.now) }
     requires fits { Fits code.now m.pc }
 {
-    put(b"move");
-    put_number(m.pc as u64);
-    put_number(m.at as u64);
-    put_numbers(work, 4 * m.height);
+    put(rt, b"move");
+    put_number(rt, m.pc as u64);
+    put_number(rt, m.at as u64);
+    put_numbers(rt, work, 4 * m.height);
     let missed = tell_missed(code, sub, regs, m);
     if missed.any {
-        put(b"missed");
-        put_number(missed.place as u64);
-        put_number(missed.at as u64);
-        put(b"\n");
+        put(rt, b"missed");
+        put_number(rt, missed.place as u64);
+        put_number(rt, missed.at as u64);
+        put(rt, b"\n");
     }
 }
 
 // The next move. At the rule's end the spans are shown, and the machine falls back, as a listing has it do.
 fn advance(
+    rt: &HostRuntime,
     code: &[u32],
     sub: &[u8],
     regs: &mut [u32],
@@ -136,8 +136,8 @@ fn advance(
 {
     let pc = m.pc as usize;
     if code[pc] == END {
-        put(b"end");
-        put_numbers(regs, 2 * groups);
+        put(rt, b"end");
+        put_numbers(rt, regs, 2 * groups);
         return fall_back(code, regs, work, m.height);
     }
     make_move(code, sub, regs, work, m, m.at)
@@ -145,6 +145,7 @@ fn advance(
 
 // Every move of a walk, as many as the budget has steps.
 fn put_walk(
+    rt: &HostRuntime,
     code: &[u32],
     sub: &[u8],
     regs: &mut [u32],
@@ -162,8 +163,8 @@ fn put_walk(
         if left == 0 {
             return;
         }
-        put_move(code, sub, regs, work, head);
-        head = advance(code, sub, regs, work, head, groups);
+        put_move(rt, code, sub, regs, work, head);
+        head = advance(rt, code, sub, regs, work, head, groups);
         left -= 1;
     }
 }
@@ -171,7 +172,14 @@ fn put_walk(
 // The answer -----------------------------------------------------------------------
 
 // The row and the line of the gateway's answer.
-fn put_answer(code: &[u32], entry: u32, groups: u32, line: &[u8], work_area: &mut [u32])
+fn put_answer(
+    rt: &HostRuntime,
+    code: &[u32],
+    entry: u32,
+    groups: u32,
+    line: &[u8],
+    work_area: &mut [u32],
+)
     requires { ((rule : List ℕ) × Standing rule code.now entry groups) × (length code.now ≡ rule_area_need) × (work_area_need gateway_budget ≤ length work_area.old) }
 {
     let mut results = [0u32; ROW_LENGTH];
@@ -186,19 +194,20 @@ fn put_answer(code: &[u32], entry: u32, groups: u32, line: &[u8], work_area: &mu
         &mut out,
         0,
     );
-    put(b"row");
-    put_numbers(&results, 2 + 2 * groups as usize);
-    put(&out[..n]);
+    put(rt, b"row");
+    put_numbers(rt, &results, 2 + 2 * groups as usize);
+    put(rt, &out[..n]);
 }
 
 // The walk from start 0 by a rule that stands compiled, and the answer.
-fn put_line(code: &[u32], entry: u32, groups: u32, line: &[u8])
+fn put_line(rt: &HostRuntime, code: &[u32], entry: u32, groups: u32, line: &[u8])
     requires { ((rule : List ℕ) × Standing rule code.now entry groups) × (length code.now ≡ rule_area_need) × (length line.now < 2 ^ 31) }
 {
     let mut work_area = [0u32; WORK_AREA];
     let mut regs = [UNSET; REGISTERS];
     let m = start(entry, 0);
     put_walk(
+        rt,
         code,
         line,
         &mut regs,
@@ -207,50 +216,51 @@ fn put_line(code: &[u32], entry: u32, groups: u32, line: &[u8])
         BUDGET,
         groups as usize,
     );
-    put_answer(code, entry, groups, line, &mut work_area);
+    put_answer(rt, code, entry, groups, line, &mut work_area);
 }
 
 // The second pass over an area of which the first used so much, and what follows.
-fn put_code(rule: &[u8], line: &[u8], area: &mut [u32], used: usize)
+fn put_code(rt: &HostRuntime, rule: &[u8], line: &[u8], area: &mut [u32], used: usize)
     requires { (length area.old ≡ rule_area_need) × (used ≤ length area.old) × (length line.now < 2 ^ 31) }
 {
     let readiness = prepare(rule, false, area);
     let Readiness::Ready(entry, groups) = readiness else {
         return;
     };
-    put(b"code");
-    put_word(entry);
-    put_numbers(area, used);
-    put_line(area, entry, groups, line);
+    put(rt, b"code");
+    put_word(rt, entry);
+    put_numbers(rt, area, used);
+    put_line(rt, area, entry, groups, line);
 }
 
 // A rule and a line on their way.
-fn show(rule: &[u8], line: &[u8]) {
+fn show(rt: &HostRuntime, rule: &[u8], line: &[u8]) {
     if RULE_LIMIT < rule.len() {
         return;
     }
     if SUBJECT_LIMIT < line.len() {
         return;
     }
-    put_items(rule);
+    put_items(rt, rule);
     let mut area = [0u32; RULE_AREA_NEED];
-    let used = put_nodes(rule, &mut area);
-    put_code(rule, line, &mut area, used);
+    let used = put_nodes(rt, rule, &mut area);
+    put_code(rt, rule, line, &mut area, used);
 }
 
 // The input's first line is the rule, its second the line.
-fn show_both(input: &[u8]) {
+fn show_both(rt: &HostRuntime, input: &[u8]) {
     let end = line_end(input, 0);
     if input.len() <= end {
         return;
     }
     let from = end + 1;
     let to = line_end(input, from);
-    show(&input[..end], &input[from..to]);
+    show(rt, &input[..end], &input[from..to]);
 }
 
-fn main() {
+fn main(rt: HostRuntime) {
     let mut buffer = io::large_buffer();
-    let n = io::read_full(STDIN_FILENO, &mut buffer);
-    show_both(&buffer[..n]);
+    let mut input = rt.stdin();
+    let n = vectors::read_full(&mut input, &mut buffer);
+    show_both(&rt, &buffer[..n]);
 }

@@ -1,15 +1,35 @@
-// Lines of test vectors: digits, hex bytes and words.
+// Test vectors: the whole input of a program, and in its lines digits, hex bytes and words.
 #![tactic(auto)]
 
 ghost use Rattle.std.specs.Prelude.{◌≡◌, ◌≤◌, length};
 ghost use Rattle.std.proofs.Math.Seq.{slice};
+ghost use Rattle.io.specs.Counts.{IsPrefixLen};
 ghost use Rattle.vectors.specs.Text.{digit_value, number_in, Decoded, word_end, next_word};
+
+use std::io::Read;
 
 // 262,144 zeros, for the whole input of a program.
 pub fn input_buffer() -> [u8; 262144]
     ensures { 262144 ≡ length result }
 {
     [0; 262144]
+}
+
+// Reads until the buffer is full, the input ends or a read fails, and answers how many bytes it put at its start.
+pub fn read_full<R: Read>(input: &mut R, buffer: &mut [u8]) -> usize
+    ensures { IsPrefixLen result buffer.new }
+{
+    let mut done = 0;
+    while done < buffer.len() {
+        let Ok(n) = input.read(&mut buffer[done..]) else {
+            return done;
+        };
+        if n == 0 {
+            return done;
+        }
+        done += n;
+    }
+    done
 }
 
 // What a hex digit stands for; 0 for any other byte.

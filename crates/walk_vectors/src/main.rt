@@ -13,63 +13,63 @@ ghost use Rattle.semantics.specs.Walk.{Trace};
 ghost use Rattle.machine.specs.Words.{now_of};
 ghost use Rattle.machine.specs.Ready.{Ready};
 
-use libc::{STDIN_FILENO, STDOUT_FILENO};
 use machine::{Machine, Stop};
 use reader::Compilation;
 use syntax::REGISTERS;
 
-fn put(text: &[u8]) {
-    io::write_all(STDOUT_FILENO, text);
+fn put(rt: &HostRuntime, text: &[u8]) {
+    let _ = rt.write_all(text);
 }
 
-fn put_number(n: u32) {
-    io::print_decimal(STDOUT_FILENO, n as u64);
+fn put_number(rt: &HostRuntime, n: u32) {
+    let _ = rt.print(n as u64);
 }
 
 // A group's span.
-fn put_span(from: u32, to: u32) {
+fn put_span(rt: &HostRuntime, from: u32, to: u32) {
     if from == 4294967295 {
-        put(b" -");
+        put(rt, b" -");
         return;
     }
-    put(b" ");
-    put_number(from);
-    put(b"-");
-    put_number(to);
+    put(rt, b" ");
+    put_number(rt, from);
+    put(rt, b"-");
+    put_number(rt, to);
 }
 
 // The spans of a rule's groups, from the registers.
-fn put_spans(regs: &[u32], groups: usize)
+fn put_spans(rt: &HostRuntime, regs: &[u32], groups: usize)
     requires { 2 * groups ≤ length regs.now }
 {
     let mut i = 0;
     while i < groups {
-        put_span(regs[2 * i], regs[2 * i + 1]);
+        put_span(rt, regs[2 * i], regs[2 * i + 1]);
         i += 1;
     }
 }
 
 // One end of a walk.
-fn put_end(steps: u32, at: u32, regs: &[u32], groups: usize)
+fn put_end(rt: &HostRuntime, steps: u32, at: u32, regs: &[u32], groups: usize)
     requires { 2 * groups ≤ length regs.now }
 {
-    put(b"end ");
-    put_number(steps);
-    put(b" ");
-    put_number(at);
-    put_spans(regs, groups);
-    put(b"\n");
+    put(rt, b"end ");
+    put_number(rt, steps);
+    put(rt, b" ");
+    put_number(rt, at);
+    put_spans(rt, regs, groups);
+    put(rt, b"\n");
 }
 
 // How a walk stopped.
-fn put_stop(how: &[u8], steps: u32) {
-    put(how);
-    put_number(steps);
-    put(b"\n");
+fn put_stop(rt: &HostRuntime, how: &[u8], steps: u32) {
+    put(rt, how);
+    put_number(rt, steps);
+    put(rt, b"\n");
 }
 
 // All ends of a walk.
 fn walk(
+    rt: &HostRuntime,
     code: &[u32],
     sub: &[u8],
     regs: &mut [u32],
@@ -89,15 +89,15 @@ fn walk(
             Stop::End(used, e) => {
                 left -= used;
                 let height = e.height;
-                put_end(budget - left, e.at, regs, groups);
+                put_end(rt, budget - left, e.at, regs, groups);
                 head = machine::fall_back(code, regs, work, height);
             }
             Stop::Nothing(used) => {
-                put_stop(b"done ", budget - left + used);
+                put_stop(rt, b"done ", budget - left + used);
                 return;
             }
             Stop::Spent => {
-                put_stop(b"spent ", budget);
+                put_stop(rt, b"spent ", budget);
                 return;
             }
         }
@@ -106,6 +106,7 @@ fn walk(
 
 // The walk of a compiled rule from a start, with fresh registers.
 fn walk_from(
+    rt: &HostRuntime,
     code: &[u32],
     sub: &[u8],
     work: &mut [u32],
@@ -119,11 +120,12 @@ fn walk_from(
 {
     let mut regs = [4294967295u32; REGISTERS];
     let m = machine::start(pc as u32, start as u32);
-    walk(code, sub, &mut regs, work, m, budget, groups as usize);
+    walk(rt, code, sub, &mut regs, work, m, budget, groups as usize);
 }
 
 // The walk of a rule from a start, or why there is none.
 fn tell(
+    rt: &HostRuntime,
     rule: &[u8],
     flags: u32,
     sub: &[u8],
@@ -135,23 +137,23 @@ fn tell(
     requires { (length rule.now ≤ rule_limit) × (length area.old ≡ rule_area_need) × (length sub.now < 2 ^ 32) × (8 * budget ≤ length work.old) × (2 * budget < 2 ^ 32) }
 {
     if sub.len() < start {
-        put(b"no such start\n");
+        put(rt, b"no such start\n");
         return;
     }
     match reader::compile(rule, flags, false, area) {
-        Compilation::Sound(pc, groups) => walk_from(area, sub, work, pc, groups, start, budget),
+        Compilation::Sound(pc, groups) => walk_from(rt, area, sub, work, pc, groups, start, budget),
         Compilation::Refused(f) => {
             let reason = f.reason;
-            put_number(syntax::number(reason));
-            put(b" at ");
-            io::print_decimal(STDOUT_FILENO, f.place as u64);
-            put(b"\n");
+            put_number(rt, syntax::number(reason));
+            put(rt, b" at ");
+            let _ = rt.print(f.place as u64);
+            put(rt, b"\n");
         }
     }
 }
 
 // The walk that the line between two positions asks for.
-fn line(input: &[u8], from: usize, to: usize, area: &mut [u32], work: &mut [u32])
+fn line(rt: &HostRuntime, input: &[u8], from: usize, to: usize, area: &mut [u32], work: &mut [u32])
     requires { (from ≤ to) × (to ≤ length input.now) × (length area.old ≡ rule_area_need) × (8 * 20000 ≤ length work.old) }
 {
     if from == to {
@@ -172,24 +174,25 @@ fn line(input: &[u8], from: usize, to: usize, area: &mut [u32], work: &mut [u32]
     let start = vectors::number(input, start_at, start_end, 20000) as usize;
     let n = vectors::decode(input, rule_at, rule_end, &mut rule);
     let k = vectors::decode(input, sub_at, to, &mut sub);
-    tell(&rule[..n], flags, &sub[..k], start, budget, area, work);
+    tell(rt, &rule[..n], flags, &sub[..k], start, budget, area, work);
 }
 
-fn lines(input: &[u8], area: &mut [u32], work: &mut [u32])
+fn lines(rt: &HostRuntime, input: &[u8], area: &mut [u32], work: &mut [u32])
     requires { (length area.old ≡ rule_area_need) × (8 * 20000 ≤ length work.old) }
 {
     let mut at = 0;
     while at < input.len() {
         let end = text::line_end(input, at);
-        line(input, at, end, area, work);
+        line(rt, input, at, end, area, work);
         at = end + 1;
     }
 }
 
-fn main() {
+fn main(rt: HostRuntime) {
     let mut buffer = vectors::input_buffer();
-    let n = io::read_full(STDIN_FILENO, &mut buffer);
+    let mut input = rt.stdin();
+    let n = vectors::read_full(&mut input, &mut buffer);
     let mut area = [0u32; 16384];
     let mut work = [0u32; 160000];
-    lines(&buffer[..n], &mut area, &mut work);
+    lines(&rt, &buffer[..n], &mut area, &mut work);
 }

@@ -1,0 +1,14 @@
+-- Each line is told of in turn; the area keeps its length, and the position moves on.
+use native.Mathlib.Omega.{arith}
+use Rattle.text.specs.Laws.Lines.{line-least, line-within}
+use borrow.Author.Rules.{rules}
+use Rattle.rule_vectors.proofs.lines.Goals as goal
+
+pub line-requires : goal.line-requires
+line-requires c = (omega arith, line-within _ _ _ c.line_end-end.ensures (omega arith), search rules)
+
+pub overflow_add-at : goal.overflow_add-at
+overflow_add-at c = omega (arith, line-within _ _ _ c.line_end-end.ensures (omega arith))
+
+pub loop-at-smaller : goal.loop-at-smaller
+loop-at-smaller c = omega (arith, line-least _ _ _ c.line_end-end.ensures)

@@ -1,0 +1,9 @@
+-- Each number in turn.
+use Prim.Native.Nat.{◌-◌, ◌≤◌}
+use Rattle.tour.proofs.put_numbers.Given as goal
+
+abbrev pub invariant-loop-i : goal.invariant-loop-i
+invariant-loop-i l = l.i ≤ l.many
+
+abbrev pub decreases-loop-i : goal.decreases-loop-i
+decreases-loop-i l = l.many - l.i

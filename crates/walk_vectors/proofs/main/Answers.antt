@@ -1,0 +1,8 @@
+-- The areas are as long as the walks need.
+use Rattle.syntax.specs.Limits.{rule_area_need}
+use borrow.Author.Rules.{rules}
+use Rattle.walk_vectors.proofs.main.Goals as goal
+
+pub lines-requires : goal.lines-requires
+unfolding rule_area_need
+lines-requires c = search rules
