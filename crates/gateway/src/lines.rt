@@ -6,10 +6,10 @@ ghost use Rattle.gateway_answers.specs.Promises.{Lent};
 ghost use Rattle.gateway.specs.Counts.{Held};
 
 use crate::input::{Input, read_some};
-use crate::messages::fail;
 use crate::output::deliver;
 use gateway_line::{Progress, advance, finish};
 use gateway_text::ANSWER_ROOM;
+use office::fail;
 use std::io::Read;
 
 // How many bytes wait in the output, and whether it can still be written.

@@ -3,7 +3,6 @@
 
 mod input;
 mod lines;
-mod messages;
 mod output;
 mod rule_file;
 

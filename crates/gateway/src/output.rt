@@ -1,5 +1,5 @@
 // Writing to standard output.
-use crate::messages::fail;
+use office::fail;
 
 // Writes out answers. No answer is lost in silence: where they cannot be written it says so, and answers false.
 pub(crate) fn deliver(rt: &HostRuntime, answers: &[u8]) -> bool {
