@@ -230,6 +230,7 @@ line 1: not matched
     t.run("no lines file", ["rule", "none"], "", "readings: none: No such file or directory\n")
     t.run("an empty name", ["rule", ""], "", "readings: : No such file or directory\n")
     t.run("a name over 4096 bytes", ["x" * 4097, "lines"], "", "readings: the name of a file: File name too long\n")
+    t.run("a name that is not UTF-8", [b"\xe9", "lines"], "", "readings: \xe9: Invalid or incomplete multibyte or wide character\n")
     t.run("a folder for the rule", [".", "lines"], "", "readings: the rule could not be read: Is a directory\n")
     t.run("a folder for the lines", ["rule", "."], "\nThe lines could not be read to their end. Up to there:" + summary(0),
           "readings: the lines could not be read to their end: Is a directory\n")
