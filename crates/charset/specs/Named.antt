@@ -2,7 +2,7 @@
 -- perlrecharclass `\h` and `\v` don't change with `/a`. So `\h` also has A0 and `\v` also has 85; `\H` and `\V` lose them. `\s`, blank, space
 -- and `\w` stay." `\H` and `\V` are complements of these sets, so that they have no lines of their own.
 -- docs/REFERENCE.md, 5.1, 5.4
-use Rattle.std.specs.Prelude.{List, [], ◌∷◌, Bool, true, false, ◌&&◌, ◌||◌, ℕ, leb}
+use Rattle.std.specs.Prelude.{List, [], ◌∷◌, Bool, false, ◌&&◌, ◌||◌, ℕ, leb}
 use Rattle.charset.specs.declared.Named.{Named}
 use Rattle.charset.specs.declared.Named.TheVariants.{Digit, Word, Space, Horizontal, Vertical, Alpha, Upper, Lower, Alnum, Xdigit, Blank, Cntrl, Ascii, Print, Graph, Punct}
 

@@ -13,7 +13,7 @@ use denote.Enum.Declared.{tag_of}
 use borrow.Author.Tests.{le-leb, lt-leb, ne_eqb}
 use Rattle.syntax.specs.declared.Reason.TheVariants.{UnclosedClass, BadRange, MixedRange}
 use Rattle.syntax.specs.declared.Refusal.{Refusal}
-use Rattle.syntax.specs.Read.{byte, is_end, is, Read, sound, refused, and_then}
+use Rattle.syntax.specs.Read.{byte, is_end, Read, sound, refused, and_then}
 use Rattle.syntax.specs.Sets.{Member, single, range, named, not_named, is_member}
 use Rattle.syntax.specs.Escapes.{class_escape}
 use Rattle.syntax.specs.Classes.{posix, element, range_end, alike, range_of, makes_range, member}

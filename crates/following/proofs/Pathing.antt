@@ -1,19 +1,18 @@
 -- Following a path turn by turn: what is still to come of it, and what the budget makes of that.
-use mathlib.Core.Path.{◌≡◌, refl, ap, sym, ◌∙◌}
-use mathlib.Core.List.{List, [], ◌∷◌}
+use mathlib.Core.Path.{◌≡◌, refl, ap, ◌∙◌}
+use mathlib.Core.List.{List}
 use Prim.Native.Nat.{ℕ, zero, suc, ◌+◌, ◌-◌, ◌≤◌, ◌<◌}
 use native.Mathlib.Omega.{arith}
 use lib.ListN.{length, get_or, take, drop, drop_of_length-le}
 use lib.Seq.{drop-cons}
 use Rattle.syntax.specs.Limits.{spans_length}
 use Rattle.semantics.specs.States.{State}
-use Rattle.semantics.specs.Proposals.{Trail, step_then, arrives, strays, steps_then, Finding, a_reading, no_reading, exhausts, Check, unless_left, one_more, within}
+use Rattle.semantics.specs.Proposals.{Trail, step_then, arrives, strays, steps_then, exhausts, Check, unless_left, one_more, within}
 use Rattle.semantics.proofs.Laws.Cases.{clash}
-use Rattle.machine.specs.Code.{Program}
 use Rattle.machine.specs.Laws.Code.{decode-at}
 use Rattle.following.specs.declared.Followed.TheVariants.{Arrived, Missed, Spent}
-use Rattle.turns.specs.Turns.{Turn, onward, astray, finished, turn_by, turn, Safe, Treads, moves, stops, ended}
-use Rattle.following.specs.Paths.{told, FollowedAs, Follows}
+use Rattle.turns.specs.Turns.{onward, astray, finished, turn_by, turn, Safe, Treads, moves, stops, ended}
+use Rattle.following.specs.Paths.{told, Follows}
 
 -- The budget ----------------------------------------------------------------------------
 

@@ -1,5 +1,5 @@
 -- What following a whole path promises: what `within` says of the path that is trodden, within the budget.
-use Rattle.std.specs.Prelude.{◌≡◌, List, ℕ, ◌+◌, take}
+use Rattle.std.specs.Prelude.{◌≡◌, List, ℕ, take}
 use Rattle.syntax.specs.Limits.{spans_length}
 use Rattle.semantics.specs.States.{State}
 use Rattle.semantics.specs.Proposals.{Trail, Finding, a_reading, no_reading, exhausts, Check, within}

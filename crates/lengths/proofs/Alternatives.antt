@@ -15,7 +15,7 @@ use Rattle.syntax.specs.WellFormed.{Proper, Propers, levels, levels_in}
 use Rattle.linker.specs.Nodes.{Region, bar_word, Nothing, Branch, Chain, Several, Preceding}
 use Rattle.linker.proofs.Regions.{chain-order, several-node}
 use Rattle.lengths.specs.declared.Measured.{Measured}
-use Rattle.lengths.specs.Measures.{sooner, Shorter, Deep, DeepBranches, Of, OfBranches, Finds, FindsBranches}
+use Rattle.lengths.specs.Measures.{sooner, Shorter, Deep, DeepBranches, OfBranches, Finds, FindsBranches}
 use Rattle.lengths.proofs.Numbers.{sooner-both, marked-first, marked-three}
 
 -- Branches that are left, or none ----------------------------------------------------------

@@ -9,8 +9,8 @@ use Rattle.syntax.specs.Names.{Names}
 use Rattle.syntax.specs.Tree.{Rule, Branches}
 use Rattle.syntax.specs.Compiled.{marked}
 use Rattle.syntax.specs.Lengths.{capped, least_length, shortest}
-use Rattle.syntax.specs.Reading.{first_some, unresolved, unresolved_in, idle, idle_in, profiled}
-use Rattle.syntax.specs.Checkable.{unfollowed, unfollowed_in, crowded_at, crowded, crowded_in, uncheckable}
+use Rattle.syntax.specs.Reading.{unresolved, unresolved_in, idle, idle_in, profiled}
+use Rattle.syntax.specs.Checkable.{unfollowed, unfollowed_in, crowded, crowded_in, uncheckable}
 use Rattle.syntax.specs.WellFormed.{Proper, Propers, levels, levels_in}
 use Rattle.linker.specs.Nodes.{Region, bar_word, Inside, Preceding}
 use Rattle.lengths.specs.declared.Measured.{Measured}

@@ -14,7 +14,7 @@ use Rattle.charset.specs.Laws.Cases.{other-before, folding-single}
 use Rattle.syntax.specs.declared.Assertion.TheVariants.{TextStart, LineStart, TextEnd, LastLineEnd, LineEnd, WordBoundary, NoWordBoundary}
 use Rattle.syntax.specs.declared.Refusal.{Refusal}
 use Rattle.syntax.specs.Limits.{dot_all_bit, multiline_bit}
-use Rattle.syntax.specs.Read.{byte, is, Read, sound, refused, and_then}
+use Rattle.syntax.specs.Read.{byte, Read, sound, refused, and_then}
 use Rattle.syntax.specs.Sets.{Member, single, Class, is_member, is_any, in_class, only, not_newline, any_byte}
 use Rattle.syntax.specs.Tree.{Item, byte_in, assert, reference}
 use Rattle.syntax.specs.Flags.{dot_all, multiline, ignore_case, depot}

@@ -13,7 +13,7 @@ use lib.Seq.{get_or-drop}
 use Rattle.charset.specs.Class.{has}
 use Rattle.syntax.specs.Names.{Names}
 use Rattle.syntax.specs.Tree.{Item, byte_in, assert, reference, Rule, empty, item, seq, alt, group, repeat, held, look, Branches, one, also}
-use Rattle.linker.specs.Nodes.{before_of, Last, Region, Nothing, Sequence, Branch, Barred, Plain, Marked, ItemPart, Part, Chain, Inside, Several, Preceding}
+use Rattle.linker.specs.Nodes.{before_of, Last, Region, Nothing, Sequence, Branch, Plain, Marked, ItemPart, Part, Chain, Inside, Several, Preceding}
 
 -- equal numbers in a region
 abbrev pub Same : ℕ → ℕ → List ℕ → List ℕ → Type 0

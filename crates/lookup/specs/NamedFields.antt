@@ -2,7 +2,7 @@
 -- defined: of the index and the row that `match_call` leaves, whatever is handed in.
 -- docs/REFERENCE.md, 16.7
 use Rattle.std.specs.Prelude.{◌≡◌, List, false, ℕ, ◌≤◌, length}
-use Rattle.std.proofs.Common.{sym, ap, ◌∙◌}
+use Rattle.std.proofs.Common.{ap, ◌∙◌}
 use Rattle.std.proofs.Math.Seq.{slice}
 use Rattle.syntax.specs.Limits.{row_length}
 use Rattle.syntax.specs.Tree.{Rule}

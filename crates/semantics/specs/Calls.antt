@@ -10,7 +10,7 @@ use Rattle.syntax.specs.Tree.{Rule}
 use Rattle.syntax.specs.Reading.{names_of, reading}
 use Rattle.semantics.specs.States.{Row, row}
 use Rattle.semantics.specs.NameIndex.{name_index}
-use Rattle.semantics.specs.Answers.{Outcome, matched, not_matched, exhausted, Answer, answer, Ending, complete, full, exhausted_at, Listing, listing}
+use Rattle.semantics.specs.Answers.{Outcome, matched, not_matched, exhausted, answer, Ending, complete, full, exhausted_at, Listing, listing}
 use Rattle.semantics.specs.Explanations.{Failure, failures, furthest, closest, marks}
 use Rattle.semantics.specs.Scans.{scan}
 

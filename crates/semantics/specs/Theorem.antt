@@ -1,6 +1,6 @@
 -- The walk from a start lists the derivations from it: every one, nothing else, each once, by priority.
 -- docs/REFERENCE.md, 14.2
-use Rattle.std.specs.Prelude.{◌≡◌, List, map, ◌⊎◌, ℕ, ◌≤◌, ◌<◌}
+use Rattle.std.specs.Prelude.{◌≡◌, List, map, ◌⊎◌, ℕ, ◌<◌}
 use Rattle.syntax.specs.Tree.{Rule}
 use Rattle.semantics.specs.States.{Before, code, State, row}
 use Rattle.semantics.specs.Derivations.{Derivation}

@@ -1,6 +1,6 @@
 -- The flags, and what else is known when a rule is read.
 -- docs/REFERENCE.md, 3
-use Rattle.std.specs.Prelude.{List, Bool, ℕ}
+use Rattle.std.specs.Prelude.{Bool, ℕ}
 use Rattle.charset.specs.Class.{bit}
 use Rattle.syntax.specs.Limits.{dot_all_bit, multiline_bit, ignore_case_bit, extended_bit, depot_bit}
 

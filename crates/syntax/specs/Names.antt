@@ -1,6 +1,6 @@
 -- 02, request e): the names of groups. "A name is 1 to 16 letters, digits or underscores, and begins with no digit."
 -- docs/REFERENCE.md, 9.3, 7.4
-use Rattle.std.specs.Prelude.{List, [], ◌∷◌, Bool, true, false, not, ◌&&◌, ◌||◌, ℕ, suc, ◌+◌, length, drop, get_or, leb, if◌then◌else◌}
+use Rattle.std.specs.Prelude.{List, [], ◌∷◌, Bool, false, not, ◌&&◌, ◌||◌, ℕ, suc, ◌+◌, length, drop, get_or, leb, if◌then◌else◌}
 use Prim.Native.Char.{Char}
 use Rattle.charset.specs.declared.Named.TheVariants.{Digit, Word}
 use Rattle.charset.specs.Named.{in_named}

@@ -1,6 +1,6 @@
 -- A rule as a list of bytes, and what reading a part of it gives: a value with the position behind it, or a refusal.
 -- docs/REFERENCE.md, 4.1
-use Rattle.std.specs.Prelude.{List, [], ◌∷◌, Bool, true, false, ◌&&◌, ℕ, get_or, leb, eqb}
+use Rattle.std.specs.Prelude.{List, [], ◌∷◌, Bool, ◌&&◌, ℕ, get_or, leb, eqb}
 use Prim.Native.Char.{Char, code}
 use Prim.Native.String.{String, [] as no_char, ◌∷◌ as char}
 use Rattle.syntax.specs.declared.Reason.{Reason}

@@ -1,7 +1,7 @@
 -- What a turn at a node comes to, by what was tested there. Assumes nothing.
 use Rattle.std.specs.Prelude.{if◌then◌else◌}
 use mathlib.Core.Path.{◌≡◌, refl, ap, sym, ◌∙◌}
-use mathlib.Core.List.{List, [], ◌∷◌}
+use mathlib.Core.List.{List, ◌∷◌}
 use mathlib.Core.Option.{Option, none, some}
 use mathlib.Core.Bool.{Bool, true, false, ◌&&◌}
 use Prim.Native.Nat.{ℕ, zero, suc, ◌+◌, ◌-◌, ◌≤◌, ◌<◌, ◌^◌}
@@ -16,9 +16,9 @@ use Rattle.syntax.specs.Limits.{unset, spans_length, bound_limit}
 use Rattle.syntax.specs.Read.{byte}
 use Rattle.semantics.specs.Assertions.{holds}
 use Rattle.semantics.specs.States.{State, moved}
-use Rattle.semantics.specs.Items.{Tried, fails, goes, when, same_byte, same_at, refer, compared, paid_for}
+use Rattle.semantics.specs.Items.{goes, when, same_byte, same_at, refer, compared, paid_for}
 use Rattle.semantics.specs.Repeats.{is_full, allowed, decision}
-use Rattle.machine.specs.Code.{Program, Instruction, in_set, holding, same_as, folded_of, assertion_of, most_of, repeat_at, decode_as, decode, FitsAs}
+use Rattle.machine.specs.Code.{Program, Instruction, in_set, folded_of, assertion_of, most_of, repeat_at, decode_as, decode, FitsAs}
 use Rattle.machine.specs.Moves.{set2, state, bump, tested, price, takes}
 use Rattle.machine.specs.Laws.Code.{decode-at}
 use Rattle.machine.specs.Laws.Extent.{within}

@@ -26,15 +26,15 @@ use Rattle.semantics.specs.Proposals.{Trail, step_then, arrives, strays, Follow,
 use Rattle.semantics.proofs.Laws.Right.{try-reach}
 use Rattle.semantics.proofs.Laws.Cases.{three}
 use Rattle.semantics.proofs.Laws.Following.{begun, begun-fewer}
-use Rattle.machine.specs.Code.{Program, Test, in_set, holding, same_as, Instruction, tests, opens, closes, branches, last_branch, enters, loops, runs, ends, breaks, marks, keeps, returns, forbids, refutes, repeat_at, decode, RepeatFits, Fits}
+use Rattle.machine.specs.Code.{Program, Test, in_set, holding, same_as, tests, opens, closes, branches, last_branch, loops, repeat_at, decode, RepeatFits, Fits}
 use Rattle.machine.specs.Moves.{Bytes, set2, state, bump, tested, price}
 use Rattle.machine.specs.Laws.Code.{assertion-read, folded_read, repeat_read, decode-at, fits}
 use Rattle.machine.specs.Laws.Registers.{first-set2, second-set2}
 use Rattle.machine.specs.Laws.Rounds.{counted, counted_none, bump-counted, decision-counted}
-use Rattle.machine.specs.Laws.Run.{Observer, emits}
+use Rattle.machine.specs.Laws.Run.{emits}
 use Rattle.machine.specs.Laws.Walk.{Agree, agree-byte, agree-assert, agree-reference, Mirrors, Later, at_once, later-still, mirrors-chose, later-chose, outside, mirrors-set2, closing}
 use Rattle.machine.specs.Theorem.{Stands, Clear}
-use Rattle.turns.specs.Turns.{Turn, onward, astray, finished, body_here, other_than, on_from, body_of, branching, choosing_branch, beginning, either_turn, settled, deciding, behind_item, turn_by, turn, Safe, Treads, moves, stops, ended}
+use Rattle.turns.specs.Turns.{onward, astray, finished, on_from, body_of, branching, choosing_branch, beginning, either_turn, settled, deciding, behind_item, turn_by, turn, Safe, Treads, moves, stops, ended}
 
 -- Paths -----------------------------------------------------------------------
 

@@ -7,7 +7,7 @@ use Prim.Native.Nat.{ℕ, zero, suc, ◌+◌, ◌-◌, ◌*◌, ◌≤◌, ◌<�
 use native.Mathlib.Omega.{arith}
 use Rattle.std.proofs.lemmas.List.{length-replicate}
 use Rattle.std.proofs.Math.Seq.{drop-append-add}
-use Rattle.syntax.specs.Limits.{group_limit, name_limit, name_entry, name_index_need}
+use Rattle.syntax.specs.Limits.{group_limit, name_limit, name_entry}
 use Rattle.syntax.specs.Sets.{same_bytes}
 use Rattle.syntax.specs.Names.{Name, Names, is_used}
 use Rattle.syntax.specs.Laws.Names.{Short, Apart}

@@ -7,7 +7,7 @@ use Rattle.charset.specs.Class.{has}
 use Rattle.syntax.specs.declared.Greed.TheVariants.{Lazy}
 use Rattle.syntax.specs.Limits.{unset}
 use Rattle.semantics.specs.Assertions.{holds}
-use Rattle.semantics.specs.Items.{fails, when}
+use Rattle.semantics.specs.Items.{when}
 use Rattle.semantics.specs.Repeats.{is_full, allowed, decision}
 use Rattle.semantics.specs.Walk.{step, miss}
 use Rattle.machine.specs.Code.{pick_most, most_of, greed_of, assertion_of, repeat_at, decode_as}

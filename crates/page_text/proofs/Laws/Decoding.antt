@@ -3,10 +3,9 @@
 use Rattle.std.specs.Prelude.{◌≡◌, refl, List, [], ◌∷◌, ◌++◌, ℕ, ◌+◌, ◌*◌, ◌/◌, ◌%◌, ◌≤◌, eqb, length, get_or, drop, if◌then◌else◌}
 use Rattle.std.proofs.Common.{sym, ap, ◌∙◌, arith, ne_eqb, length-append}
 use Rattle.syntax.specs.Read.{is}
-use Rattle.fields_text.specs.Escaping.{hex_digit}
 use Rattle.fields_text.proofs.Laws.Decoding.{digit_value, digit-back}
 use Rattle.page_text.specs.Showing.{numbered, show, shown}
-use Rattle.page_text.proofs.Laws.Cases.{Plain, Case, as_less, as_greater, as_and, as_double, as_single, as_itself, as_number, case-of}
+use Rattle.page_text.proofs.Laws.Cases.{Case, as_less, as_greater, as_and, as_double, as_single, as_itself, as_number, case-of}
 
 -- the byte that a shown text begins with, and the text behind it
 unfoldable pub decode : List ℕ → ℕ × List ℕ

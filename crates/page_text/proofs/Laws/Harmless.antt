@@ -2,11 +2,11 @@
 -- begins a reference, to one of seven characters.
 -- docs/REFERENCE.md, 19.5
 use Rattle.std.specs.Prelude.{◌≡◌, refl, List, [], ◌∷◌, ◌++◌, Bool, true, false, not, ◌&&◌, ◌||◌, ℕ, ◌+◌, ◌/◌, ◌%◌, ◌≤◌, ◌<◌, leb, ltb, eqb, if◌then◌else◌}
-use Rattle.std.proofs.Common.{ap, ◌∙◌, arith, ne_eqb, le-leb, ltb-true, ltb-false}
+use Rattle.std.proofs.Common.{◌∙◌, arith, ne_eqb, le-leb, ltb-true, ltb-false}
 use Rattle.syntax.specs.Read.{bytes}
 use Rattle.fields_text.specs.Escaping.{hex_digit}
 use Rattle.page_text.specs.Showing.{numbered, show, shown}
-use Rattle.page_text.proofs.Laws.Cases.{Plain, Case, as_less, as_greater, as_and, as_double, as_single, as_itself, as_number, case-of}
+use Rattle.page_text.proofs.Laws.Cases.{Case, as_less, as_greater, as_and, as_double, as_single, as_itself, as_number, case-of}
 
 -- No markup -----------------------------------------------------------------
 

@@ -1,6 +1,6 @@
 -- A check as a call, case by case: refused for itself, for its rule, for l)'s forms or for too many branches, or else it returns `check` of its rule's tree, and writes its
 -- row.
-use Rattle.std.specs.Prelude.{◌≡◌, List, ◌⊎◌, ℕ, min, ◌≤◌, length, eqb, if◌then◌else◌}
+use Rattle.std.specs.Prelude.{◌≡◌, List, ◌⊎◌, ℕ, ◌≤◌, length, eqb, if◌then◌else◌}
 use Rattle.std.proofs.Math.Path.{refl, ap}
 use Rattle.std.proofs.Common.{sym, ◌∙◌, arith}
 use Rattle.std.proofs.Math.Logic.{inl, inr}

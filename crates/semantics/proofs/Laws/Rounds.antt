@@ -1,5 +1,5 @@
 -- A repeat's rounds: at each decision fewer can still follow, so that the bound on them is never reached, and the walk is right.
-use Rattle.std.specs.Prelude.{◌≡◌, refl, List, ◌∷◌, ◌⊎◌, Bool, true, false, ltb, eqb}
+use Rattle.std.specs.Prelude.{◌≡◌, refl, ◌∷◌, ◌⊎◌, Bool, true, false, ltb, eqb}
 use Rattle.std.proofs.Math.Path.{ap}
 use Rattle.std.proofs.Math.Logic.{inl, inr}
 use Prim.Native.Nat.{ℕ, zero, suc, ◌+◌, ◌-◌, ◌*◌, ◌≤◌, ◌<◌}
@@ -11,7 +11,7 @@ use Rattle.syntax.specs.declared.Most.{Most}
 use Rattle.semantics.specs.States.{again, State, chose}
 use Rattle.semantics.specs.Repeats.{Next, round, leave, either, is_full, allowed, decision}
 use Rattle.semantics.specs.Derivations.{Again, On, Rounds, stop, turn}
-use Rattle.semantics.specs.Walk.{step, Trace, Go, ◌▹◌, decide, rounds}
+use Rattle.semantics.specs.Walk.{step, Trace, Go, decide, rounds}
 use Rattle.semantics.proofs.Laws.Traces.{bind-same}
 use Rattle.semantics.proofs.Laws.Right.{Reach, Right, right-step, right-as, right-bind, again-reach, right-decide}
 

@@ -33,8 +33,8 @@ use Rattle.syntax.specs.Quantifiers.{quantifier}
 use Rattle.syntax.specs.Grammar.{behind_blanks, atom, Inner, closing, capturing, uncaptured, grouped, Sequence, unrepeatable, repeatable, repeated, whole, with_item, unfit_for, repeating, breaks_line, next_item, part, ends, sequence, branch, further, alternation, inside}
 use Rattle.syntax.specs.Lengths.{least_length, unbounded}
 use Rattle.syntax.specs.Reading.{parsed, names_of, first_some, dangling, unresolved, unresolved_in, idle, idle_in, unless, profiled, settled, reading}
-use Rattle.syntax.specs.Laws.Forward.{Given, if-given, test-given, then-given, Holding}
-use Rattle.syntax.specs.Laws.Within.{name_up_to-in, Upto, UptoIn, Inward, not_end, is-in, quantifier-in, part_by, ends-false, branch_in, alternation-in, inside-in}
+use Rattle.syntax.specs.Laws.Forward.{Given, test-given, then-given, Holding}
+use Rattle.syntax.specs.Laws.Within.{name_up_to-in, Upto, UptoIn, Inward, not_end, is-in, quantifier-in, part_by, ends-false, alternation-in, inside-in}
 
 -- if a reading is refused, its place is n at most
 abbrev pub Placed : {A : Type 0} → ℕ → Read A → Type 0

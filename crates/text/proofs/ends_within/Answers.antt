@@ -1,6 +1,5 @@
 -- The loop's invariant: as long as no 0A was met, the bytes so far belong to the line.
 use mathlib.Core.Path.{◌≡◌}
-use mathlib.Core.Bool.{false}
 use native.Mathlib.Omega.{arith}
 use Rattle.text.specs.Laws.Lines.{block-begins, block_on}
 use Rattle.text.proofs.ends_within.Goals as goal

@@ -1,7 +1,6 @@
 -- `take_bytes` meets its contract. The loop's invariant: the steps used lead from the beginning to a byte item, and a step is left for it. The measure is
 -- the steps that are left.
 use mathlib.Core.Path.{refl, ◌∙◌}
-use mathlib.Core.Bool.{true}
 use native.Mathlib.Omega.{arith}
 use borrow.Author.Tests.{not-false}
 use Rattle.machine.specs.Laws.Code.{fits-at}

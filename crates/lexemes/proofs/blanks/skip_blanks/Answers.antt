@@ -1,6 +1,5 @@
 -- `skip_blanks` meets its contract. The loop's invariant: what is skipped from `from` on ends where what is skipped from `i` on does.
 use mathlib.Core.Path.{sym, ◌∙◌}
-use mathlib.Core.Bool.{false}
 use Rattle.lexemes.proofs.BlankCases.{blanks-stop, blanks-on, blanks-end}
 use Rattle.lexemes.proofs.blanks.skip_blanks.Goals as goal
 
