@@ -27,7 +27,7 @@ lookup name names line kind numbers =
     let row = take row_length numbers in
     if eqb kind 0 && is_row (length line) row then of_group (group_named name names) row else Nothing
 
--- A lent slice is the part of another from one position to a second: it stands there, and has those bytes. Where a slice stands, `ptr`, is a
+-- A lent slice is the part of another from one position to a second: it stands there, and has those bytes. Where a slice stands, `ref_ptr`, is a
 -- block of memory and the position in it.
 pub record PartOf (whole : Bor (List ℕ)) (from to : ℕ) (part : Bor (List ℕ)) : Type 0 where
   pub place : part.ref_ptr ≡ (whole.ref_ptr.0, from + whole.ref_ptr.1)

@@ -1,4 +1,4 @@
--- What a rule means on a subject, in the order in which to read it; Laws has the facts that are proved of it.
+-- What a rule means on a subject, in the order in which to read it; proofs/Laws has the facts that are proved of it.
 -- docs/REFERENCE.md, 13 to 16
 pub mod Assertions
 pub mod States

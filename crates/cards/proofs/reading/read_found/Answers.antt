@@ -1,7 +1,6 @@
 -- The numbers of a card are read where they stand in what is written of it; then come the refusals before the rule is read.
 use native.Mathlib.Omega.{arith}
 use lib.ListN.{get_or}
-use Rattle.card_format.specs.Cards.{unfit}
 use Rattle.card_format.specs.CardDemands.{Bytes, card_of}
 use Rattle.cards.specs.Answers.{read_of}
 use Rattle.cards.specs.Laws.Returning.{is-unfit, is-fit, read-unfit, found-long, found-card}
