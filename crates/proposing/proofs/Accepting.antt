@@ -1,19 +1,18 @@
 -- What is promised of a proposal follows from what the check of its bytes tells, and the walk can begin because the rule is held.
-use mathlib.Core.Path.{◌≡◌, refl, ap, sym, ◌∙◌, subst}
+use mathlib.Core.Path.{◌≡◌, ap, sym, ◌∙◌, subst}
 use mathlib.Core.List.{List, [], ◌++◌, append-nil}
 use Prim.Native.Nat.{ℕ, ◌≤◌}
 use native.Mathlib.Omega.{arith}
 use lib.ListN.{length, take, replicate, drop_of_length-le}
 use lib.Seq.{length-take-le}
 use Rattle.syntax.specs.Limits.{unset, registers, budget_limit, row_length}
-use Rattle.syntax.specs.Tree.{Rule}
 use Rattle.semantics.specs.States.{State, row}
 use Rattle.semantics.specs.Walk.{Trace, trace}
 use Rattle.semantics.specs.Calls.{over, work_area_need}
 use Rattle.semantics.specs.Proposals.{a_reading, Check}
 use Rattle.machine.specs.Moves.{Bytes, go}
 use Rattle.machine.specs.Ready.{Ready}
-use Rattle.machine.specs.Theorem.{Stands, clear-all, begins, enough-room}
+use Rattle.machine.specs.Theorem.{clear-all, begins, enough-room}
 use Rattle.frame.specs.Inputs.{Held}
 use Rattle.checking.specs.declared.Verdict.{Verdict}
 use Rattle.checking.specs.declared.Verdict.TheVariants.{Reading}
