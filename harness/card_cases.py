@@ -210,6 +210,7 @@ def mistakes(t):
     t.leaves("no such folder", ["write", "rule", "none/card"], "", "card: none/card: No such file or directory\n")
     t.leaves("no name", ["write", "rule", ""], "", "card: : No such file or directory\n")
     t.leaves("a long name", ["write", "rule", "c" * 5000], "", "card: the name of a file: File name too long\n")
+    t.leaves("a name that is not UTF-8", ["write", "rule", b"\xe9"], "", "card: \xe9: Invalid or incomplete multibyte or wide character\n")
     t.run("no card file", ["show", "nothing"], "", "card: nothing: No such file or directory\n")
     t.run("the card is a folder", ["show", "."], "", "card: the card could not be read: Is a directory\n")
     t.run("a long name of a card", ["show", "c" * 5000], "", "card: the name of a file: File name too long\n")

@@ -374,7 +374,7 @@ def arguments(t, orders):
         Path("lines").write_bytes(b"x<\n" * 25000)
         for place, output, _ in unwritable.OUTPUTS:
             with output() as out:
-                ran = subprocess.run([program, "--page", "rule", "lines"], stdin=subprocess.DEVNULL, stdout=out, stderr=subprocess.PIPE, restore_signals=False)
+                ran = subprocess.run([program, "--page", "rule", "lines"], stdin=subprocess.DEVNULL, stdout=out, stderr=subprocess.PIPE)
             message = {"readings": "readings: the report could not be written\n", "fields": "fields: the page could not be written\n"}[name]
             t.same("%s, %s" % (name, place), [ran.stderr.decode()], [message])
     t.program = readings

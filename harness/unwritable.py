@@ -43,10 +43,10 @@ def given(data):
 
 
 def said(command, out, data=None, folder="."):
-    """What a program says on standard error; without data its lines never end. The signal for a broken pipe is ignored."""
+    """What a program says on standard error; without data its lines never end."""
     with given(data) as lines:
         try:
-            ran = subprocess.run(command, stdin=lines, stdout=out, stderr=subprocess.PIPE, cwd=folder, restore_signals=False, timeout=SECONDS)
+            ran = subprocess.run(command, stdin=lines, stdout=out, stderr=subprocess.PIPE, cwd=folder, timeout=SECONDS)
         except subprocess.TimeoutExpired:
             return f"no end after {SECONDS} seconds\n"
     return ran.stderr.decode()

@@ -41,7 +41,7 @@ fn value(rt: &HostRuntime, argument: usize) -> Value {
     office::decimal(&text[..n], CARD_BUDGET_LIMIT)
 }
 
-// Writes all bytes into a file, and asks for what its close would tell too late.
+// Writes all bytes into a file, and has them brought to the disk, since nothing is told of what fails when the file is closed.
 fn write_and_sync(file: &mut File, card: &[u8]) -> Result<(), Error> {
     file.write_all(card)?;
     file.sync_all()
