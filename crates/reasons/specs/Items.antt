@@ -13,7 +13,7 @@ unfoldable pub behind_repeat : (next : ℕ) → Quantifier → ℕ
 behind_repeat next Absent = next
 behind_repeat next Stray = next
 behind_repeat next Unfit = next
-behind_repeat next (Times least most greed keeps end) = end
+behind_repeat next (Times least most g keeps end) = end
 
 -- behind an item that ends at a position. 02: blanks are skipped "also between an item and its repeat"
 unfoldable pub with_repeat : (s : List ℕ) (flags next : ℕ) → ℕ
