@@ -298,7 +298,8 @@ def parts(t):
     t.kill("gateway", 3, 1, "$PARALLEL_PID")
     t.same("parallel is killed, status", str(t.do("parts")[0]), "137")
     done = [block for block, *_ in t.rows("parts/log")]
-    t.same("parallel is killed, the log", str(len(done) < 4 and 3 not in done), "True")
+    # on four cores all others may be done before it is killed
+    t.same("parallel is killed, the log", str(3 not in done), "True")
     put_together(t, "parallel is run again")
     t.same("what was done is not done again", sorted(block for block, *_ in t.rows("parts/log")), list(range(1, len(t.rows("parts/log")) + 1)))
 
