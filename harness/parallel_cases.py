@@ -296,10 +296,10 @@ def parts(t):
 
     t.day(ODD)
     t.kill("gateway", 3, 1, "$PARALLEL_PID")
-    t.same("parallel is killed, status", str(t.do("parts")[0]), "137")
+    # one part after another, since with more all others may be done before it is killed
+    t.same("parallel is killed, status", str(t.do("parts", added="--jobs 1")[0]), "137")
     done = [block for block, *_ in t.rows("parts/log")]
-    # on four cores all others may be done before it is killed
-    t.same("parallel is killed, the log", str(3 not in done), "True")
+    t.same("parallel is killed, the log", str(len(done) < 4 and 3 not in done), "True")
     put_together(t, "parallel is run again")
     t.same("what was done is not done again", sorted(block for block, *_ in t.rows("parts/log")), list(range(1, len(t.rows("parts/log")) + 1)))
 
