@@ -29,7 +29,7 @@ pub fn tell_read(answer: &mut [u32; 9], outcome: ReadAnswer)
         }
         ReadAnswer::Refused(f) => {
             let reason = f.reason;
-            let number = syntax::number(reason);
+            let number = u32::from(reason);
             let place = f.place as u32;
             *answer = [3, number, place, 0, 0, 0, 0, 0, 0];
         }

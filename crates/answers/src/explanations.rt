@@ -68,7 +68,7 @@ pub fn tell_explanation(answer: &mut [u32; 11], outcome: Explanation)
         Explanation::Exhausted(start, steps) => tell_no_failure(answer, 2, start, 0, steps),
         Explanation::Refused(f) => {
             let reason = f.reason;
-            let number = syntax::number(reason);
+            let number = u32::from(reason);
             tell_no_failure(answer, 3, number, f.place as u32, 0);
         }
     }

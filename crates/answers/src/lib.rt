@@ -37,5 +37,5 @@ fn tell_refusal(answer: &mut [u32; 6], f: Refusal)
     ensures { answer.new ≡ refusal_numbers f.place f.reason }
 {
     let reason = f.reason;
-    tell(answer, 3, syntax::number(reason), f.place as u32, 0, 0);
+    tell(answer, 3, u32::from(reason), f.place as u32, 0, 0);
 }

@@ -54,7 +54,7 @@ fn tell(numbers: &mut [u32], outcome: Outcome)
         Outcome::Exhausted(start, steps) => put(numbers, 2, start, steps),
         Outcome::Refused(f) => {
             let reason = f.reason;
-            put(numbers, 3, syntax::number(reason), 0);
+            put(numbers, 3, u32::from(reason), 0);
         }
     }
 }

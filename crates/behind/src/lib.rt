@@ -9,17 +9,12 @@ ghost use Rattle.syntax.specs.Limits.{spans_length, registers};
 ghost use Rattle.machine.specs.Code.{Fits};
 ghost use Rattle.behind.specs.Behind.{Lacks, Told};
 
-use machine::{BYTE, Machine};
-
-// The kind of the end of a round.
-pub const ROUND_END: u32 = 8;
-
-// The longest node, a byte item: its class is the last eight numbers.
-const NODE_LENGTH: usize = 11;
+use machine::Machine;
+use syntax::node::{AGAIN, BYTE, NODE_LENGTH};
 
 // What stands behind a group's end: something whose byte is missing, so that the group closes in vain, and after how many steps; a byte item whose byte is
 // there; or nothing of the kind.
-#[derive(Drop)]
+#[derive(Clone, Copy, Debug, PartialEq, Eq)]
 pub enum Behind {
     Missing(u32),
     There,
@@ -56,7 +51,7 @@ fn look_behind_round(code: &[u32], sub: &[u8], regs: &[u32], m: Machine, behind:
     if regs[opened] != m.at {
         return Behind::NoByte;
     }
-    if code[behind] != ROUND_END {
+    if code[behind] != AGAIN {
         return Behind::NoByte;
     }
     let slot = code[pc + 3] as usize;

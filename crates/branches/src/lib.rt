@@ -12,7 +12,8 @@ ghost use Rattle.machine.specs.Words.{stack_of, now_of};
 ghost use Rattle.machine.specs.Ready.{Leads, Ready};
 ghost use Rattle.branches.specs.Onward.{Onward};
 
-use machine::{BRANCH, BYTE, LAST, Machine, Walked, push_explore};
+use machine::{Machine, Walked, push_explore};
+use syntax::node::{BRANCH, BYTE, LAST};
 
 // So many steps led to a node, with the position and the stack as they were.
 fn come_to(m: Machine, pc: u32, used: u32) -> Walked

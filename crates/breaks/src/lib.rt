@@ -16,7 +16,7 @@ const FEED: u8 = 0x0A;
 const NEXT_LINE: u8 = 0x85;
 
 // The steps that `\R` makes, and the bytes that it takes, none if it fails.
-#[derive(Drop)]
+#[derive(Clone, Copy, Debug, PartialEq, Eq)]
 pub struct Break {
     pub steps: u32,
     pub bytes: u32,

@@ -180,7 +180,7 @@ fn put_steps(rt: &HostRuntime, steps: u64) {
 fn put_refusal(rt: &HostRuntime, f: Refusal) {
     let reason = f.reason;
     put(rt, b"refused ");
-    put_number(rt, syntax::number(reason) as u64);
+    put_number(rt, u32::from(reason) as u64);
     put(rt, b" at ");
     put_number(rt, f.place as u64);
     put(rt, b"\n");

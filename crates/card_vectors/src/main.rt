@@ -46,7 +46,7 @@ fn put_first(rt: &HostRuntime, area: &[u8], n: usize) {
 
 fn put_refusal(rt: &HostRuntime, f: Refusal) {
     let reason = f.reason;
-    put(rt, b"refused ", syntax::number(reason) as u64);
+    put(rt, b"refused ", u32::from(reason) as u64);
     put(rt, b" at ", f.place as u64);
 }
 

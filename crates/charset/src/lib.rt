@@ -11,7 +11,7 @@ mod tables;
 use tables::{CLASSES, MARKS};
 
 // The named sets.
-#[derive(Clone, Copy)]
+#[derive(Clone, Copy, Debug, PartialEq, Eq)]
 pub enum Named {
     Digit,
     Word,

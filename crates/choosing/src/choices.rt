@@ -5,16 +5,14 @@ ghost use Rattle.machine.specs.Code.{Fits};
 ghost use Rattle.choosing.specs.Logs.{Within};
 
 use crate::log::{Log, NEXT, OTHER, SETTLED, put};
-use machine::{BRANCH, END, Machine, RUN};
+use machine::Machine;
 use plain::tell_missed;
 use repeats::is_full;
 use run_ends::run_length;
+use syntax::node;
+use syntax::node::{BRANCH, END, REPEAT, RUN};
 
-// The kinds of the nodes at which a repeat is entered and a round of it ends.
-const ENTER: u32 = 7;
-
-const ROUND_END: u32 = 8;
-
+// The number of a greedy repeat's greed.
 const GREEDY: u32 = 0;
 
 // The bytes of a proposal: going on, and another round.
@@ -148,10 +146,10 @@ pub fn note_choice(
     if kind == BRANCH {
         return note_branch(proposal, ways, log);
     }
-    if kind == ENTER {
+    if kind == REPEAT {
         return note_decision(code, pc + 2, 0, false, proposal, ways, log);
     }
-    if kind == ROUND_END {
+    if kind == node::AGAIN {
         return note_round(code, regs, pc, m.at, proposal, ways, log);
     }
     if kind == RUN {

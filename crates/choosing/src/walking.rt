@@ -13,8 +13,9 @@ use crate::choices::{falls_back, note_choice};
 use crate::log::{Log, SETTLED, go_back, put};
 use crate::rows::same_numbers;
 use index::{ROW_LENGTH, write_row};
-use machine::{BRANCH, BREAK, END, Machine, fall_back, start};
+use machine::{Machine, fall_back, start};
 use plain::make_move;
+use syntax::node::{BRANCH, BREAK, END};
 
 // How the walk went: to an end with the row, with so many bytes written; or the steps are spent, or there is no room for what is chosen, or there is
 // no such end, or a node that no check follows.

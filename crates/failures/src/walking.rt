@@ -21,7 +21,8 @@ ghost use Rattle.failures.specs.Walks.{Plain, Fruitless, Sized, Tried};
 
 use greatest::{Best, Kept, blank, consider, lead, note_of, nothing, settle};
 use machine::{Machine, start};
-use plain::{Missed, REFUTE, make_move, tell_missed, tell_refuted};
+use plain::{Missed, make_move, tell_missed, tell_refuted};
+use syntax::node::REFUTE;
 
 // What failed in a move, or at its inner end a `(?!`, told by its note; and where the machine stands after it.
 #[derive(Drop)]

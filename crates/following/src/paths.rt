@@ -5,10 +5,8 @@ ghost use Rattle.turns.specs.Turns.{Treads};
 ghost use Rattle.following.specs.Paths.{Follows};
 
 use crate::Followed;
+use syntax::node::END;
 use turns::{Pace, take_turn};
-
-// The end's node.
-const END: u32 = 9;
 
 // Follows the choices from a start of the subject, where the rule is entered at `entry`; no group is set in the registers.
 pub fn follow_path(

@@ -106,7 +106,7 @@ pub fn write_refusal(f: Refusal, out: &mut [u8], at: usize) -> usize
 {
     let reason = f.reason;
     let place = f.place;
-    write_refused(syntax::number(reason), place, out, at)
+    write_refused(u32::from(reason), place, out, at)
 }
 
 // The line for a file that cannot be read.

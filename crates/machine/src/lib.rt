@@ -21,24 +21,6 @@ pub use stack::{
     AGAIN, begin_over, begin_round, cut_to, fall_back, go_down, push, push_explore, save_and_write,
 };
 
-// The kinds of the nodes that several crates ask for: a byte item, the end of a group, a branch that is not the last, the last branch, the rule's end, a run, a reference,
-// and `\R`.
-pub const BYTE: u32 = 0;
-
-pub const CLOSE: u32 = 4;
-
-pub const BRANCH: u32 = 5;
-
-pub const LAST: u32 = 6;
-
-pub const END: u32 = 9;
-
-pub const RUN: u32 = 10;
-
-pub const REFERENCE: u32 = 11;
-
-pub const BREAK: u32 = 12;
-
 // What stands for the start and the end of a group that is not set, and for a repeat without a greatest number of rounds.
 pub fn unset_position() -> u32
     ensures { result ≡ unset }
@@ -47,7 +29,7 @@ pub fn unset_position() -> u32
 }
 
 // Where the machine stands: at a node and a position, over so many frames in the work area; or, if it is not live, nothing is left to try.
-#[derive(Clone, Copy)]
+#[derive(Clone, Copy, Debug, PartialEq, Eq)]
 pub struct Machine {
     pub pc: u32,
     pub at: u32,
@@ -56,7 +38,7 @@ pub struct Machine {
 }
 
 // A repeat's first register, and what its two have: the rounds made, and where the last one began.
-#[derive(Clone, Copy)]
+#[derive(Clone, Copy, Debug, PartialEq, Eq)]
 pub struct Counter {
     pub register: u32,
     pub rounds: u32,
@@ -65,7 +47,7 @@ pub struct Counter {
 
 // How a run stopped: at the rule's end, with the steps taken and the machine there; nothing is left, after so many steps; or the steps are
 // spent.
-#[derive(Drop)]
+#[derive(Clone, Copy, Debug, PartialEq, Eq)]
 pub enum Stop {
     End(u32, Machine),
     Nothing(u32),
@@ -73,7 +55,7 @@ pub enum Stop {
 }
 
 // How far nodes led: the steps used, and where the machine then stands.
-#[derive(Drop)]
+#[derive(Clone, Copy, Debug, PartialEq, Eq)]
 pub struct Walked {
     pub used: u32,
     pub head: Machine,
@@ -81,7 +63,7 @@ pub struct Walked {
 
 // How a node of several steps went, a run of one byte set or a reference: made, with the steps that it took, and those of the ends that a run passed
 // over; or too long for the steps that are left.
-#[derive(Drop)]
+#[derive(Clone, Copy, Debug, PartialEq, Eq)]
 pub enum Ran {
     Made(u32, Machine),
     TooLong,

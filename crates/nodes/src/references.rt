@@ -7,7 +7,7 @@ ghost use Rattle.nodes.specs.Comparing.{ComparedAs};
 use crate::assertions::byte_at;
 
 // The same bytes; or others, or too few, after so many were compared; or more would have to be compared than there are steps for.
-#[derive(Drop)]
+#[derive(Clone, Copy, Debug, PartialEq, Eq)]
 pub enum Compared {
     Same,
     Unlike(u32),

@@ -122,7 +122,7 @@ pub fn say_refusal(rt: &HostRuntime, program: &[u8], f: Refusal, rule: &[u8])
 {
     let reason = f.reason;
     let place = f.place;
-    let number = syntax::number(reason);
+    let number = u32::from(reason);
     say(rt, program);
     if is_of_card(number) {
         say_number(rt, b": the card is refused, ", number as u64, b": ");

@@ -2,27 +2,10 @@
 ghost use Rattle.std.specs.Prelude.{◌≡◌, ◌+◌, ◌≤◌, length, get_or};
 ghost use Rattle.openings.specs.Failing.{Means};
 
-const BYTE: u32 = 0;
-
-const ASSERTION: u32 = 1;
-
-const OPEN: u32 = 3;
-
-const CLOSE: u32 = 4;
-
-const BRANCH: u32 = 5;
-
-const LAST_BRANCH: u32 = 6;
-
-const REPEAT: u32 = 7;
-
-const RUN: u32 = 10;
+use syntax::node::{ASSERTION, BRANCH, BYTE, CLOSE, LAST, NODE_LENGTH, OPEN, REPEAT, RUN};
 
 // The assertion that holds at the text's start only.
 const TEXT_START: u32 = 0;
-
-// The longest node, a byte item: its class is the last eight numbers.
-const NODE_LENGTH: usize = 11;
 
 // What is known of a node on such a walk. The first number is the steps that it makes.
 #[derive(Drop)]
@@ -111,7 +94,7 @@ pub fn look(code: &[u32], at: u32) -> Seen
     if kind == BRANCH {
         return Seen::Both(1, code[pc + 1], code[pc + 2]);
     }
-    if kind == LAST_BRANCH {
+    if kind == LAST {
         return Seen::On(1, code[pc + 1]);
     }
     if kind == REPEAT {

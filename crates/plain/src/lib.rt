@@ -21,19 +21,13 @@ ghost use Rattle.plain.specs.Misses.{Tells, TellsLate, RefersAs};
 
 use breaks::break_at;
 use charset::contains;
-use machine::{BRANCH, BREAK, Machine, REFERENCE, RUN, fall_back, go_down, push_explore};
+use machine::{Machine, fall_back, go_down, push_explore};
 use marks::{forbid, take_marked};
 use nodes::{Compared, assertion_holds, compare, span_length};
 use repeats::is_full;
 use run_ends::run_length;
+use syntax::node::{BRANCH, BREAK, FORBID, MARK, REFERENCE, RUN};
 use walker::step;
-
-// The kinds of the first of the nodes of held parts and of looking ahead, and of a `(?!`'s opening and inner end.
-const MARK: u32 = 13;
-
-const FORBID: u32 = 16;
-
-pub const REFUTE: u32 = 17;
 
 // More steps than any run or reference makes: no budget cuts a move that is made here.
 const ALL_STEPS: u32 = 4294967295;

@@ -21,7 +21,7 @@ fn tell(rt: &HostRuntime, rule: &[u8], flags: u32, area: &mut [u32])
         }
         Compilation::Refused(f) => {
             let reason = f.reason;
-            let _ = rt.print(syntax::number(reason) as u64);
+            let _ = rt.print(u32::from(reason) as u64);
             let _ = rt.write_all(b" at ");
             let _ = rt.print(f.place as u64);
         }

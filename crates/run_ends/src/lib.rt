@@ -11,11 +11,8 @@ ghost use Rattle.machine.specs.Moves.{extent, strides, stopped};
 ghost use Rattle.machine.specs.Words.{Measured};
 ghost use Rattle.machine.specs.Ready.{Missed, Asks};
 
-use machine::{BYTE, CLOSE, RUN};
 use repeats::is_full;
-
-// The longest node, a byte item: its class is the last eight numbers.
-const NODE_LENGTH: usize = 11;
+use syntax::node::{BYTE, CLOSE, NODE_LENGTH, RUN};
 
 pub fn nearer(a: usize, b: usize) -> usize
     ensures { result ≡ min a b }
@@ -69,7 +66,7 @@ pub fn run_steps(most: u32, k: u32) -> u64
 }
 
 // The node at which a run goes on fails in `cost` steps where the byte is not in the set at `base`; or it is not known to, with no cost.
-#[derive(Drop)]
+#[derive(Clone, Copy, Debug, PartialEq, Eq)]
 pub struct Gate {
     pub cost: u32,
     pub base: usize,

@@ -7,15 +7,8 @@ ghost use Rattle.std.specs.Prelude.{◌≡◌, ◌+◌, ◌≤◌, ◌<◌, ◌^
 ghost use Rattle.openings.specs.Failing.{Fails};
 ghost use Rattle.seeking.specs.Straight.{Means};
 
-use machine::{BRANCH, BYTE, RUN};
 use nodes::assertion_holds;
-
-const ASSERTION: u32 = 1;
-
-const OPEN: u32 = 3;
-
-// The longest node, a byte item: its class is the last eight numbers.
-const NODE_LENGTH: usize = 11;
+use syntax::node::{ASSERTION, BRANCH, BYTE, NODE_LENGTH, OPEN, RUN};
 
 // How many nodes of a straight way are looked at. A start that fails mostly does so at the first few, and all that is looked at of another is walked again.
 const LOOKS: u32 = 5;

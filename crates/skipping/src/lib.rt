@@ -79,7 +79,7 @@ fn skip_starts(set: &[u32; 8], any: bool, cost: u32, subject: &[u8], begin: u32)
 }
 
 // A start, and the steps of those before it.
-#[derive(Drop)]
+#[derive(Clone, Copy, Debug, PartialEq, Eq)]
 pub struct Onward {
     pub start: u32,
     pub steps: u64,

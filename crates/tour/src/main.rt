@@ -28,13 +28,14 @@ use frame::{RULE_AREA_NEED, RULE_LIMIT, SUBJECT_LIMIT, WORK_PER_STEP};
 use gateway_answers::{BUDGET, Readiness, prepare};
 use gateway_text::ANSWER_ROOM;
 use index::UNSET;
-use machine::{END, Machine, fall_back, start};
+use machine::{Machine, fall_back, start};
 use parts::Answer;
 use plain::{make_move, tell_missed};
 use reader::read_rule;
 use reasons::item_end;
 use syntax::{REGISTERS, ROW_LENGTH, SPANS_LENGTH};
 use text::line_end;
+use syntax::node::END;
 
 // What a walk is lent, as the gateway lends it.
 const WORK_AREA: usize = WORK_PER_STEP * BUDGET as usize;

@@ -144,7 +144,7 @@ fn tell(
         Compilation::Sound(pc, groups) => walk_from(rt, area, sub, work, pc, groups, start, budget),
         Compilation::Refused(f) => {
             let reason = f.reason;
-            put_number(rt, syntax::number(reason));
+            put_number(rt, u32::from(reason));
             put(rt, b" at ");
             let _ = rt.print(f.place as u64);
             put(rt, b"\n");

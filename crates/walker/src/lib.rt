@@ -11,24 +11,20 @@ ghost use Rattle.machine.specs.Code.{Fits};
 ghost use Rattle.machine.specs.Words.{stack_of, now_of, moved_on};
 ghost use Rattle.machine.specs.Ready.{until, Several, Leads, RanBy, StackFits, Ready, Agrees};
 
-use behind::{Behind, ROUND_END, look_behind};
+use behind::{Behind, look_behind};
 use branches::take_branch;
 use breaks::take_break;
-use machine::{
-    BRANCH, BREAK, BYTE, CLOSE, END, LAST, Machine, REFERENCE, RUN, Ran, Stop, fall_back,
-};
+use machine::{Machine, Ran, Stop, fall_back};
 use marks::take_marked;
 use nodes::{
     begin_last_branch, close_group, open_group, take_byte, take_reference, test_assertion,
 };
 use repeats::{end_round, enter_repeat};
 use runs::take_run;
-
-// The kind of a group's opening.
-const OPEN: u32 = 3;
+use syntax::node::{AGAIN, BRANCH, BREAK, BYTE, CLOSE, END, LAST, OPEN, REFERENCE, RUN};
 
 // Where the machine stands, and the steps that are left. They are handed on in place of those used, so that the loops keep one number and not two.
-#[derive(Drop)]
+#[derive(Clone, Copy, Debug, PartialEq, Eq)]
 struct Standing {
     rest: u32,
     head: Machine,
@@ -106,7 +102,7 @@ fn leave_group(
         head: closed,
     };
     let behind = closed.pc as usize;
-    if code[behind] != ROUND_END {
+    if code[behind] != AGAIN {
         return alone;
     }
     let ended = end_round(code, regs, work, closed);
