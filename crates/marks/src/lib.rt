@@ -13,6 +13,7 @@ ghost use Rattle.machine.specs.Ready.{StackFits};
 ghost use Rattle.marks.specs.Notes.{forbidden};
 
 use machine::{Machine, cut_to, fall_back, push_explore, save_and_write};
+use syntax::node::{FORBID, KEEP, MARK, RETURN};
 
 // A held part or looking ahead is entered.
 fn enter_part(code: &[u32], regs: &mut [u32], work: &mut [u32], m: Machine) -> Machine
@@ -117,10 +118,10 @@ pub fn take_marked(
     ensures { (sub : List ℕ) → now_of regs.new work.new result ≡ moved_on code.now sub regs.old work.old m }
 {
     match kind {
-        13 => enter_part(code, regs, work, m),
-        14 => keep_first(code, regs, work, m),
-        15 => return_first(code, regs, work, m),
-        16 => forbid(code, regs, work, m, m.at),
+        MARK => enter_part(code, regs, work, m),
+        KEEP => keep_first(code, regs, work, m),
+        RETURN => return_first(code, regs, work, m),
+        FORBID => forbid(code, regs, work, m, m.at),
         _ => refute(code, regs, work, m),
     }
 }

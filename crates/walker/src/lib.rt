@@ -21,7 +21,9 @@ use nodes::{
 };
 use repeats::{end_round, enter_repeat};
 use runs::take_run;
-use syntax::node::{AGAIN, BRANCH, BREAK, BYTE, CLOSE, END, LAST, OPEN, REFERENCE, RUN};
+use syntax::node::{
+    AGAIN, ASSERTION, BRANCH, BREAK, BYTE, CLOSE, END, LAST, OPEN, REFERENCE, REPEAT, RUN,
+};
 
 // Where the machine stands, and the steps that are left. They are handed on in place of those used, so that the loops keep one number and not two.
 #[derive(Clone, Copy, Debug, PartialEq, Eq)]
@@ -45,12 +47,12 @@ pub fn step(
     ensures { now_of regs.new work.new result ≡ moved_on code.now sub.now regs.old work.old m }
 {
     match kind {
-        0 => take_byte(code, sub, regs, work, m),
-        1 => test_assertion(code, sub, regs, work, m),
-        3 => open_group(code, regs, work, m),
-        4 => close_group(code, regs, work, m),
-        6 => begin_last_branch(code, m),
-        7 => enter_repeat(code, regs, work, m),
+        BYTE => take_byte(code, sub, regs, work, m),
+        ASSERTION => test_assertion(code, sub, regs, work, m),
+        OPEN => open_group(code, regs, work, m),
+        CLOSE => close_group(code, regs, work, m),
+        LAST => begin_last_branch(code, m),
+        REPEAT => enter_repeat(code, regs, work, m),
         _ => end_round(code, regs, work, m),
     }
 }
@@ -71,12 +73,12 @@ fn carry(
     ensures { now_of regs.new work.new result ≡ moved_on code.now sub.now regs.old work.old m }
 {
     match kind {
-        0 => take_byte(code, sub, regs, work, m),
-        1 => test_assertion(code, sub, regs, work, m),
-        3 => open_group(code, regs, work, m),
-        4 => close_group(code, regs, work, m),
-        6 => begin_last_branch(code, m),
-        7 => enter_repeat(code, regs, work, m),
+        BYTE => take_byte(code, sub, regs, work, m),
+        ASSERTION => test_assertion(code, sub, regs, work, m),
+        OPEN => open_group(code, regs, work, m),
+        CLOSE => close_group(code, regs, work, m),
+        LAST => begin_last_branch(code, m),
+        REPEAT => enter_repeat(code, regs, work, m),
         _ => end_round(code, regs, work, m),
     }
 }
