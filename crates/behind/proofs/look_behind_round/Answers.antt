@@ -9,7 +9,7 @@ pub overflow_cast-slot : goal.overflow_cast-slot
 overflow_cast-slot c = omega (arith, c.type_inv.code (c.args.m.pc + 3))
 
 pub bounds-code-behind-2 : goal.bounds-code-behind-2
-bounds-code-behind-2 c = omega (arith, (round-fits c.args.code.now c.args.sub.now c.args.behind c.args.m.at c.args.regs.now [] c.requires.fits c.if-code-behind-ne-ROUND_END.false).0)
+bounds-code-behind-2 c = omega (arith, (round-fits c.args.code.now c.args.sub.now c.args.behind c.args.m.at c.args.regs.now [] c.requires.fits c.if-code-behind-ne-AGAIN.false).0)
 
 pub overflow_cast-counter : goal.overflow_cast-counter
 overflow_cast-counter c = omega (arith, c.type_inv.code (c.args.behind + 4))
@@ -24,19 +24,19 @@ pub offset_bounds-regs-counter : goal.offset_bounds-regs-counter
 offset_bounds-regs-counter c = omega (arith, c.type_inv.code (c.args.behind + 4))
 
 pub bounds-regs-counter : goal.bounds-regs-counter
-bounds-regs-counter c = omega (arith, (round-fits c.args.code.now c.args.sub.now c.args.behind c.args.m.at c.args.regs.now [] c.requires.fits c.if-code-behind-ne-ROUND_END.false).1, c.requires.regs_len.0)
+bounds-regs-counter c = omega (arith, (round-fits c.args.code.now c.args.sub.now c.args.behind c.args.m.at c.args.regs.now [] c.requires.fits c.if-code-behind-ne-AGAIN.false).1, c.requires.regs_len.0)
 
 pub offset_bounds-regs-counter-2 : goal.offset_bounds-regs-counter-2
 offset_bounds-regs-counter-2 c = omega (arith, c.type_inv.code (c.args.behind + 4))
 
 pub bounds-regs-counter-2 : goal.bounds-regs-counter-2
-bounds-regs-counter-2 c = omega (arith, (round-fits c.args.code.now c.args.sub.now c.args.behind c.args.m.at c.args.regs.now [] c.requires.fits c.if-code-behind-ne-ROUND_END.false).1, c.requires.regs_len.0)
+bounds-regs-counter-2 c = omega (arith, (round-fits c.args.code.now c.args.sub.now c.args.behind c.args.m.at c.args.regs.now [] c.requires.fits c.if-code-behind-ne-AGAIN.false).1, c.requires.regs_len.0)
 
 pub bounds-code-behind-3 : goal.bounds-code-behind-3
-bounds-code-behind-3 c = omega (arith, (round-fits c.args.code.now c.args.sub.now c.args.behind c.args.m.at c.args.regs.now [] c.requires.fits c.if-code-behind-ne-ROUND_END.false).0)
+bounds-code-behind-3 c = omega (arith, (round-fits c.args.code.now c.args.sub.now c.args.behind c.args.m.at c.args.regs.now [] c.requires.fits c.if-code-behind-ne-AGAIN.false).0)
 
 pub bounds-code-behind-4 : goal.bounds-code-behind-4
-bounds-code-behind-4 c = omega (arith, (round-fits c.args.code.now c.args.sub.now c.args.behind c.args.m.at c.args.regs.now [] c.requires.fits c.if-code-behind-ne-ROUND_END.false).0)
+bounds-code-behind-4 c = omega (arith, (round-fits c.args.code.now c.args.sub.now c.args.behind c.args.m.at c.args.regs.now [] c.requires.fits c.if-code-behind-ne-AGAIN.false).0)
 
 pub overflow_cast-onward : goal.overflow_cast-onward
 overflow_cast-onward c = omega (arith, c.type_inv.code (c.args.behind + 6))
@@ -46,4 +46,4 @@ look_onward-requires c = (c.requires.regs_len.1, omega (arith, c.type_inv.code (
 
 pub returns-then-look_onward : goal.returns-then-look_onward
 returns-then-look_onward c = let fails = rw c.if-look_onward.true at c.look_onward.ensures in
-    (omega arith, omega arith, λ st. leads-vain c.args.code.now c.args.sub.now c.args.regs.now c.args.m.pc c.args.m.at c.requires.pc_in_bounds.1 c.args.behind c.requires.pc_in_bounds.2 st c.if-code-behind-ne-ROUND_END.false (omega (arith, c.if-counter-slot.false)) c.if-regs-counter.false (omega (arith, c.if-regs-counter-2.false)) fails)
+    (omega arith, omega arith, λ st. leads-vain c.args.code.now c.args.sub.now c.args.regs.now c.args.m.pc c.args.m.at c.requires.pc_in_bounds.1 c.args.behind c.requires.pc_in_bounds.2 st c.if-code-behind-ne-AGAIN.false (omega (arith, c.if-counter-slot.false)) c.if-regs-counter.false (omega (arith, c.if-regs-counter-2.false)) fails)

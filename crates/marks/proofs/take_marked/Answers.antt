@@ -15,19 +15,19 @@ refutes : {n : ℕ} (p : List ℕ) (pc : ℕ) → n ≡ get_or p pc 0 → 13 ≤
 refutes {n} p pc e h a b c d f = sym e ∙ only-refute p pc n h a b c d (rw (← e) at f.node)
 
 pub enter_part-requires : goal.enter_part-requires
-enter_part-requires c = let f = fits-at c.args.code.now c.args.m.pc 13 (sym c.requires.kind_value.0 ∙ c.in-MARK.is) c.requires.fits in
+enter_part-requires c = let f = fits-at c.args.code.now c.args.m.pc 13 (sym c.requires.kind_value.0 ∙ c.in-13.is) c.requires.fits in
     omega (arith, f.0, f.1, c.requires.kind_value)
 
 pub keep_first-requires : goal.keep_first-requires
-keep_first-requires c = let f = fits-at c.args.code.now c.args.m.pc 14 (sym c.requires.kind_value.0 ∙ c.in-KEEP.is) c.requires.fits in
+keep_first-requires c = let f = fits-at c.args.code.now c.args.m.pc 14 (sym c.requires.kind_value.0 ∙ c.in-14.is) c.requires.fits in
     omega (arith, f.0, f.1, c.requires.kind_value)
 
 pub return_first-requires : goal.return_first-requires
-return_first-requires c = let f = fits-at c.args.code.now c.args.m.pc 15 (sym c.requires.kind_value.0 ∙ c.in-RETURN.is) c.requires.fits in
+return_first-requires c = let f = fits-at c.args.code.now c.args.m.pc 15 (sym c.requires.kind_value.0 ∙ c.in-15.is) c.requires.fits in
     omega (arith, f.0, f.1, c.requires.kind_value)
 
 pub forbid-requires : goal.forbid-requires
-forbid-requires c = let f = fits-at c.args.code.now c.args.m.pc 16 (sym c.requires.kind_value.0 ∙ c.in-FORBID.is) c.requires.fits in
+forbid-requires c = let f = fits-at c.args.code.now c.args.m.pc 16 (sym c.requires.kind_value.0 ∙ c.in-16.is) c.requires.fits in
     omega (arith, f.0, f.1, c.requires.kind_value)
 
 pub refute-requires : goal.refute-requires
@@ -38,18 +38,18 @@ refute-requires c = let n = c.in_default.in_default-own.rest in
       stack_fits = c.requires.stack_fits;
     }
 
-pub returns-in-MARK : goal.returns-in-MARK
-returns-in-MARK c = λ sub. c.enter_part.ensures sub ∙ sym (moved_as c.args.code.now sub c.args.regs.now c.args.work.now c.args.m 13 (sym c.requires.kind_value.0 ∙ c.in-MARK.is))
+pub returns-in-13 : goal.returns-in-13
+returns-in-13 c = λ sub. c.enter_part.ensures sub ∙ sym (moved_as c.args.code.now sub c.args.regs.now c.args.work.now c.args.m 13 (sym c.requires.kind_value.0 ∙ c.in-13.is))
 
-pub returns-in-KEEP : goal.returns-in-KEEP
-returns-in-KEEP c = λ sub. c.keep_first.ensures sub ∙ sym (moved_as c.args.code.now sub c.args.regs.now c.args.work.now c.args.m 14 (sym c.requires.kind_value.0 ∙ c.in-KEEP.is))
+pub returns-in-14 : goal.returns-in-14
+returns-in-14 c = λ sub. c.keep_first.ensures sub ∙ sym (moved_as c.args.code.now sub c.args.regs.now c.args.work.now c.args.m 14 (sym c.requires.kind_value.0 ∙ c.in-14.is))
 
-pub returns-in-RETURN : goal.returns-in-RETURN
-returns-in-RETURN c = λ sub. c.return_first.ensures sub ∙ sym (moved_as c.args.code.now sub c.args.regs.now c.args.work.now c.args.m 15 (sym c.requires.kind_value.0 ∙ c.in-RETURN.is))
+pub returns-in-15 : goal.returns-in-15
+returns-in-15 c = λ sub. c.return_first.ensures sub ∙ sym (moved_as c.args.code.now sub c.args.regs.now c.args.work.now c.args.m 15 (sym c.requires.kind_value.0 ∙ c.in-15.is))
 
-pub returns-in-FORBID : goal.returns-in-FORBID
+pub returns-in-16 : goal.returns-in-16
 unfolding carry_out
-returns-in-FORBID c = λ sub. c.forbid.ensures ∙ sym (moved_as c.args.code.now sub c.args.regs.now c.args.work.now c.args.m 16 (sym c.requires.kind_value.0 ∙ c.in-FORBID.is))
+returns-in-16 c = λ sub. c.forbid.ensures ∙ sym (moved_as c.args.code.now sub c.args.regs.now c.args.work.now c.args.m 16 (sym c.requires.kind_value.0 ∙ c.in-16.is))
 
 pub returns-in_default : goal.returns-in_default
 returns-in_default c = let n = c.in_default.in_default-own.rest in

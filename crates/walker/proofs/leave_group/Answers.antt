@@ -17,8 +17,8 @@ bounds-code-behind c = let g = stepping-start c.args.code.now c.args.sub.now c.a
     let h = stepping-node g 4 c.requires.pc_value.1 c.requires.pc_value.0 (omega arith) (omega (arith, c.requires.pc_value.2)) k.new.regs k.new.work k.result e k.auto.regs k.auto.work in
     (stepping-fits h live).here
 
-pub returns-then-code-behind-ne-ROUND_END : goal.returns-then-code-behind-ne-ROUND_END
-returns-then-code-behind-ne-ROUND_END c = let g = stepping-start c.args.code.now c.args.sub.now c.args.regs.now c.args.work.now c.args.m c.args.left c.requires.by_index in
+pub returns-then-code-behind-ne-AGAIN : goal.returns-then-code-behind-ne-AGAIN
+returns-then-code-behind-ne-AGAIN c = let g = stepping-start c.args.code.now c.args.sub.now c.args.regs.now c.args.work.now c.args.m c.args.left c.requires.by_index in
     let k = c.close_group-closed in
     let e = k.ensures c.args.sub.now in
     let live = live-closed c.args.code.now c.args.sub.now c.args.regs.now c.args.work.now k.new.regs k.new.work c.args.m k.result e in
@@ -31,7 +31,7 @@ end_round-ended-requires c = let g = stepping-start c.args.code.now c.args.sub.n
     let e = k.ensures c.args.sub.now in
     let live = live-closed c.args.code.now c.args.sub.now c.args.regs.now c.args.work.now k.new.regs k.new.work c.args.m k.result e in
     let h = stepping-node g 4 c.requires.pc_value.1 c.requires.pc_value.0 (omega arith) (omega (arith, c.requires.pc_value.2)) k.new.regs k.new.work k.result e k.auto.regs k.auto.work in
-    let r = fits-at c.args.code.now k.result.pc 8 c.if-code-behind-ne-ROUND_END.false (stepping-fits h live) in
+    let r = fits-at c.args.code.now k.result.pc 8 c.if-code-behind-ne-AGAIN.false (stepping-fits h live) in
     omega (arith, r.0, r.1, stepping-low h live, k.auto.regs, c.requires.pc_value.2, c.requires.pc_value.3, c.requires.pc_value.4)
 
 pub bounds-code-next : goal.bounds-code-next
@@ -43,7 +43,7 @@ bounds-code-next c = let g = stepping-start c.args.code.now c.args.sub.now c.arg
     let j = c.end_round-ended in
     let f = j.ensures c.args.sub.now in
     let live2 = live-ended c.args.code.now c.args.sub.now k.new.regs k.new.work j.new.regs j.new.work k.result j.result f in
-    let i = stepping-two (stepping-node h 8 live c.if-code-behind-ne-ROUND_END.false (omega arith) (omega (arith, c.requires.pc_value.2)) j.new.regs j.new.work j.result f j.auto.regs j.auto.work) in
+    let i = stepping-two (stepping-node h 8 live c.if-code-behind-ne-AGAIN.false (omega arith) (omega (arith, c.requires.pc_value.2)) j.new.regs j.new.work j.result f j.auto.regs j.auto.work) in
     (stepping-fits i live2).here
 
 pub returns-then-code-next-ne-OPEN : goal.returns-then-code-next-ne-OPEN
@@ -55,7 +55,7 @@ returns-then-code-next-ne-OPEN c = let g = stepping-start c.args.code.now c.args
     let j = c.end_round-ended in
     let f = j.ensures c.args.sub.now in
     let live2 = live-ended c.args.code.now c.args.sub.now k.new.regs k.new.work j.new.regs j.new.work k.result j.result f in
-    let i = stepping-two (stepping-node h 8 live c.if-code-behind-ne-ROUND_END.false (omega arith) (omega (arith, c.requires.pc_value.2)) j.new.regs j.new.work j.result f j.auto.regs j.auto.work) in
+    let i = stepping-two (stepping-node h 8 live c.if-code-behind-ne-AGAIN.false (omega arith) (omega (arith, c.requires.pc_value.2)) j.new.regs j.new.work j.result f j.auto.regs j.auto.work) in
     (omega (arith, c.requires.pc_value.2), i.leads)
 
 pub open_group-opened-requires : goal.open_group-opened-requires
@@ -67,7 +67,7 @@ open_group-opened-requires c = let g = stepping-start c.args.code.now c.args.sub
     let j = c.end_round-ended in
     let f = j.ensures c.args.sub.now in
     let live2 = live-ended c.args.code.now c.args.sub.now k.new.regs k.new.work j.new.regs j.new.work k.result j.result f in
-    let i = stepping-two (stepping-node h 8 live c.if-code-behind-ne-ROUND_END.false (omega arith) (omega (arith, c.requires.pc_value.2)) j.new.regs j.new.work j.result f j.auto.regs j.auto.work) in
+    let i = stepping-two (stepping-node h 8 live c.if-code-behind-ne-AGAIN.false (omega arith) (omega (arith, c.requires.pc_value.2)) j.new.regs j.new.work j.result f j.auto.regs j.auto.work) in
     let r = fits-at c.args.code.now j.result.pc 3 c.if-code-next-ne-OPEN.false (stepping-fits i live2) in
     omega (arith, r.0, r.1, stepping-low i live2, k.auto.regs, j.auto.regs, c.requires.pc_value.2, c.requires.pc_value.3)
 
@@ -83,7 +83,7 @@ returns c = let g = stepping-start c.args.code.now c.args.sub.now c.args.regs.no
     let j = c.end_round-ended in
     let f = j.ensures c.args.sub.now in
     let live2 = live-ended c.args.code.now c.args.sub.now k.new.regs k.new.work j.new.regs j.new.work k.result j.result f in
-    let i = stepping-two (stepping-node h 8 live c.if-code-behind-ne-ROUND_END.false (omega arith) (omega (arith, c.requires.pc_value.2)) j.new.regs j.new.work j.result f j.auto.regs j.auto.work) in
+    let i = stepping-two (stepping-node h 8 live c.if-code-behind-ne-AGAIN.false (omega arith) (omega (arith, c.requires.pc_value.2)) j.new.regs j.new.work j.result f j.auto.regs j.auto.work) in
     let o = c.open_group-opened in
     let w = stepping-three (stepping-node i 3 live2 c.if-code-next-ne-OPEN.false (omega arith) (omega (arith, c.requires.pc_value.2)) o.new.regs o.new.work o.result (o.ensures c.args.sub.now) o.auto.regs o.auto.work) in
     (omega (arith, c.requires.pc_value.2), w.leads)

@@ -18,5 +18,5 @@ returns-then-kind-eq-CLOSE c = sees-close c.args.code.now c.args.at c.if-kind-eq
 pub returns-then-kind-eq-BRANCH : goal.returns-then-kind-eq-BRANCH
 returns-then-kind-eq-BRANCH c = sees-branch c.args.code.now c.args.at c.if-kind-eq-BRANCH.true
 
-pub returns-then-kind-eq-LAST_BRANCH : goal.returns-then-kind-eq-LAST_BRANCH
-returns-then-kind-eq-LAST_BRANCH c = sees-last c.args.code.now c.args.at c.if-kind-eq-LAST_BRANCH.true
+pub returns-then-kind-eq-LAST : goal.returns-then-kind-eq-LAST
+returns-then-kind-eq-LAST c = sees-last c.args.code.now c.args.at c.if-kind-eq-LAST.true
