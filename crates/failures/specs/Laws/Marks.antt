@@ -1,6 +1,6 @@
 -- What one move marks: nothing, or the place of the item that failed.
 use Rattle.std.specs.Prelude.{◌≡◌, List, ◌++◌, Option, None, Some, ℕ, ◌≤◌, length, set, take, drop}
-use Rattle.std.proofs.Common.{◌∙◌, arith, length-take-le}
+use Rattle.std.proofs.Common.{◌∙◌, length-take-le}
 use Rattle.std.proofs.Math.Seq.{set_out}
 use borrow.Author.Tests.{eq-eqb, ne_eqb}
 use Rattle.syntax.specs.Tree.{Rule}

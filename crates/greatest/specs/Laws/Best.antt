@@ -9,7 +9,7 @@ use Rattle.std.proofs.Math.Option.{Option, none, some}
 use borrow.Author.Tests.{lt-ltb, le-ltb, ltb-true, ltb-false}
 use Rattle.std.proofs.Math.Dec.{ltb}
 use Rattle.semantics.specs.Walk.{step, miss, end, Trace}
-use Rattle.semantics.specs.Explanations.{Failure, failed, greater, greatest, nowhere, or_nowhere, position, furthest, reach, closest}
+use Rattle.semantics.specs.Explanations.{Failure, failed, greater, greatest, or_nowhere, position, furthest, reach, closest}
 use Rattle.semantics.specs.Demands.{In}
 use Rattle.semantics.proofs.Laws.Failures.{greatest-append}
 use Rattle.greatest.specs.declared.greatest.Failed.{Failed}

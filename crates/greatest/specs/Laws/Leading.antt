@@ -7,7 +7,7 @@ use borrow.Author.Tests.{lt-ltb, le-ltb}
 use Rattle.syntax.specs.Limits.{unset}
 use Rattle.semantics.specs.Explanations.{Failure, greater}
 use Rattle.plain.specs.declared.Miss.{Miss}
-use Rattle.greatest.specs.Leading.{failing, better, would_lead, note_of, settled, kept_of}
+use Rattle.greatest.specs.Leading.{better, would_lead, note_of, settled, kept_of}
 
 module _ (start : ℕ) (k : option.Option Miss) where
   -- The note ------------------------------------------------------------------------

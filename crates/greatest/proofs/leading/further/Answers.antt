@@ -10,6 +10,6 @@ returns-then-leads c = λ start. lead-greater start _ _ (omega (arith, c.if-next
 
 pub returns : goal.returns
 returns c = λ start. elim c.else-next-ne-NOWHERE.branch [
-      else-next-ne-NOWHERE-via-then-next-ne-NOWHERE+else-leads w ↦ lead-not start _ _ (omega (arith, w.if-next-ne-NOWHERE.true)) _ (sym (w.leads.ensures start) ∙ w.if-leads.false)
-    | else-next-ne-NOWHERE-via-else-next-ne-NOWHERE w ↦ lead-nowhere start _ _ _ w.if-next-ne-NOWHERE.false
-    ]
+  | else-next-ne-NOWHERE-via-then-next-ne-NOWHERE+else-leads w ↦ lead-not start _ _ (omega (arith, w.if-next-ne-NOWHERE.true)) _ (sym (w.leads.ensures start) ∙ w.if-leads.false)
+  | else-next-ne-NOWHERE-via-else-next-ne-NOWHERE w ↦ lead-nowhere start _ _ _ w.if-next-ne-NOWHERE.false
+]

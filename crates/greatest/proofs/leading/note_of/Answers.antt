@@ -10,6 +10,6 @@ returns-then-leads c = λ start. note-greater start _ _ (omega (arith, c.if-at-n
 
 pub returns : goal.returns
 returns c = λ start. elim c.else-at-ne-NOWHERE.branch [
-      else-at-ne-NOWHERE-via-then-at-ne-NOWHERE+else-leads w ↦ note-not start _ _ (omega (arith, w.if-at-ne-NOWHERE.true)) (sym (w.leads.ensures start) ∙ w.if-leads.false)
-    | else-at-ne-NOWHERE-via-else-at-ne-NOWHERE w ↦ note-nowhere start _ _ w.if-at-ne-NOWHERE.false
-    ]
+  | else-at-ne-NOWHERE-via-then-at-ne-NOWHERE+else-leads w ↦ note-not start _ _ (omega (arith, w.if-at-ne-NOWHERE.true)) (sym (w.leads.ensures start) ∙ w.if-leads.false)
+  | else-at-ne-NOWHERE-via-else-at-ne-NOWHERE w ↦ note-nowhere start _ _ w.if-at-ne-NOWHERE.false
+]
