@@ -10,7 +10,3 @@ pub check_held-requires : goal.check_held-requires
 unfolding group_limit spans_length row_length
 check_held-requires c = let p = c.requires in (p.0, p.1, omega arith)
 
-pub returns-then-row : goal.returns-then-row
-unfolding group_limit spans_length row_length
-returns-then-row c = let a = c.args in
-    (refl, λ x stands. reading-accepted _ _ a.wanted.now (check a.subject.now x a.budget a.proposal.now) c.check_held.result _ c.in-Reading.is (c.check_held.ensures x stands) (omega arith) (EQ))
