@@ -128,12 +128,7 @@ fn take_next(proposal: &mut [u8], ways: &mut [u8], i: usize, more: bool) -> Resu
 }
 
 // The walk fell back; `more`: to a branch that is not the last.
-pub fn go_back(
-    proposal: &mut [u8],
-    ways: &mut [u8],
-    log: Log,
-    more: bool,
-) -> Result<Log, Unmade>
+pub fn go_back(proposal: &mut [u8], ways: &mut [u8], log: Log, more: bool) -> Result<Log, Unmade>
     requires { Within proposal.old ways.old log }
     ensures { IfOk result (Within proposal.new ways.new) }
 {

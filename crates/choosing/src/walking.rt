@@ -9,8 +9,8 @@ ghost use Rattle.machine.specs.Ready.{StackFits, Ready};
 ghost use Rattle.choosing.specs.Logs.{Within};
 ghost use Rattle.choosing.specs.Walks.{Noted};
 
-use crate::choices::{falls_back, note_choice};
 use crate::Unmade;
+use crate::choices::{falls_back, note_choice};
 use crate::log::{Log, Way, go_back, put};
 use index::{ROW_LENGTH, write_row};
 use machine::{Machine, fall_back, start};

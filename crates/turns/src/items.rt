@@ -41,7 +41,13 @@ pub fn take_byte(code: &[u32], sub: &[u8], pc: usize, at: u32, read: usize) -> R
 }
 
 // An assertion.
-pub fn test_assertion(code: &[u32], sub: &[u8], pc: usize, at: u32, read: usize) -> Result<Step, Lost>
+pub fn test_assertion(
+    code: &[u32],
+    sub: &[u8],
+    pc: usize,
+    at: u32,
+    read: usize,
+) -> Result<Step, Lost>
     requires { pc + 4 ≤ length code.now }
     ensures { (regs choices : List ℕ) → said_by result regs choices ≡ turn_as 1 code.now sub.now pc at regs (drop read choices) }
 {

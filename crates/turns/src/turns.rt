@@ -49,7 +49,13 @@ fn open_group(code: &[u32], regs: &mut [u32], pc: usize, at: u32, read: usize) -
 }
 
 // A group closes: its span is set, from where it opened.
-fn close_group(code: &[u32], regs: &mut [u32], pc: usize, at: u32, read: usize) -> Result<Step, Lost>
+fn close_group(
+    code: &[u32],
+    regs: &mut [u32],
+    pc: usize,
+    at: u32,
+    read: usize,
+) -> Result<Step, Lost>
     requires { (pc + 4 ≤ length code.now) × (get_or code.now (pc + 2) 0 + 2 ≤ length regs.old) × (get_or code.now (pc + 3) 0 + 2 ≤ length regs.old) }
     ensures { (sub choices : List ℕ) → said_by result regs.new choices ≡ turn_as 4 code.now sub pc at regs.old (drop read choices) }
 {
@@ -121,7 +127,14 @@ fn count_round(n: u32) -> u32
 }
 
 // A round of the repeat whose numbers stand at `q` begins, after `n`.
-fn begin_round(code: &[u32], regs: &mut [u32], q: usize, n: u32, at: u32, read: usize) -> Result<Step, Lost>
+fn begin_round(
+    code: &[u32],
+    regs: &mut [u32],
+    q: usize,
+    n: u32,
+    at: u32,
+    read: usize,
+) -> Result<Step, Lost>
     requires { (q + 6 ≤ length code.now) × (get_or code.now (q + 3) 0 + 2 ≤ length regs.old) }
     ensures { (choices : List ℕ) → said_by result regs.new choices ≡ beginning code.now (repeat_at code.now q) n at regs.old (drop read choices) }
 {
