@@ -14,29 +14,18 @@ ghost use Rattle.machine.specs.Ready.{Missed, Asks};
 use repeats::is_full;
 use syntax::node::{BYTE, CLOSE, NODE_LENGTH, RUN};
 
-pub fn nearer(a: usize, b: usize) -> usize
-    ensures { result ≡ min a b }
-{
-    if a < b {
-        return a;
-    }
-    b
-}
-
 // Where the bytes of a class end, from `at` on and before `stop`. The class is lent from its first word on, so that its place in the rule is added
 // once for all bytes.
 fn bytes_end(class: &[u32], sub: &[u8], at: usize, stop: usize) -> usize
     requires { (8 ≤ length class.now) × (stop ≤ length sub.now) }
     ensures { result ≡ at + extent sub.now (has class.now) (stop - at) at }
 {
-    let mut i = at;
-    while i < stop {
+    for i in at..stop {
         if !charset::contains(class, 0, sub[i]) {
             return i;
         }
-        i += 1;
     }
-    i
+    at.max(stop)
 }
 
 // How many bytes the run at `pc` takes from `at` on; or fewer, if these already take more steps than are left.
@@ -47,8 +36,8 @@ pub fn run_length(code: &[u32], sub: &[u8], pc: usize, at: u32, left: u32) -> u3
     let most = code[pc + 3] as usize;
     let body = code[pc + 6] as usize;
     let from = at as usize;
-    let few = nearer(most, left as usize / 2 + 1);
-    let stop = nearer(from + few, sub.len());
+    let few = most.min(left as usize / 2 + 1);
+    let stop = (from + few).min(sub.len());
     let class = body + 3;
     let end = bytes_end(&code[class..], sub, from, stop);
     (end - from) as u32
@@ -130,15 +119,13 @@ pub fn missed_ends(class: &[u32], sub: &[u8], high: usize, most: usize) -> usize
     requires { (8 ≤ length class.now) × (most ≤ high + 1) }
     ensures { (result ≤ most) × Missed sub.now (has class.now) high result }
 {
-    let mut n: usize = 0;
-    while n < most {
+    for n in 0..most {
         let i = high - n;
         if i < sub.len() {
             if charset::contains(class, 0, sub[i]) {
                 return n;
             }
         }
-        n += 1;
     }
-    n
+    most
 }

@@ -28,19 +28,19 @@ pub slice_bounds-missed_ends-end : goal.slice_bounds-missed_ends-end
 slice_bounds-missed_ends-end c = omega (arith, (c.gate_of-gate.ensures.1 (omega (arith, c.if-cost-eq0.false))).0)
 
 pub missed_ends-n-requires : goal.missed_ends-n-requires
-missed_ends-n-requires c = (rw (rest-whole c.args.code.now c.gate_of-gate.result.base) (simp length-drop (omega (arith, (c.gate_of-gate.ensures.1 (omega (arith, c.if-cost-eq0.false))).0))), omega (arith, c.nearer-most.ensures))
+missed_ends-n-requires c = (rw (rest-whole c.args.code.now c.gate_of-gate.result.base) (simp length-drop (omega (arith, (c.gate_of-gate.ensures.1 (omega (arith, c.if-cost-eq0.false))).0))), omega (arith, c.min-most.ensures))
 
 pub overflow_mul-all : goal.overflow_mul-all
-overflow_mul-all c = omega (arith, mul-le-mul_left c.missed_ends-n.result c.gate_of-gate.ensures.0, c.missed_ends-n.ensures.0, c.nearer-most.ensures)
+overflow_mul-all c = omega (arith, mul-le-mul_left c.missed_ends-n.result c.gate_of-gate.ensures.0, c.missed_ends-n.ensures.0, c.min-most.ensures)
 
 pub overflow_add-all : goal.overflow_add-all
-overflow_add-all c = omega (arith, mul-le-mul_left c.missed_ends-n.result c.gate_of-gate.ensures.0, c.missed_ends-n.ensures.0, c.nearer-most.ensures)
+overflow_add-all c = omega (arith, mul-le-mul_left c.missed_ends-n.result c.gate_of-gate.ensures.0, c.missed_ends-n.ensures.0, c.min-most.ensures)
 
 pub returns-then-left-all : goal.returns-then-left-all
 returns-then-left-all c = let f = has (drop c.gate_of-gate.result.base c.args.code.now) in
     let asks = (c.gate_of-gate.ensures.1 (omega (arith, c.if-cost-eq0.false))).1 c.args.sub.now in
     let missed = rw (rest-whole c.args.code.now c.gate_of-gate.result.base) at c.missed_ends-n.ensures.1 in
-    λ here l. left-long f asks c.args.high c.args.low c.args.regs.now (stack_of c.args.work.now c.args.height) c.requires.low_le_high.0 c.missed_ends-n.result missed here c.args.steps l (omega (arith, c.missed_ends-n.ensures.0, c.nearer-most.ensures)) (omega (arith, c.if-left-all.true))
+    λ here l. left-long f asks c.args.high c.args.low c.args.regs.now (stack_of c.args.work.now c.args.height) c.requires.low_le_high.0 c.missed_ends-n.result missed here c.args.steps l (omega (arith, c.missed_ends-n.ensures.0, c.min-most.ensures)) (omega (arith, c.if-left-all.true))
 
 pub returns-then-n-ends : goal.returns-then-n-ends
 returns-then-n-ends c = let f = has (drop c.gate_of-gate.result.base c.args.code.now) in
@@ -52,4 +52,4 @@ pub returns : goal.returns
 returns c = let f = has (drop c.gate_of-gate.result.base c.args.code.now) in
     let asks = (c.gate_of-gate.ensures.1 (omega (arith, c.if-cost-eq0.false))).1 c.args.sub.now in
     let missed = rw (rest-whole c.args.code.now c.gate_of-gate.result.base) at c.missed_ends-n.ensures.1 in
-    λ here l. (omega (arith, c.requires.low_le_high.1), c.if-left-all.false, rw c.fall_back-fallen.ensures (left-none f asks c.args.high c.args.low c.args.regs.now (stack_of c.args.work.now c.args.height) c.requires.low_le_high.0 c.missed_ends-n.result missed here c.args.steps l (omega (arith, c.if-n-ends.false, c.missed_ends-n.ensures.0, c.nearer-most.ensures))))
+    λ here l. (omega (arith, c.requires.low_le_high.1), c.if-left-all.false, rw c.fall_back-fallen.ensures (left-none f asks c.args.high c.args.low c.args.regs.now (stack_of c.args.work.now c.args.height) c.requires.low_le_high.0 c.missed_ends-n.result missed here c.args.steps l (omega (arith, c.if-n-ends.false, c.missed_ends-n.ensures.0, c.min-most.ensures))))
