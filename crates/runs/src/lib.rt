@@ -39,17 +39,14 @@ fn leave_run(
         let only = go_down(work, next, high, low, height);
         return Ran::Made(steps, only);
     }
-    let gate = gate_of(code, next as usize);
-    let cost = gate.cost;
-    if cost == 0 {
+    let Some(gate) = gate_of(code, next as usize) else {
         let made = go_down(work, next, high, low, height);
         return Ran::Made(steps, made);
-    }
+    };
     let ends = (high - low) as usize + 1;
     let most = ends.min((left - steps) as usize + 1);
-    let base = gate.base;
-    let n = missed_ends(&code[base..], sub, high as usize, most);
-    let all = steps as u64 + (n as u64) * (cost as u64);
+    let n = missed_ends(&code[gate.base..], sub, high as usize, most);
+    let all = steps as u64 + (n as u64) * (gate.cost as u64);
     if (left as u64) < all {
         return Ran::TooLong;
     }

@@ -1,4 +1,4 @@
-use Prim.Native.Nat.{◌-◌, ◌≤◌}
+use Prim.Native.Nat.{◌≤◌}
 use Rattle.charset.specs.Class.{has}
 use Rattle.machine.specs.Ready.{Missed}
 use Rattle.run_ends.proofs.missed_ends.Given as goal
