@@ -135,12 +135,12 @@ module _ (rule : List ℕ) (known : Names) where
 
 -- The whole rule --------------------------------------------------------------------------
 
-nothing-noted : (o : maybe.Option ℕ) → noted o None ≡ None → o ≡ none
+pub nothing-noted : (o : maybe.Option ℕ) → noted o None ≡ None → o ≡ none
 unfolding noted
 nothing-noted none e = refl
 nothing-noted (some place) e = absurd (none-some place (sym e))
 
-place-noted : (o : maybe.Option ℕ) (place : ℕ) → noted o None ≡ Some place → o ≡ some place
+pub place-noted : (o : maybe.Option ℕ) (place : ℕ) → noted o None ≡ Some place → o ≡ some place
 unfolding noted
 place-noted none place e = absurd (none-some place e)
 place-noted (some p) place e = ap some (same_Some p place e)

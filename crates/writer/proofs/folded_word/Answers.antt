@@ -1,5 +1,5 @@
 -- By cases of the flag.
-use mathlib.Core.Path.{◌≡◌, refl, ◌∙◌}
+use mathlib.Core.Path.{◌≡◌, refl, ap, ◌∙◌}
 use mathlib.Core.Bool.{Bool, true, false}
 use mir.Val.{bool_byte}
 use Rattle.syntax.specs.Compiled.{folded_word}
@@ -11,4 +11,4 @@ bit true = refl
 bit false = refl
 
 pub returns : goal.returns
-returns c = c.from.ensures ∙ bit _ ∙ rw c.ignores_case.ensures
+returns c = c.from.ensures ∙ bit _ ∙ ap folded_word c.ignores_case.ensures
