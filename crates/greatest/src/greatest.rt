@@ -6,7 +6,6 @@ ghost use Rattle.semantics.specs.Explanations.{Failure, greater, reach};
 ghost use Rattle.greatest.specs.Best.{failure_of, Blank, Keeps};
 ghost use Rattle.greatest.specs.Leading.{kept_of, listed};
 
-use nodes::span_length;
 use plain::Miss;
 
 // An item that failed: the start of the attempt, where in the subject it was tried, and its place in the rule.
@@ -43,7 +42,7 @@ pub fn blank() -> Best
 fn reach_of(x: Failed) -> u32
     ensures { result ≡ reach (failure_of x) }
 {
-    span_length(x.start, x.at)
+    x.at.saturating_sub(x.start)
 }
 
 // The greater of the best so far and the next failure, by their measures.
