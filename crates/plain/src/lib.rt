@@ -10,20 +10,18 @@
 #![tactic(auto)]
 
 ghost use Rattle.std.specs.Prelude.{◌≡◌, List, not, ℕ, ◌+◌, ◌*◌, ◌≤◌, ◌<◌, ◌^◌, length, get_or, drop};
-ghost use Rattle.charset.specs.Class.{has};
 ghost use Rattle.syntax.specs.Limits.{spans_length, registers};
 ghost use Rattle.machine.specs.Code.{repeat_at, Fits};
-ghost use Rattle.machine.specs.Moves.{takes, bytes_of};
+ghost use Rattle.machine.specs.Moves.{bytes_of};
 ghost use Rattle.machine.specs.Words.{stack_of, configuration_of, now_of, moved_on, carried};
 ghost use Rattle.machine.specs.Ready.{StackFits};
 ghost use Rattle.plain.specs.Telling.{leads};
 ghost use Rattle.plain.specs.Misses.{failed_if, missed_of, Tells, TellsLate, RefersAs};
 
 use breaks::break_at;
-use charset::contains;
 use machine::{Machine, fall_back, go_down, push_explore};
 use marks::{forbid, take_marked};
-use nodes::{Compared, assertion_holds, compare};
+use nodes::{Compared, assertion_holds, byte_holds, compare};
 use repeats::is_full;
 use run_ends::run_length;
 use syntax::node::{ASSERTION, BRANCH, BREAK, BYTE, FORBID, MARK, REFERENCE, RUN};
@@ -51,17 +49,6 @@ pub struct Refuted {
 pub enum Told {
     Item(Option<Miss>),
     Refuted(Refuted),
-}
-
-// Whether the byte item at `pc` has its byte at a position.
-fn byte_holds(code: &[u32], sub: &[u8], pc: usize, at: usize) -> bool
-    requires { pc + 11 ≤ length code.now }
-    ensures { result ≡ takes sub.now (has (drop (pc + 3) code.now)) at }
-{
-    if at < sub.len() {
-        return contains(code, pc + 3, sub[at]);
-    }
-    false
 }
 
 // How many bytes the run at `pc` takes, all of them.

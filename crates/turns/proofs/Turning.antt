@@ -143,16 +143,6 @@ module _ (p : Program) where
   unfolding turn_by choosing_branch
   branch-unread sub pc at regs cs i l = rw (drop_of_length-le cs l)
 
--- Rounds ----------------------------------------------------------------------------------
-
-pub bump-less : (n : ℕ) → n < 255 → n + 1 ≡ bump n
-unfolding bump bound_limit
-bump-less n l = omega arith
-
-pub bump-full : (n : ℕ) → 255 ≤ n → 255 ≡ bump n
-unfolding bump bound_limit
-bump-full n l = omega arith
-
 -- References --------------------------------------------------------------------------------
 
 compared-low : (folded : Bool) (sub : List ℕ) (n a b : ℕ) → compared folded sub n a b ≤ length sub - b

@@ -1,27 +1,13 @@
 // Items: a byte of a set, an assertion, a reference.
 ghost use Rattle.std.specs.Prelude.{◌≡◌, List, ℕ, ◌+◌, ◌≤◌, ◌<◌, ◌^◌, length, get_or, drop};
-ghost use Rattle.charset.specs.Class.{has};
 ghost use Rattle.syntax.specs.Limits.{spans_length};
-ghost use Rattle.machine.specs.Moves.{takes};
 ghost use Rattle.turns.specs.Paces.{said_by, turn_as};
 
 use crate::{Lost, Step};
-use charset::contains;
-use nodes::{Compared, assertion_holds, compare};
+use nodes::{Compared, assertion_holds, byte_holds, compare};
 
 // More steps than any reference makes: what is beyond the budget is seen by its cost.
 const ALL_STEPS: u32 = u32::MAX;
-
-// Whether the byte item at `pc` has its byte at a position.
-fn byte_holds(code: &[u32], sub: &[u8], pc: usize, at: usize) -> bool
-    requires { pc + 11 ≤ length code.now }
-    ensures { result ≡ takes sub.now (has (drop (pc + 3) code.now)) at }
-{
-    if at < sub.len() {
-        return contains(code, pc + 3, sub[at]);
-    }
-    false
-}
 
 // A byte of a set.
 pub fn take_byte(code: &[u32], sub: &[u8], pc: usize, at: u32, read: usize) -> Result<Step, Lost>

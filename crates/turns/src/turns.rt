@@ -1,17 +1,14 @@
 // Groups, branches and repeats, and a turn at any node.
 ghost use Rattle.std.specs.Prelude.{◌≡◌, List, ℕ, ◌+◌, ◌≤◌, ◌<◌, ◌^◌, length, get_or, drop, Bool};
-ghost use Rattle.machine.specs.Moves.{set2, bump};
+ghost use Rattle.machine.specs.Moves.{set2};
 ghost use Rattle.machine.specs.Code.{repeat_at};
 ghost use Rattle.turns.specs.Turns.{body_of, beginning, deciding, turn, Safe};
 ghost use Rattle.turns.specs.Paces.{said_by, turn_as, branch_said};
 
 use crate::items::{take_byte, take_reference, test_assertion};
 use crate::{Lost, Step};
-use repeats::is_full;
+use repeats::{count_round, is_full};
 use syntax::node::{AGAIN, ASSERTION, BRANCH, BYTE, CLOSE, LAST, OPEN, REFERENCE, REPEAT, RUN};
-
-// The greatest bound of a repeat.
-const BOUND_LIMIT: u32 = 255;
 
 // The number at a position of the compiled rule, and 0 past its end.
 fn number(code: &[u32], i: usize) -> u32
@@ -114,16 +111,6 @@ fn begin_branch(code: &[u32], choices: &[u8], pc: u32, at: u32, read: usize) -> 
             read: read + 1,
         }),
     }
-}
-
-// One round more, counted up to the greatest bound.
-fn count_round(n: u32) -> u32
-    ensures { result ≡ bump n }
-{
-    if n < BOUND_LIMIT {
-        return n + 1;
-    }
-    BOUND_LIMIT
 }
 
 // A round of the repeat whose numbers stand at `q` begins, after `n`.
