@@ -87,9 +87,7 @@ fn turn(code: &[u32], search: Search) -> Option<Search>
         Seen::Leaf(cost) => Some(count(search, cost)),
         Seen::Byte(cost, base) => Some(widen(code, count(search, cost), base)),
         Seen::On(cost, next) => Some(push(count(search, cost), next)),
-        Seen::Both(cost, first, second) => {
-            Some(push(push(count(search, cost), second), first))
-        }
+        Seen::Both(cost, first, second) => { Some(push(push(count(search, cost), second), first)) }
         Seen::ByteOn(cost, base, next) => {
             Some(push(widen(code, count(search, cost), base), next))
         }

@@ -12,7 +12,7 @@ use lib.ListN.{drop_of_length-le, get_or-eq_default}
 use lib.Dec.{ltb, leb, eqb}
 use borrow.Author.Tests.{lt-ltb, le-ltb, ltb-true, leb-true}
 use Rattle.charset.specs.Class.{has}
-use Rattle.syntax.specs.Limits.{unset, spans_length, bound_limit}
+use Rattle.syntax.specs.Limits.{unset, spans_length}
 use Rattle.syntax.specs.Read.{byte}
 use Rattle.semantics.specs.Assertions.{holds}
 use Rattle.semantics.specs.States.{State, moved}
