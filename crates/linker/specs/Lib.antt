@@ -4,3 +4,4 @@ pub mod Nodes
 pub mod Linking
 pub mod Stores
 pub mod Laws
+pub mod Known
