@@ -166,7 +166,8 @@ fn part(area: &[u32], p: usize, depth: u32) -> Measured
     }
 }
 
-// A sequence, from its last part to its first. Its parts stand one level deeper.
+// A sequence, from its last part to its first. Its parts stand one level deeper. Nodes name those before them in two ways, here and in `branches`: an
+// iterator for each would be longer than the two loops.
 #[cycle(branches_chain_inside_part)]
 fn chain(area: &[u32], last: usize, depth: u32) -> Measured
     requires { Deep Chain area.now last depth }

@@ -134,9 +134,6 @@ link_inside-bounds-area-p t c = inside-fits _ _ _ _ _ _ (omega arith) c.requires
 pub link_inside-link_alternation-requires : goal.link_inside-link_alternation-requires
 link_inside-link_alternation-requires t c = (omega arith, (c.requires.0, c.requires.1, omega arith, c.if-area-p-eq-LAST.true))
 
-pub link_inside-returns-then-area-p-eq-LAST : goal.link_inside-returns-then-area-p-eq-LAST
-link_inside-returns-then-area-p-eq-LAST t c = c.link_alternation.ensures
-
 pub link_inside-link_chain-requires : goal.link_inside-link_chain-requires
 link_inside-link_chain-requires t c = (omega arith, (chain-stands _ _ _ _ _ _ c.if-area-p-eq-LAST.false c.requires.0, c.requires.1))
 
@@ -152,20 +149,11 @@ link_part-bounds-area-p t c = let b = begins _ _ _ _ _ _ c.requires.0 in omega a
 pub link_part-link_group-requires : goal.link_part-link_group-requires
 link_part-link_group-requires t c = (omega arith, (c.requires.0, c.requires.1, c.is_bracketed.ensures.0 c.if-is_bracketed.true))
 
-pub link_part-returns-then-is_bracketed : goal.link_part-returns-then-is_bracketed
-link_part-returns-then-is_bracketed t c = c.link_group.ensures
-
 pub link_part-link_repeat-requires : goal.link_part-link_repeat-requires
 link_part-link_repeat-requires t c = (omega arith, (c.requires.0, c.requires.1, c.in-7.is))
 
-pub link_part-returns-in-7 : goal.link_part-returns-in-7
-link_part-returns-in-7 t c = c.link_repeat.ensures
-
 pub link_part-link_plain-requires : goal.link_part-link_plain-requires
 link_part-link_plain-requires t c = (omega arith, (c.requires.0, c.requires.1, c.in-10.is))
-
-pub link_part-returns-in-10 : goal.link_part-returns-in-10
-link_part-returns-in-10 t c = c.link_plain.ensures
 
 pub link_part-link_reference-dangling-requires : goal.link_part-link_reference-dangling-requires
 link_part-link_reference-dangling-requires t c = let x = reference-fits _ _ _ _ _ _ c.requires.0 c.in-11.is in (x.0, c.requires.1, x.1)
