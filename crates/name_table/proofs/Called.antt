@@ -1,7 +1,7 @@
 -- The names of a table, from the last group down: those that are left decide as all do.
-use mathlib.Core.Path.{◌≡◌, refl, sym, ap, subst, ◌∙◌}
-use mathlib.Core.Bool.{Bool, true, false, ◌&&◌}
-use mathlib.Core.List.{List, [], ◌∷◌}
+use mathlib.Core.Path.{◌≡◌, sym, ap, subst, ◌∙◌}
+use mathlib.Core.Bool.{Bool, true, false}
+use mathlib.Core.List.{List}
 use Prim.Native.Nat.{ℕ, suc, ◌+◌, ◌-◌, ◌*◌, ◌≤◌}
 use native.Mathlib.Omega.{arith}
 use lib.Dec.{eqb}
@@ -11,16 +11,10 @@ use lib.Seq.{slice}
 use Rattle.std.proofs.lemmas.List.{drop-take}
 use Rattle.syntax.specs.Names.{Name, group_called}
 use Rattle.syntax.specs.Sets.{same_bytes}
+use Rattle.syntax.proofs.Same.{same-pointwise}
 use Rattle.name_table.specs.Table.{names_in, length-names}
 
 -- Two names -----------------------------------------------------------------------------
-
-same-pointwise : (x y : List ℕ) → pointwise eqb x y ≡ same_bytes x y
-unfolding same_bytes
-same-pointwise [] [] = refl
-same-pointwise [] (c ∷ cs) = refl
-same-pointwise (b ∷ bs) [] = refl
-same-pointwise (b ∷ bs) (c ∷ cs) = ap (λ (r : Bool). eqb b c && r) (same-pointwise bs cs)
 
 -- what the comparison of a part of the rule with other bytes answered
 pub compared : (s x y : List ℕ) (from len : ℕ) (b : Bool) → y ≡ x → b ≡ pointwise eqb (take (from + len - from) (drop from s)) y → same_bytes (slice from (from + len) s) x ≡ b
