@@ -7,15 +7,13 @@ use mathlib.Core.Option.{none, some}
 use Prim.Native.Nat.{ℕ, ◌+◌, ◌-◌, ◌*◌, ◌≤◌, ◌<◌}
 use native.Mathlib.Omega.{arith}
 use borrow.Author.Tests.{eq-eqb, ne_eqb, le-leb, lt-leb}
-use lib.ListN.{get_or, set, length, length-set}
-use lib.Seq.{slice, get_or-set_same, get_or-set_other}
+use lib.ListN.{get_or}
 use Rattle.syntax.specs.Limits.{slot}
-use Rattle.syntax.specs.Names.{Names, group_called}
 use Rattle.syntax.specs.Reading.{dangling}
 use Rattle.syntax.specs.Tree.{reference}
 use Rattle.linker.specs.Nodes.{before_of}
-use Rattle.linker.specs.Linking.{Outside, noted}
-use Rattle.linker.specs.Stores.{Put, PutTwo, PutAfter, GroupClosed, RepeatClosed, Referred, Numbered}
+use Rattle.linker.specs.Linking.{noted}
+use Rattle.linker.specs.Stores.{Put, Referred}
 use Rattle.linker.proofs.Made.{outside-none, outside-then}
 
 -- a number at a position that is written otherwise
