@@ -231,7 +231,8 @@ fn refuse_at(found: Option<usize>, reason: Reason) -> Result<(), Refusal>
     }
 }
 
-// Judges a whole rule, whose inside the first pass left: whether it keeps to the profile.
+// Judges a whole rule, whose inside the first pass left: whether it keeps to the profile. `judge` and `checkable` promise different things of one walk;
+// all that they do alike is in `refuse_at`, and one function for both, with fields and reasons passed to it, would be no plainer.
 pub fn judge(area: &[u32], p: usize) -> Result<(), Refusal>
     requires { Deep Inside area.now p level_limit }
     ensures { Judges true area.now p result }

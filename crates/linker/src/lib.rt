@@ -1,8 +1,9 @@
 // Turns the nodes that the first pass left in the rule area into the compiled rule, in place, from the last part to the first. Only here does a
 // reference by name get its group's number: the group may stand behind it, so that the first pass cannot tell.
 //
-// The nodes stay in the area that the caller lends, since there is no heap: a node names others by their positions, and 0, no node's position, stands
-// for none.
+// The nodes stay in the area of numbers that the caller lends, since there is no heap: their kinds are numbers of it, and a node names others by their
+// positions, where 0, no node's position, stands for none. A position is a bare number too, whose bound is asked for where it is used: a type that
+// holds the bound would be taken apart at each use, and be no plainer.
 #![tactic(auto)]
 
 ghost use Rattle.std.specs.Prelude.{◌≡◌, true, false, ◌+◌, ◌≤◌, ◌<◌, get_or, length};
