@@ -1,6 +1,7 @@
-// What the depot profile bars of a rule, and the least lengths that it asks for; and what a check cannot follow. A recursion over the rule's groups and repeats, one inside another, in
-// which the levels that are left fall at each part. It goes over the nodes as the first pass left them in the rule area, and looks at each once. It has
-// to come before linking, since the linked rule does not tell where an alternation ends, and a repeat's place there gives way to its register.
+// What the depot profile bars of a rule, and the least lengths that it asks for; and what a check cannot follow. A recursion over the rule's groups and
+// repeats, one inside another, in which the levels that are left fall at each part. It goes over the nodes as the first pass left them in the rule
+// area, and looks at each once. It has to come before linking, since the linked rule does not tell where an alternation ends, and a repeat's place there
+// gives way to its register.
 #![tactic(auto)]
 
 ghost use Rattle.std.specs.Prelude.{◌≡◌, true, MatchOption, Ok, Err, ◌+◌, ◌≤◌, ltb, length, if◌then◌else◌};
