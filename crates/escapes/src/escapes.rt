@@ -1,7 +1,8 @@
 // Escapes for a byte or a set. `at` is the backslash's position, and the place of every refusal.
-ghost use Rattle.std.specs.Prelude.{◌≡◌, Ok, Err, ℕ, ◌+◌, ◌<◌, ◌≤◌, length};
+ghost use Rattle.std.specs.Prelude.{◌≡◌, ℕ, ◌+◌, ◌<◌, ◌≤◌, length, MatchOption};
 ghost use Rattle.syntax.specs.declared.Reason.TheVariants.{MalformedEscape, UnknownEscape};
-ghost use Rattle.syntax.specs.Read.{byte, read_of, sound, refused};
+ghost use Rattle.syntax.specs.Read.{read_of, sound, refused};
+ghost use Rattle.syntax.specs.Sets.{single};
 ghost use Rattle.syntax.specs.Escapes.{byte_of, braced, hex, braced_octal, octal, control, meanings, letter, common, class_escape};
 ghost use Rattle.escapes.specs.Says.{member_of};
 
@@ -19,7 +20,7 @@ fn malformed(at: usize) -> Refusal
 
 // One byte, which ends before `next`.
 fn single(b: u8, next: usize) -> Reading<Member>
-    ensures { read_of member_of result ≡ sound (member_of (Single b)) next }
+    ensures { read_of member_of result ≡ sound (single b) next }
 {
     Ok(Parsed {
         value: Member::Single(b),

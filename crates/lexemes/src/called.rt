@@ -15,7 +15,9 @@ fn word_end(rule: &[u8], from: usize) -> usize
     requires { from ≤ length rule.now }
     ensures { (result ≡ from + length (word_at rule.now from)) × (result ≤ length rule.now) }
 {
-    let word = rule[from..].iter().take_while(|b| in_named(Named::Word, **b));
+    let word = rule[from..]
+        .iter()
+        .take_while(|b| in_named(Named::Word, **b));
     from + word.count()
 }
 
