@@ -53,7 +53,9 @@ fn members_at(rule: &[u8], from: usize, start: usize, folded: bool, strict: bool
     let mut at = start;
     loop {
         let member = member_at(rule, from, at, strict)?;
-        words = with_member(words, member.value, folded);
+        // an array that a call makes of itself goes through a name of its own: the borrow checker covers no more
+        let more = with_member(words, member.value, folded);
+        words = more;
         at = member.next;
         if peek(rule, at) == CLOSING_BRACKET {
             return Ok(Parsed {

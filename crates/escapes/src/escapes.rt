@@ -19,7 +19,7 @@ fn malformed(at: usize) -> Refusal
 }
 
 // One byte, which ends before `next`.
-fn single(b: u8, next: usize) -> Reading<Member>
+pub(crate) fn single(b: u8, next: usize) -> Reading<Member>
     ensures { read_of member_of result ≡ sound (single b) next }
 {
     Ok(Parsed {
@@ -61,8 +61,12 @@ fn hex_at(rule: &[u8], at: usize) -> Reading<Member>
     if peek(rule, at + 2) == OPENING_BRACE {
         return braced_at(rule, 16, at, at + 3);
     }
-    let high = digit_at(rule, 16, at + 2).ok_or(malformed(at))?;
-    let low = digit_at(rule, 16, at + 3).ok_or(malformed(at))?;
+    let Some(high) = digit_at(rule, 16, at + 2) else {
+        return Err(malformed(at));
+    };
+    let Some(low) = digit_at(rule, 16, at + 3) else {
+        return Err(malformed(at));
+    };
     byte_of(at, high * 16 + low, at + 4)
 }
 

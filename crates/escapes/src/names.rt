@@ -1,11 +1,12 @@
 // Named sets in a class: `[:name:]` and `[:^name:]`. `at` is the position of the `[`, and the place of a refusal.
 ghost use Rattle.std.specs.Prelude.{◌≡◌, ◌+◌, ◌≤◌, ◌<◌, length, drop};
-ghost use Rattle.syntax.specs.Read.{read_of, sound};
-ghost use Rattle.syntax.specs.Sets.{namings, lookup, set_named, single};
+ghost use Rattle.syntax.specs.Read.{read_of};
+ghost use Rattle.syntax.specs.Sets.{namings, lookup, set_named};
 ghost use Rattle.syntax.specs.Classes.{letters, posix_member, posix_name, posix};
 ghost use Rattle.escapes.specs.Says.{member_of, set_of};
 
 use crate::Member;
+use crate::escapes::single;
 use charset::Named;
 use lexemes::{CARET, CLOSING_BRACKET, COLON, peek};
 use syntax::{Parsed, Reading, Reason, Refusal};
@@ -15,25 +16,25 @@ use syntax::{Parsed, Reading, Reason, Refusal};
 fn set_named(name: &[u8]) -> Option<Named>
     ensures { set_of result ≡ set_named name.now }
 {
-    if name == b"digit" {
+    if name == b"digit".as_slice() {
         return Some(Named::Digit);
     }
-    if name == b"word" {
+    if name == b"word".as_slice() {
         return Some(Named::Word);
     }
-    if name == b"space" {
+    if name == b"space".as_slice() {
         return Some(Named::Space);
     }
-    if name == b"alpha" {
+    if name == b"alpha".as_slice() {
         return Some(Named::Alpha);
     }
-    if name == b"upper" {
+    if name == b"upper".as_slice() {
         return Some(Named::Upper);
     }
-    if name == b"lower" {
+    if name == b"lower".as_slice() {
         return Some(Named::Lower);
     }
-    if name == b"alnum" {
+    if name == b"alnum".as_slice() {
         return Some(Named::Alnum);
     }
     later_named(name)
@@ -43,25 +44,25 @@ fn set_named(name: &[u8]) -> Option<Named>
 fn later_named(name: &[u8]) -> Option<Named>
     ensures { set_of result ≡ lookup (drop 7 namings) name.now }
 {
-    if name == b"xdigit" {
+    if name == b"xdigit".as_slice() {
         return Some(Named::Xdigit);
     }
-    if name == b"blank" {
+    if name == b"blank".as_slice() {
         return Some(Named::Blank);
     }
-    if name == b"cntrl" {
+    if name == b"cntrl".as_slice() {
         return Some(Named::Cntrl);
     }
-    if name == b"ascii" {
+    if name == b"ascii".as_slice() {
         return Some(Named::Ascii);
     }
-    if name == b"print" {
+    if name == b"print".as_slice() {
         return Some(Named::Print);
     }
-    if name == b"graph" {
+    if name == b"graph".as_slice() {
         return Some(Named::Graph);
     }
-    if name == b"punct" {
+    if name == b"punct".as_slice() {
         return Some(Named::Punct);
     }
     None
@@ -80,7 +81,9 @@ fn letters_end(rule: &[u8], from: usize) -> usize
 fn posix_member(at: usize, negated: bool, set: Option<Named>, next: usize) -> Reading<Member>
     ensures { read_of member_of result ≡ posix_member at negated (set_of set) next }
 {
-    let named = set.ok_or(Refusal::at(at, Reason::UnknownSet))?;
+    let Some(named) = set else {
+        return Err(Refusal::at(at, Reason::UnknownSet));
+    };
     if negated {
         return Ok(Parsed {
             value: Member::NotSet(named),
@@ -93,16 +96,6 @@ fn posix_member(at: usize, negated: bool, set: Option<Named>, next: usize) -> Re
     })
 }
 
-// The `[` at a position, as a member.
-fn bracket(at: usize) -> Reading<Member>
-    ensures { read_of member_of result ≡ sound (single 91) (at + 1) }
-{
-    Ok(Parsed {
-        value: Member::Single(b'['),
-        next: at + 1,
-    })
-}
-
 // Letters and `:]` make a named set; without them the `[` is literal.
 fn posix_name_at(rule: &[u8], at: usize, negated: bool, start: usize) -> Reading<Member>
     requires { (at < start) × (start ≤ length rule.now) }
@@ -110,10 +103,10 @@ fn posix_name_at(rule: &[u8], at: usize, negated: bool, start: usize) -> Reading
 {
     let end = letters_end(rule, start);
     if peek(rule, end) != COLON {
-        return bracket(at);
+        return single(b'[', at + 1);
     }
     if peek(rule, end + 1) != CLOSING_BRACKET {
-        return bracket(at);
+        return single(b'[', at + 1);
     }
     posix_member(at, negated, set_named(&rule[start..end]), end + 2)
 }
@@ -124,7 +117,7 @@ pub fn posix_at(rule: &[u8], at: usize) -> Reading<Member>
     ensures { read_of member_of result ≡ posix rule.now at }
 {
     if peek(rule, at + 1) != COLON {
-        return bracket(at);
+        return single(b'[', at + 1);
     }
     if peek(rule, at + 2) == CARET {
         return posix_name_at(rule, at, true, at + 3);

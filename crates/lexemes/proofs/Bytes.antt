@@ -23,3 +23,6 @@ byte_at s i h = get_or-in s i 0 256 h
 pub byte-read : (s : List ℕ) (i b : ℕ) → true ≡ ltb i (length s) → b ≡ get_or s i b → b ≡ byte s i
 unfolding byte
 byte-read s i b h e = e ∙ get_or-in s i b 256 (ltb-true i (length s) (sym h))
+
+pub read-in : (s : List ℕ) → ((i : ℕ) → get_or s i 0 < 256) → (i b : ℕ) → true ≡ ltb i (length s) → b ≡ get_or s i b → b ≡ 256 → ⊥
+read-in s small i b h e k = let l = small i in let m : b ≡ get_or s i 0 = e ∙ get_or-in s i b 0 (ltb-true i (length s) (sym h)) in omega arith
