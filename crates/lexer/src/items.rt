@@ -47,10 +47,10 @@ fn edge(flags: Flags, line: Assertion, text: Assertion, next: usize) -> Reading<
 fn group_item(group: Reading<u32>) -> Reading<Token>
     ensures { (s : List ℕ) (folded : Bool) (known : Names) → SaysItem s folded known (and_then (read_of (λ n. n) group) (λ n next. sound (reference folded n) next)) result }
 {
-    let Parsed { value, next } = group?;
+    let number = group?;
     Ok(Parsed {
-        value: Token::Reference(value),
-        next,
+        value: Token::Reference(number.value),
+        next: number.next,
     })
 }
 
@@ -58,10 +58,10 @@ fn group_item(group: Reading<u32>) -> Reading<Token>
 fn called_item(name: Reading<Name>) -> Reading<Token>
     ensures { (s : List ℕ) (folded : Bool) (known : Names) (a : Read Name) → SaysName s a name → SaysItem s folded known (and_then a (λ n next. sound (reference folded (group_called n known)) next)) result }
 {
-    let Parsed { value, next } = name?;
+    let called = name?;
     Ok(Parsed {
-        value: Token::Called(value),
-        next,
+        value: Token::Called(called.value),
+        next: called.next,
     })
 }
 
@@ -105,10 +105,11 @@ fn byte_item(words: [u32; 8], next: usize) -> Reading<Token>
 fn member_item(m: Reading<Member>, folded: bool) -> Reading<Token>
     ensures { (s : List ℕ) (known : Names) → SaysItem s folded known (and_then (read_of member_of m) (λ x next. sound (byte_in folded (only x)) next)) result }
 {
-    let Parsed { value, next } = m?;
+    let member = m?;
+    let words = with_member(empty(), member.value, folded);
     Ok(Parsed {
-        value: Token::Byte(with_member(empty(), value, folded)),
-        next,
+        value: Token::Byte(words),
+        next: member.next,
     })
 }
 
@@ -117,10 +118,10 @@ fn class_item(rule: &[u8], flags: Flags, at: usize) -> Reading<Token>
     requires { at < length rule.now }
     ensures { (known : Names) → SaysItem rule.now (ignore_case flags.0) known (and_then (class rule.now (depot flags.0) at) (λ x next. sound (byte_in (ignore_case flags.0) x) next)) result }
 {
-    let Parsed { value, next } = class_at(rule, at, flags.ignores_case(), flags.in_depot())?;
+    let class = class_at(rule, at, flags.ignores_case(), flags.in_depot())?;
     Ok(Parsed {
-        value: Token::Byte(value),
-        next,
+        value: Token::Byte(class.value),
+        next: class.next,
     })
 }
 
@@ -169,12 +170,16 @@ pub fn item_at(rule: &[u8], flags: u32, opened: u32, at: usize) -> Reading<Token
     let flags = Flags(flags);
     let folded = flags.ignores_case();
     let next = at + 1;
-    match rule[at] {
+    let b = rule[at];
+    match b {
         b'\\' => escape_at(rule, folded, opened, at),
         b'[' => class_item(rule, flags, at),
         b'.' => byte_item(dot(flags), next),
         b'^' => edge(flags, Assertion::LineStart, Assertion::TextStart, next),
         b'$' => edge(flags, Assertion::LineEnd, Assertion::LastLineEnd, next),
-        b => byte_item(with_member(empty(), Member::Single(b), folded), next),
+        _ => {
+            let words = with_member(empty(), Member::Single(b), folded);
+            byte_item(words, next)
+        }
     }
 }

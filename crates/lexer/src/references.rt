@@ -1,17 +1,18 @@
 // References to groups. Groups are numbered from 1, and 0 stands for one that no rule has. `at` is the backslash's position, and the place of
 // every refusal.
-ghost use Rattle.std.specs.Prelude.{◌≡◌, ◌+◌, ◌≤◌, length};
+ghost use Rattle.std.specs.Prelude.{◌≡◌, ℕ, ◌+◌, ◌≤◌, length};
 ghost use Rattle.syntax.specs.Limits.{group_limit};
 ghost use Rattle.syntax.specs.Read.{sound, and_then, read_of};
 ghost use Rattle.syntax.specs.Escapes.{forward, backward, decimal, signed, group_number};
+ghost use Rattle.lexemes.specs.Says.{capped};
 
 use lexemes::{CLOSING_BRACE, MINUS, OPENING_BRACE, number_at, peek};
 use syntax::{GROUP_LIMIT, Parsed, Reading, Reason, Refusal};
 
-// The number at a position. A reference is malformed whose number is missing.
+// The number at a position, for each use that does not see where numbers are capped. A reference is malformed whose number is missing.
 fn decimal_at(rule: &[u8], at: usize, from: usize) -> Reading<u32>
     requires { from ≤ length rule.now }
-    ensures { SaysNumber (decimal rule.now at from) result }
+    ensures { (f : ℕ → ℕ) → ((n : ℕ) → f (capped n) ≡ f n) → read_of f result ≡ and_then (decimal rule.now at from) (λ n next. sound (f n) next) }
 {
     let number = number_at(rule, 10, from);
     if number.next == from {
@@ -27,7 +28,10 @@ pub fn forward_at(rule: &[u8], at: usize, from: usize) -> Reading<u32>
 {
     let number = decimal_at(rule, at, from)?;
     if GROUP_LIMIT < number.value {
-        return Ok(Parsed { value: 0, ..number });
+        return Ok(Parsed {
+            value: 0,
+            next: number.next,
+        });
     }
     Ok(number)
 }
@@ -37,13 +41,13 @@ fn backward_at(rule: &[u8], opened: u32, at: usize, from: usize) -> Reading<u32>
     requires { (opened ≤ group_limit) × (from ≤ length rule.now) }
     ensures { read_of (λ n. n) result ≡ and_then (decimal rule.now at from) (λ n next. sound (backward opened n) next) }
 {
-    let Parsed { value: n, next } = decimal_at(rule, at, from)?;
-    if n == 0 {
-        return Ok(Parsed { value: 0, next });
+    let number = decimal_at(rule, at, from)?;
+    if number.value == 0 {
+        return Ok(number);
     }
     Ok(Parsed {
-        value: (opened + 1).saturating_sub(n),
-        next,
+        value: (opened + 1).saturating_sub(number.value),
+        next: number.next,
     })
 }
 
@@ -66,12 +70,12 @@ pub fn group_number_at(rule: &[u8], opened: u32, at: usize) -> Reading<u32>
     if peek(rule, at + 2) != OPENING_BRACE {
         return signed_at(rule, opened, at, at + 2);
     }
-    let Parsed { value, next } = signed_at(rule, opened, at, at + 3)?;
-    if peek(rule, next) != CLOSING_BRACE {
+    let group = signed_at(rule, opened, at, at + 3)?;
+    if peek(rule, group.next) != CLOSING_BRACE {
         return Err(Refusal::at(at, Reason::MalformedEscape));
     }
     Ok(Parsed {
-        value,
-        next: next + 1,
+        value: group.value,
+        next: group.next + 1,
     })
 }

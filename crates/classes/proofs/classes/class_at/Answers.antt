@@ -8,7 +8,7 @@ returns-then-peek-ne-CARET c = class-plain _ _ _ _ _ c.peek.ensures.is c.if-peek
 
 pub returns-in_err-members : goal.returns-in_err-members
 returns-in_err-members c =
-    let p = err_from_is_err_and c.from_residual.result c.from_residual.ensures.1 in rw (p.1, p.2) (class-bad _ _ _ _ _ c.peek.ensures.is c.if-peek-ne-CARET.false _ c.in_err-members.ensures)
+    let p = err_from_is_err_and c.from_residual.result c.from_residual.ensures.1 in rw (p.1, p.2) (class-bad c.args.folded _ _ _ _ c.peek.ensures.is c.if-peek-ne-CARET.false _ c.in_err-members.ensures)
 
 pub returns : goal.returns
 returns c = class-negated _ _ _ _ _ c.peek.ensures.is c.if-peek-ne-CARET.false c.in_ok-members.members _ c.complement.ensures c.in_ok-members.ensures
