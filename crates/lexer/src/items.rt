@@ -6,7 +6,7 @@ ghost use Rattle.syntax.specs.Read.{byte, Read, sound, and_then, read_of};
 ghost use Rattle.syntax.specs.Sets.{Class, only, not_newline, any_byte};
 ghost use Rattle.syntax.specs.Tree.{byte_in, assert, reference};
 ghost use Rattle.syntax.specs.Flags.{dot_all, multiline, ignore_case, depot};
-ghost use Rattle.syntax.specs.Names.{Name, Names, group_called};
+ghost use Rattle.syntax.specs.Names.{Names, group_called};
 ghost use Rattle.syntax.specs.Escapes.{escape};
 ghost use Rattle.syntax.specs.Classes.{class};
 ghost use Rattle.syntax.specs.Grammar.{atom};
@@ -56,7 +56,7 @@ fn group_item(group: Reading<u32>) -> Reading<Token>
 
 // A reference by name. Which group has it is known when the whole rule has been read.
 fn called_item(name: Reading<Name>) -> Reading<Token>
-    ensures { (s : List ℕ) (folded : Bool) (known : Names) (a : Read Name) → SaysName s a name → SaysItem s folded known (and_then a (λ n next. sound (reference folded (group_called n known)) next)) result }
+    ensures { (s : List ℕ) (folded : Bool) (known : Names) (a : Read (List ℕ)) → SaysName s a name → SaysItem s folded known (and_then a (λ n next. sound (reference folded (group_called n known)) next)) result }
 {
     let called = name?;
     Ok(Parsed {

@@ -1,6 +1,6 @@
 -- `escape_at` meets its contract, by the byte behind the backslash.
 use mathlib.Core.Logic.{inl, inr, ⊎_elim}
-use Rattle.std.proofs.lemmas.Bool.{ltb-false}
+use Rattle.std.proofs.lemmas.Bool.{ltb-false, ltb-true}
 use mathlib.Core.Path.{refl, sym, ◌∙◌}
 use Rattle.lexemes.proofs.Bytes.{byte-read}
 use Rattle.syntax.specs.Laws.Fuel.{byte_past}
@@ -15,7 +15,7 @@ pub returns-in_default : goal.returns-in_default
 returns-in_default c = λ known. same_item _ _ known c.member_item.result (escape_end _ _ known _ _ _ (sym (byte_past _ _ (ltb-false _ _ (sym c.in_default.ensures.lookup.0)))) refl (read_of member_of c.common_at.result) c.common_at.ensures) (c.member_item.ensures _ known)
 
 pub group_at-requires : goal.group_at-requires
-group_at-requires c = (c.requires.0, omega arith, sym (byte-read _ _ _ c.in-Some.ensures.lookup.0 c.in-Some.ensures.lookup.1) ∙ c.in-103.is)
+group_at-requires c = (c.requires.0, omega (arith, ltb-true _ _ (sym c.in-Some.ensures.lookup.0)), sym (byte-read _ _ _ c.in-Some.ensures.lookup.0 c.in-Some.ensures.lookup.1) ∙ c.in-103.is)
 
 pub returns-in-78 : goal.returns-in-78
 returns-in-78 c = λ known. same_item _ _ known c.byte_item.result (sym (escape-newline _ _ known _ _ _ (byte-read _ _ _ c.in-Some.ensures.lookup.0 c.in-Some.ensures.lookup.1) c.in-78.is)) (c.byte_item.ensures _ _ known not_newline (c.not_newline.ensures _))
@@ -48,5 +48,5 @@ pub returns-in-49-to-57 : goal.returns-in-49-to-57
 returns-in-49-to-57 c = λ known. same_item _ _ known c.group_item.result (escape-number _ _ known _ _ _ (byte-read _ _ _ c.in-Some.ensures.lookup.0 c.in-Some.ensures.lookup.1) (omega arith) (λ e. omega arith) (omega arith) (read_of (λ n. n) c.forward_at.result) c.forward_at.ensures) (c.group_item.ensures _ _ known)
 
 pub returns-in_default-b : goal.returns-in_default-b
-returns-in_default-b c = λ known. let n = c.in_default-b-1.rest in
+returns-in_default-b c = λ known. let n = c.in_default-1.rest in
     same_item _ _ known c.member_item-in_default-b.result (escape-common _ _ known _ _ _ (byte-read _ _ _ c.in-Some.ensures.lookup.0 c.in-Some.ensures.lookup.1) n.0.0.0.0.0.0.0.0.1 n.0.0.0.0.0.0.0.1 n.0.0.0.0.0.0.1 n.0.0.0.0.0.1 n.0.0.0.0.1 n.0.0.0.1 n.0.0.1 n.0.1 n.1 (⊎_elim (λ w. inl (omega arith)) (λ w. inr (omega arith)) c.in_default-b.branch-raw) (read_of member_of c.common_at-in_default-b.result) c.common_at-in_default-b.ensures) (c.member_item-in_default-b.ensures _ known)
