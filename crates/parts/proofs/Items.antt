@@ -1,7 +1,9 @@
 -- The parts of a sequence that are no groups: from what the item's reader or the quantifier's says to what the sequence then is.
+use Rattle.std.specs.Prelude.{◌⊎◌, Result, Ok, Err}
 use mathlib.Core.Path.{◌≡◌, refl, ap, sym, subst, ◌∙◌}
 use mathlib.Core.Bool.{Bool, true, false}
 use mathlib.Core.List.{List, [], ◌∷◌}
+use mathlib.Core.Logic.{inl, inr}
 use Prim.Native.Nat.{ℕ, ◌+◌, ◌-◌, ◌≤◌, ◌<◌}
 use native.Mathlib.Omega.{arith}
 use borrow.Author.Tests.{ne_eqb}
@@ -28,48 +30,49 @@ use Rattle.lexer.specs.declared.Token.TheVariants.{Byte, Assert, Reference, Call
 use Rattle.lexer.specs.declared.Lexed.{Lexed}
 use Rattle.lexer.specs.Says.{SaysItem}
 use Rattle.parts.specs.declared.Cursor.{Cursor}
-use Rattle.parts.specs.declared.Turn.{Turn}
-use Rattle.parts.specs.declared.Turn.TheVariants.{Goes, Ends}
+use Rattle.parts.specs.declared.Step.{Step}
+use Rattle.parts.specs.declared.Before.{Before}
+use Rattle.parts.specs.declared.Before.TheVariants.{Nothing, Repeatable, Repeated}
 use Rattle.writer.specs.Wrote.{Wrote}
 use Rattle.parts.specs.Says.{behind_node, Ready, MovedTurn, Told, kind_of, SaysTurn, SoFar, Items, plain_item, PlainItems, Others, Repeats}
 use Rattle.parts.proofs.Standing.{byte-part, assert-part, reference-part, named-part, break-part, so_far_more, so-far-chain, chain_more, repeat-chain, possessive-chain}
 
 -- Repeats -------------------------------------------------------------------------
 
-pub unfit-nothing : (kind at : ℕ) → kind ≡ 0 → (q : Sequence) → kind ≡ kind_of q → unfit_for q at ≡ refused at NothingToRepeat
+pub unfit-nothing : (kind : Before) (at : ℕ) → kind ≡ Nothing → (q : Sequence) → kind ≡ kind_of q → unfit_for q at ≡ refused at NothingToRepeat
 unfolding unfit_for
 unfit-nothing kind at e (unrepeatable t) k = refl
-unfit-nothing kind at e (repeatable x y) k = absurd (omega arith)
-unfit-nothing kind at e (repeated t) k = absurd (omega arith)
+unfit-nothing kind at e (repeatable x y) k = cc
+unfit-nothing kind at e (repeated t) k = cc
 
-pub unfit-braces : (kind at : ℕ) → (kind ≡ 0 → ⊥) → (q : Sequence) → kind ≡ kind_of q → unfit_for q at ≡ refused at BadBraces
+pub unfit-braces : (kind : Before) (at : ℕ) → (kind ≡ Repeatable) ⊎ (kind ≡ Repeated) → (q : Sequence) → kind ≡ kind_of q → unfit_for q at ≡ refused at BadBraces
 unfolding unfit_for
-unfit-braces kind at ne (unrepeatable t) k = absurd (ne k)
-unfit-braces kind at ne (repeatable x y) k = refl
-unfit-braces kind at ne (repeated t) k = refl
+unfit-braces kind at h (unrepeatable t) k = elim h [ inl e ↦ cc | inr e ↦ cc ]
+unfit-braces kind at h (repeatable x y) k = refl
+unfit-braces kind at h (repeated t) k = refl
 
-module _ {old : List ℕ} {c : Cursor} {next : ℕ} (last kind least : ℕ) (most : Most) (greed : Greed) (keeps : Bool) (r : Ready next old c) where
-  pub repeat-nothing : kind ≡ 0 → Repeats old old c last kind least most greed keeps next (Ends (record { place = c.at; reason = NothingToRepeat }))
+module _ {old : List ℕ} {c : Cursor} {next : ℕ} (last : ℕ) (kind : Before) (least : ℕ) (most : Most) (greed : Greed) (keeps : Bool) (r : Ready next old c) where
+  pub repeat-nothing : kind ≡ Nothing → Repeats old old c last kind least most greed keeps next (Err (record { place = c.at; reason = NothingToRepeat }))
   repeat-nothing e = record { moved = tt; frame = λ i l. refl; names = tt; claim = λ s known told lo q k h. by (told c.opened) q k }
     where
       by : (names : Names) (q : Sequence) → kind ≡ kind_of q → repeating q c.at least most greed keeps names next ≡ refused c.at NothingToRepeat
       by names (unrepeatable t) k = unfold repeating in refl
-      by names (repeatable x y) k = absurd (omega arith)
-      by names (repeated t) k = absurd (omega arith)
+      by names (repeatable x y) k = cc
+      by names (repeated t) k = cc
 
-  pub repeat-twice : kind ≡ 2 → Repeats old old c last kind least most greed keeps next (Ends (record { place = c.at; reason = RepeatOnRepeat }))
+  pub repeat-twice : kind ≡ Repeated → Repeats old old c last kind least most greed keeps next (Err (record { place = c.at; reason = RepeatOnRepeat }))
   repeat-twice e = record { moved = tt; frame = λ i l. refl; names = tt; claim = λ s known told lo q k h. by (told c.opened) q k }
     where
       by : (names : Names) (q : Sequence) → kind ≡ kind_of q → repeating q c.at least most greed keeps names next ≡ refused c.at RepeatOnRepeat
-      by names (unrepeatable t) k = absurd (omega arith)
-      by names (repeatable x y) k = absurd (omega arith)
+      by names (unrepeatable t) k = cc
+      by names (repeatable x y) k = cc
       by names (repeated t) k = unfold repeating in refl
 
-  pub repeat-once : {new : List ℕ} → c.at < next → keeps ≡ false → (kind ≡ 0 → ⊥) → (kind ≡ 2 → ⊥)
+  pub repeat-once : {new : List ℕ} → c.at < next → keeps ≡ false → kind ≡ Repeatable
       → Wrote old new c.used 8 (7 ∷ 8 ∷ least ∷ most_word most ∷ greed_word greed ∷ c.at ∷ last ∷ get_or old (last + 1) 0 ∷ [])
-      → Repeats old new c last kind least most greed keeps next (Goes (behind_node c next 8) c.used 2)
+      → Repeats old new c last kind least most greed keeps next (Ok (record { cursor = behind_node c next 8; node = c.used; kind = Repeated }))
   unfolding repeating possessive
-  repeat-once {new} l plain ne two w = record {
+  repeat-once {new} l plain e w = record {
     moved = record { on = omega arith; within = omega arith; grown = omega arith; paid = omega arith; address = omega arith; few = r.few };
     frame = w.below;
     names = refl;
@@ -77,17 +80,17 @@ module _ {old : List ℕ} {c : Cursor} {next : ℕ} (last kind least : ℕ) (mos
   }
     where
       by : (s : List ℕ) (known : Names) (told : Told) (lo : ℕ) (q : Sequence) → kind ≡ kind_of q → SoFar s known old q lo c.used last
-          → SaysTurn s known told (repeating q c.at least most greed keeps (told c.opened) next) new lo (Goes (behind_node c next 8) c.used 2)
-      by s known told lo (unrepeatable t) k h = absurd (ne k)
+          → SaysTurn s known told (repeating q c.at least most greed keeps (told c.opened) next) new lo (Ok (record { cursor = behind_node c next 8; node = c.used; kind = Repeated }))
+      by s known told lo (unrepeatable t) k h = cc
       by s known told lo (repeatable x y) k h = (repeated (seq x (repeat c.at least most greed y)), refl, rw plain, repeat-chain s known lo most greed x y w r.began h)
-      by s known told lo (repeated t) k h = absurd (two k)
+      by s known told lo (repeated t) k h = cc
 
   -- a possessive one
-  pub repeat-kept : {mid new : List ℕ} {before : ℕ} → keeps ≡ true → c.at + 1 < next → (kind ≡ 0 → ⊥) → (kind ≡ 2 → ⊥) → before ≡ get_or old (last + 1) 0
+  pub repeat-kept : {mid new : List ℕ} {before : ℕ} → keeps ≡ true → c.at + 1 < next → kind ≡ Repeatable → before ≡ get_or old (last + 1) 0
       → Wrote old mid c.used 8 (7 ∷ 8 ∷ least ∷ most_word most ∷ greed_word greed ∷ c.at ∷ last ∷ 0 ∷ []) → Wrote mid new (c.used + 8) 7 (14 ∷ before ∷ 0 ∷ (next - 1) ∷ 13 ∷ c.used ∷ 0 ∷ [])
-      → Repeats old new c last kind least most greed keeps next (Goes (behind_node c next 15) (c.used + 8) 2)
+      → Repeats old new c last kind least most greed keeps next (Ok (record { cursor = behind_node c next 15; node = c.used + 8; kind = Repeated }))
   unfolding repeating possessive
-  repeat-kept {mid} {new} {before} own l ne two is w v = record {
+  repeat-kept {mid} {new} {before} own l e is w v = record {
     moved = record { on = omega arith; within = omega arith; grown = omega arith; paid = omega arith; address = omega arith; few = r.few };
     frame = λ i u. v.below i (omega arith) ∙ w.below i u;
     names = refl;
@@ -95,10 +98,10 @@ module _ {old : List ℕ} {c : Cursor} {next : ℕ} (last kind least : ℕ) (mos
   }
     where
       by : (s : List ℕ) (known : Names) (told : Told) (lo : ℕ) (q : Sequence) → kind ≡ kind_of q → SoFar s known old q lo c.used last
-          → SaysTurn s known told (repeating q c.at least most greed keeps (told c.opened) next) new lo (Goes (behind_node c next 15) (c.used + 8) 2)
-      by s known told lo (unrepeatable t) k h = absurd (ne k)
+          → SaysTurn s known told (repeating q c.at least most greed keeps (told c.opened) next) new lo (Ok (record { cursor = behind_node c next 15; node = c.used + 8; kind = Repeated }))
+      by s known told lo (unrepeatable t) k h = cc
       by s known told lo (repeatable x y) k h = (repeated (seq x (held (next - 1) (seq empty (repeat c.at least most greed y)))), refl, rw own, possessive-chain s known lo (next - 1) most greed x y w is v r.began h)
-      by s known told lo (repeated t) k h = absurd (two k)
+      by s known told lo (repeated t) k h = cc
 
 -- Items ---------------------------------------------------------------------------
 
@@ -117,7 +120,7 @@ module _ (s : List ℕ) {old : List ℕ} {c : Cursor} (l : Lexed) (flags last : 
   is-token : (t : Token) → l.token ≡ t → (known : Names) → SaysItem s (ignore_case flags) known (atom s flags known c.opened c.at) (record { words = l.words; token = t })
   is-token t e known = item-says s (ignore_case flags) known (atom s flags known c.opened c.at) l t e (says known)
 
-  pub item-bad : (f : Refusal) → l.token ≡ BadItem f → Items s flags old old c last (Ends f)
+  pub item-bad : (f : Refusal) → l.token ≡ BadItem f → Items s flags old old c last (Err f)
   item-bad f e = record { moved = tt; frame = λ i k. refl; names = tt; claim = λ known told lo q h. rw (is-token (BadItem f) e known) }
 
   -- an item ends behind its beginning and within the rule
@@ -128,7 +131,7 @@ module _ (s : List ℕ) {old : List ℕ} {c : Cursor} (l : Lexed) (flags last : 
     upto : next ≤ length s
     upto = given-at (atom s flags [] c.opened c.at) (Upto s) i next is (atom-in s flags [] c.opened c.at in_rule)
 
-  pub item-byte : {new : List ℕ} (next : ℕ) → l.token ≡ Byte next → Wrote old new c.used 11 (0 ∷ last ∷ c.at ∷ l.words) → Items s flags old new c last (Goes (behind_node c next 11) c.used 1)
+  pub item-byte : {new : List ℕ} (next : ℕ) → l.token ≡ Byte next → Wrote old new c.used 11 (0 ∷ last ∷ c.at ∷ l.words) → Items s flags old new c last (Ok (record { cursor = behind_node c next 11; node = c.used; kind = Repeatable }))
   item-byte {new} next e w =
       let z = is-token (Byte next) e [] in
       let n = on (byte_in (ignore_case flags) z.0) next z.1 in
@@ -147,7 +150,7 @@ module _ (s : List ℕ) {old : List ℕ} {c : Cursor} (l : Lexed) (flags last : 
             );
       }
 
-  pub item-assert : {new : List ℕ} (k : Assertion) (next : ℕ) → l.token ≡ Assert k next → Wrote old new c.used 4 (1 ∷ last ∷ c.at ∷ assertion_word k ∷ []) → Items s flags old new c last (Goes (behind_node c next 4) c.used 0)
+  pub item-assert : {new : List ℕ} (k : Assertion) (next : ℕ) → l.token ≡ Assert k next → Wrote old new c.used 4 (1 ∷ last ∷ c.at ∷ assertion_word k ∷ []) → Items s flags old new c last (Ok (record { cursor = behind_node c next 4; node = c.used; kind = Nothing }))
   item-assert {new} k next e w =
       let z = is-token (Assert k next) e [] in
       let n = on (assert k) next z in
@@ -164,7 +167,7 @@ module _ (s : List ℕ) {old : List ℕ} {c : Cursor} (l : Lexed) (flags last : 
         );
       }
 
-  pub item-reference : {new : List ℕ} (m next : ℕ) → l.token ≡ Reference m next → Wrote old new c.used 5 (11 ∷ last ∷ c.at ∷ m ∷ folded_word (ignore_case flags) ∷ []) → Items s flags old new c last (Goes (behind_node c next 5) c.used 1)
+  pub item-reference : {new : List ℕ} (m next : ℕ) → l.token ≡ Reference m next → Wrote old new c.used 5 (11 ∷ last ∷ c.at ∷ m ∷ folded_word (ignore_case flags) ∷ []) → Items s flags old new c last (Ok (record { cursor = behind_node c next 5; node = c.used; kind = Repeatable }))
   item-reference {new} m next e w =
       let z = is-token (Reference m next) e [] in
       let n = on (reference (ignore_case flags) m) next z in
@@ -187,7 +190,7 @@ module _ (s : List ℕ) {old : List ℕ} {c : Cursor} (l : Lexed) (flags last : 
 
   -- a reference by name: its number depends on the names of the whole rule
   pub item-named : {new : List ℕ} (m len next : ℕ) → l.token ≡ Called m len next → Wrote old new c.used 6 (2 ∷ last ∷ c.at ∷ m ∷ folded_word (ignore_case flags) ∷ len ∷ [])
-      → Items s flags old new c last (Goes (behind_node c next 6) c.used 1)
+      → Items s flags old new c last (Ok (record { cursor = behind_node c next 6; node = c.used; kind = Repeatable }))
   item-named {new} m len next e w =
       let z = is-token (Called m len next) e [] in
       let n = on (reference (ignore_case flags) (group_called (slice m (m + len) s) [])) next z.0 in
@@ -206,7 +209,7 @@ module _ (s : List ℕ) {old : List ℕ} {c : Cursor} (l : Lexed) (flags last : 
             );
       }
 
-pub turn-as : (s : List ℕ) (known : Names) (told : Told) (a b : Read (Sequence × Names)) (area : List ℕ) (lo : ℕ) (r : Turn) → a ≡ b → SaysTurn s known told b area lo r → SaysTurn s known told a area lo r
+pub turn-as : (s : List ℕ) (known : Names) (told : Told) (a b : Read (Sequence × Names)) (area : List ℕ) (lo : ℕ) (r : Result Step Refusal) → a ≡ b → SaysTurn s known told b area lo r → SaysTurn s known told a area lo r
 turn-as s known told a b area lo r e x = subst (λ (y : Read (Sequence × Names)). SaysTurn s known told y area lo r) (sym e) x
 
 -- `\R` stands within the rule: behind its end there is no byte
@@ -215,7 +218,7 @@ unfolding breaks_line
 breaks-in s at e = let i = is-in s (at + 1) 82 (omega arith) (and_right (is "\\" (byte s at)) (is "R" (byte s (at + 1))) e) in omega arith
 
 -- `\R`
-pub plain-break : (s : List ℕ) {old new : List ℕ} {c : Cursor} (flags last : ℕ) → Ready (length s) old c → breaks_line s c.at ≡ true → Wrote old new c.used 3 (12 ∷ last ∷ c.at ∷ []) → PlainItems s flags old new c last (Goes (behind_node c (c.at + 2) 3) c.used 1)
+pub plain-break : (s : List ℕ) {old new : List ℕ} {c : Cursor} (flags last : ℕ) → Ready (length s) old c → breaks_line s c.at ≡ true → Wrote old new c.used 3 (12 ∷ last ∷ c.at ∷ []) → PlainItems s flags old new c last (Ok (record { cursor = behind_node c (c.at + 2) 3; node = c.used; kind = Repeatable }))
 unfolding plain_item
 plain-break s {old} {new} {c} flags last r e w =
     let l = breaks-in s c.at e in
@@ -232,7 +235,7 @@ plain-break s {old} {new} {c} flags last r e w =
     }
 
 -- any other item
-pub plain-atom : (s : List ℕ) {old new : List ℕ} (c : Cursor) (flags last : ℕ) (r : Turn) → breaks_line s c.at ≡ false → Items s flags old new c last r → PlainItems s flags old new c last r
+pub plain-atom : (s : List ℕ) {old new : List ℕ} (c : Cursor) (flags last : ℕ) (r : Result Step Refusal) → breaks_line s c.at ≡ false → Items s flags old new c last r → PlainItems s flags old new c last r
 unfolding plain_item
 plain-atom s {old} {new} c flags last r e y = record {
   moved = y.moved;
@@ -243,9 +246,9 @@ plain-atom s {old} {new} c flags last r e y = record {
 
 -- Any part that is no group -------------------------------------------------------
 
-moved_upto : (m n : ℕ) (c : Cursor) (r : Turn) → m ≤ n → MovedTurn m c r → MovedTurn n c r
-moved_upto m n c (Goes d p k) h x = record { on = x.on; within = omega (arith, x.within); grown = x.grown; paid = x.paid; address = x.address; few = x.few }
-moved_upto m n c (Ends f) h x = tt
+moved_upto : (m n : ℕ) (c : Cursor) (r : Result Step Refusal) → m ≤ n → MovedTurn m c r → MovedTurn n c r
+moved_upto m n c (Ok r) h x = record { on = x.on; within = omega (arith, x.within); grown = x.grown; paid = x.paid; address = x.address; few = x.few }
+moved_upto m n c (Err f) h x = tt
 
 -- a repeat ends behind its beginning and within the rule
 pub repeat-ends : (s : List ℕ) (at least : ℕ) (most : Most) (greed : Greed) (keeps : Bool) (next : ℕ) → quantifier s at ≡ Times least most greed keeps next → (at < next) × (next ≤ length s) × (keeps ≡ true → at + 1 < next)
@@ -253,8 +256,8 @@ repeat-ends s at least most greed keeps next e =
     let b = subst (λ (x : Quantifier). Holding x (Bounded (at + 1))) e (quantifier-on s at) in
     (omega (arith, b.1), subst (λ (x : Quantifier). Holding x (λ n m keeps end. end ≤ length s)) e (quantifier-in s at), b.2)
 
-module _ (s : List ℕ) (c : Cursor) {x : Quantifier} (flags last kind : ℕ) (is : x ≡ quantifier s c.at) where
-  pub other_item : {old new : List ℕ} (r : Turn) → x ≡ Absent → (byte s c.at ≡ 40 → ⊥) → PlainItems s flags old new c last r → Others s flags old new c last kind r
+module _ (s : List ℕ) (c : Cursor) {x : Quantifier} (flags last : ℕ) (kind : Before) (is : x ≡ quantifier s c.at) where
+  pub other_item : {old new : List ℕ} (r : Result Step Refusal) → x ≡ Absent → (byte s c.at ≡ 40 → ⊥) → PlainItems s flags old new c last r → Others s flags old new c last kind r
   unfolding part next_item plain_item
   other_item {old} {new} r e ne y = record {
     moved = y.moved;
@@ -263,15 +266,15 @@ module _ (s : List ℕ) (c : Cursor) {x : Quantifier} (flags last kind : ℕ) (i
     claim = λ known told n inner lo q k h. turn-as s known told _ _ new lo r (rw (← is, e) (simp (ne_eqb (byte s c.at) 40 ne))) (y.claim known told lo q n (so-far-chain s known q old lo c.used last h));
   }
 
-  pub other-stray : (old : List ℕ) → x ≡ Stray → Others s flags old old c last kind (Ends (record { place = c.at; reason = BadBraces }))
+  pub other-stray : (old : List ℕ) → x ≡ Stray → Others s flags old old c last kind (Err (record { place = c.at; reason = BadBraces }))
   unfolding part
   other-stray old e = record { moved = tt; frame = λ i l. refl; names = tt; claim = λ known told n inner lo q k h. rw (← is, e) }
 
-  pub other-unfit : (old : List ℕ) (f : Refusal) → x ≡ Unfit → ((q : Sequence) → kind ≡ kind_of q → unfit_for q c.at ≡ refused f.place f.reason) → Others s flags old old c last kind (Ends f)
+  pub other-unfit : (old : List ℕ) (f : Refusal) → x ≡ Unfit → ((q : Sequence) → kind ≡ kind_of q → unfit_for q c.at ≡ refused f.place f.reason) → Others s flags old old c last kind (Err f)
   unfolding part
   other-unfit old f e y = record { moved = tt; frame = λ i l. refl; names = tt; claim = λ known told n inner lo q k h. rw (← is, e) (y q k) }
 
-  pub other-repeat : {old new : List ℕ} (r : Turn) (least : ℕ) (most : Most) (greed : Greed) (keeps : Bool) (next : ℕ) → x ≡ Times least most greed keeps next → Repeats old new c last kind least most greed keeps next r → Others s flags old new c last kind r
+  pub other-repeat : {old new : List ℕ} (r : Result Step Refusal) (least : ℕ) (most : Most) (greed : Greed) (keeps : Bool) (next : ℕ) → x ≡ Times least most greed keeps next → Repeats old new c last kind least most greed keeps next r → Others s flags old new c last kind r
   unfolding part
   other-repeat {old} {new} r least most greed keeps next e y =
       let u = repeat-ends s c.at least most greed keeps next (sym is ∙ e) in

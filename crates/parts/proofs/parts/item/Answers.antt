@@ -19,16 +19,16 @@ returns-in-BadItem c = let a = c.args in
 
 pub returns-in-Byte : goal.returns-in-Byte
 returns-in-Byte c = let a = c.args in
-    rw c.behind.ensures (item-byte a.rule.now _ a.flags a.last c.requires.0 c.requires.1 c.item_at-lexed.ensures _ c.in-Byte.is c.put_byte.ensures)
+    rw c.step.ensures (item-byte a.rule.now _ a.flags a.last c.requires.0 c.requires.1 c.item_at-lexed.ensures _ c.in-Byte.is c.put_byte.ensures)
 
 pub returns-in-Assert : goal.returns-in-Assert
 returns-in-Assert c = let a = c.args in
-    rw c.behind-in-Assert.ensures (item-assert a.rule.now _ a.flags a.last c.requires.0 c.requires.1 c.item_at-lexed.ensures _ _ c.in-Assert.is (rw c.assertion_word-which.ensures at c.put_four.ensures))
+    rw c.step-in-Assert.ensures (item-assert a.rule.now _ a.flags a.last c.requires.0 c.requires.1 c.item_at-lexed.ensures _ _ c.in-Assert.is (rw c.from.ensures at c.put_four.ensures))
 
 pub returns-in-Reference : goal.returns-in-Reference
 returns-in-Reference c = let a = c.args in
-    rw c.behind-in-Reference.ensures (item-reference a.rule.now _ a.flags a.last c.requires.0 c.requires.1 c.item_at-lexed.ensures _ _ c.in-Reference.is (rw c.folded_word-folded.ensures at c.put_reference.ensures))
+    rw c.step-in-Reference.ensures (item-reference a.rule.now _ a.flags a.last c.requires.0 c.requires.1 c.item_at-lexed.ensures _ _ c.in-Reference.is (rw c.folded_word.ensures at c.put_reference.ensures))
 
 pub returns-in-Called : goal.returns-in-Called
 returns-in-Called c = let a = c.args in
-    rw c.behind-in-Called.ensures (item-named a.rule.now _ a.flags a.last c.requires.0 c.requires.1 c.item_at-lexed.ensures _ _ _ c.in-Called.is (rw c.folded_word-folded-in-Called.ensures at c.put_named.ensures))
+    rw c.step-in-Called.ensures (item-named a.rule.now _ a.flags a.last c.requires.0 c.requires.1 c.item_at-lexed.ensures _ _ _ c.in-Called.is (rw c.folded_word-folded.ensures at c.put_named.ensures))
