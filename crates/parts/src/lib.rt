@@ -38,7 +38,7 @@ pub struct Part {
     pub node: usize,
 }
 
-// One part of a sequence: where it ends, its position, and what a repeat would find behind it.
+// How far a sequence has been read: where its last part ends, the position of that part, or 0 for none, and what a repeat would find behind it.
 #[derive(Clone, Copy, Debug, PartialEq, Eq)]
 pub struct Step {
     pub cursor: Cursor,
@@ -69,7 +69,7 @@ impl Cursor {
         }
     }
 
-    // The same as a part of a sequence, with what a repeat would find behind it.
+    // The sequence so far, once that part is its last.
     fn step(self, at: usize, n: usize, kind: Before) -> Step
         requires { self.used + n < 4294967296 }
         ensures { result ≡ record { cursor = behind_node self at n; node = self.used; kind = kind } }

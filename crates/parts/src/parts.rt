@@ -25,21 +25,24 @@ fn unfit(at: usize, kind: Before) -> Refusal
     }
 }
 
-// A repeat of the last part, which stands at `last`; the repeat ends at `next`. A possessive one stands alone in a held part.
+// A repeat of the last part; the repeat ends at `next`. A possessive one stands alone in a held part.
 fn repeated(
     area: &mut [u32],
-    c: Cursor,
-    last: usize,
-    kind: Before,
+    so_far: Step,
     least: u32,
     most: Most,
     greed: Greed,
     keeps: bool,
     next: usize,
 ) -> Result<Step, Refusal>
-    requires { Ready next area.old c × (c.at < next) × (last < c.used) × (keeps ≡ true → c.at + 1 < next) }
-    ensures { Repeats area.old area.new c last kind least most greed keeps next result }
+    requires { Ready next area.old so_far.cursor × (so_far.cursor.at < next) × (so_far.node < so_far.cursor.used) × (keeps ≡ true → so_far.cursor.at + 1 < next) }
+    ensures { Repeats area.old area.new so_far.cursor so_far.node so_far.kind least most greed keeps next result }
 {
+    let Step {
+        cursor: c,
+        node: last,
+        kind,
+    } = so_far;
     match kind {
         Before::Nothing => Err(Refusal::at(c.at, Reason::NothingToRepeat)),
         Before::Repeated => Err(Refusal::at(c.at, Reason::RepeatOnRepeat)),
@@ -64,13 +67,14 @@ fn repeated(
     }
 }
 
-// An item that is no group, behind the part at `last`.
-fn item(rule: &[u8], flags: u32, area: &mut [u32], c: Cursor, last: usize) -> Result<Step, Refusal>
-    requires { Ready (length rule.now) area.old c × (c.at < length rule.now) × (last < c.used) }
-    ensures { Items rule.now flags area.old area.new c last result }
+// An item that is no group, behind a sequence so far.
+fn item(rule: &[u8], flags: u32, area: &mut [u32], so_far: Step) -> Result<Step, Refusal>
+    requires { Ready (length rule.now) area.old so_far.cursor × (so_far.cursor.at < length rule.now) × (so_far.node < so_far.cursor.used) }
+    ensures { Items rule.now flags area.old area.new so_far.cursor so_far.node result }
 {
+    let c = so_far.cursor;
     let lexed = item_at(rule, flags, c.opened, c.at);
-    let before = last as u32;
+    let before = so_far.node as u32;
     let place = c.at as u32;
     match lexed.token {
         Token::BadItem(f) => Err(f),
@@ -94,84 +98,73 @@ fn item(rule: &[u8], flags: u32, area: &mut [u32], c: Cursor, last: usize) -> Re
     }
 }
 
-// An item that is no group, or `\R`, behind the part at `last`.
-fn plain_item(
-    rule: &[u8],
-    flags: u32,
-    area: &mut [u32],
-    c: Cursor,
-    last: usize,
-) -> Result<Step, Refusal>
-    requires { Ready (length rule.now) area.old c × (c.at < length rule.now) × (last < c.used) }
-    ensures { PlainItems rule.now flags area.old area.new c last result }
+// An item that is no group, or `\R`, behind a sequence so far.
+fn plain_item(rule: &[u8], flags: u32, area: &mut [u32], so_far: Step) -> Result<Step, Refusal>
+    requires { Ready (length rule.now) area.old so_far.cursor × (so_far.cursor.at < length rule.now) × (so_far.node < so_far.cursor.used) }
+    ensures { PlainItems rule.now flags area.old area.new so_far.cursor so_far.node result }
 {
+    let c = so_far.cursor;
     if breaks_line(rule, c.at) {
-        put_three(area, c.used, BREAK, last as u32, c.at as u32);
+        put_three(area, c.used, BREAK, so_far.node as u32, c.at as u32);
         return Ok(c.step(c.at + 2, 3, Before::Repeatable));
     }
-    item(rule, flags, area, c, last)
+    item(rule, flags, area, so_far)
 }
 
-// One part of a sequence that is no group.
-pub fn other(
-    rule: &[u8],
-    flags: u32,
-    area: &mut [u32],
-    c: Cursor,
-    last: usize,
-    kind: Before,
-) -> Result<Step, Refusal>
-    requires { Ready (length rule.now) area.old c × (c.at < length rule.now) × (last < c.used) × (byte rule.now c.at ≡ 40 → ⊥) }
-    ensures { Others rule.now flags area.old area.new c last kind result }
+// One part more of a sequence, which is no group.
+pub fn other(rule: &[u8], flags: u32, area: &mut [u32], so_far: Step) -> Result<Step, Refusal>
+    requires { Ready (length rule.now) area.old so_far.cursor × (so_far.cursor.at < length rule.now) × (so_far.node < so_far.cursor.used) × (byte rule.now so_far.cursor.at ≡ 40 → ⊥) }
+    ensures { Others rule.now flags area.old area.new so_far.cursor so_far.node so_far.kind result }
 {
-    match quantifier_at(rule, c.at) {
-        Quantifier::Absent => plain_item(rule, flags, area, c, last),
-        Quantifier::Stray => Err(Refusal::at(c.at, Reason::BadBraces)),
-        Quantifier::Unfit => Err(unfit(c.at, kind)),
+    let at = so_far.cursor.at;
+    match quantifier_at(rule, at) {
+        Quantifier::Absent => plain_item(rule, flags, area, so_far),
+        Quantifier::Stray => Err(Refusal::at(at, Reason::BadBraces)),
+        Quantifier::Unfit => Err(unfit(at, so_far.kind)),
         Quantifier::Times(least, most, greed, keeps, next) => repeated(
-            area, c, last, kind, least, most, greed, keeps, next,
+            area, so_far, least, most, greed, keeps, next,
         ),
     }
 }
 
-// The end of a group of a form, whose inside stands at p.
+// The end of a group of a form, behind its inside.
 pub fn close(
     rule: &[u8],
     area: &mut [u32],
     opening: usize,
     form: Form,
     before: usize,
-    c: Cursor,
-    p: usize,
+    inside: Part,
 ) -> Result<Part, Refusal>
-    requires { Ready (length rule.now) area.old c × FormFits form × (opening < c.at) × (before < c.used) × (p < c.used) }
-    ensures { Closes rule.now opening form before area.old area.new c p result }
+    requires { Ready (length rule.now) area.old inside.cursor × FormFits form × (opening < inside.cursor.at) × (before < inside.cursor.used) × (inside.node < inside.cursor.used) }
+    ensures { Closes rule.now opening form before area.old area.new inside.cursor inside.node result }
 {
+    let c = inside.cursor;
     if peek(rule, c.at) != CLOSING {
         return Err(Refusal::at(opening, Reason::UnclosedGroup));
     }
     let before = before as u32;
-    let inside = p as u32;
+    let node = inside.node as u32;
     let next = c.at + 1;
     match form {
         Form::Grouped => {
-            put_three(area, c.used, PLAIN, before, inside);
+            put_three(area, c.used, PLAIN, before, node);
             Ok(c.part(next, 3))
         }
         Form::Captured(number) => {
-            put_group(area, c.used, before, number, inside);
+            put_group(area, c.used, before, number, node);
             Ok(c.part(next, 7))
         }
         Form::Held => {
-            put_marked(area, c.used, HELD, before, opening as u32, inside);
+            put_marked(area, c.used, HELD, before, opening as u32, node);
             Ok(c.part(next, 7))
         }
         Form::Ahead => {
-            put_marked(area, c.used, AHEAD, before, opening as u32, inside);
+            put_marked(area, c.used, AHEAD, before, opening as u32, node);
             Ok(c.part(next, 7))
         }
         Form::NotAhead => {
-            put_not_ahead(area, c.used, before, opening as u32, inside);
+            put_not_ahead(area, c.used, before, opening as u32, node);
             Ok(c.part(next, 8))
         }
     }
