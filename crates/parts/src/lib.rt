@@ -59,7 +59,7 @@ impl Cursor {
         }
     }
     // The part that ends at a position, and whose node of n numbers stands at the cursor.
-    fn part(self, at: usize, n: usize) -> Part
+    pub fn part(self, at: usize, n: usize) -> Part
         requires { self.used + n < 4294967296 }
         ensures { result ≡ record { cursor = behind_node self at n; node = self.used } }
     {

@@ -32,8 +32,7 @@ use Rattle.linker.proofs.Compiled.{keep}
 use Rattle.lengths.specs.declared.Judgement.{Judgement}
 use Rattle.lengths.specs.declared.Judgement.TheVariants.{Passes, Barred}
 use Rattle.lengths.specs.Measures.{Deep, Judged, Judges, Followed, Follows}
-use Rattle.parts.specs.declared.Cursor.{Cursor}
-use Rattle.parts.specs.declared.Answer.TheVariants.{Sound}
+use Rattle.parts.specs.declared.Part.{Part}
 use Rattle.reader.specs.Areas.{table_start}
 use Rattle.reader.specs.Says.{Reads}
 use Rattle.reader.specs.declared.compiling.Compiled.{Compiled}
@@ -99,96 +98,96 @@ module _ (s : List ℕ) (flags : ℕ) where
 
   -- What linking asks, and what it gives -----------------------------------------------
 
-  module _ (area table : List ℕ) (d : Cursor) (p : ℕ) (x : Reads s flags area table (Sound d p)) where
+  module _ (area table : List ℕ) (r : Part) (x : Reads s flags area table (Ok r)) where
     abbrev names : Names
-    names = names_in s table d.opened
+    names = names_in s table r.cursor.opened
 
-    many : length names ≡ d.opened
-    many = length-names s table d.opened
+    many : length names ≡ r.cursor.opened
+    many = length-names s table r.cursor.opened
 
     -- the names do not depend on those that are known
     names-read : names_of s flags ≡ names
     unfolding names_of names_read
     names-read = rw (x.is []).1
 
-    fits : Fits d.opened spans_length (x.is names).0
-    fits = parse-fits names (x.is names).0 d.opened d.at names-read many (x.is names).1
+    fits : Fits r.cursor.opened spans_length (x.is names).0
+    fits = parse-fits names (x.is names).0 r.cursor.opened r.cursor.at names-read many (x.is names).1
 
-    pub linkable : Linkable s d.opened table area p
+    pub linkable : Linkable s r.cursor.opened table area r.node
     linkable =
         let b = start-below in
         record {
           known = names;
           many = many;
-          spelled = fit-spelled s table d.opened x.fit;
+          spelled = fit-spelled s table r.cursor.opened x.fit;
           room = x.fit.room;
-          stands = record { tree = (x.is names).0; lo = 1; top = d.used; holds = (x.is names).2; fits = fits; within = x.within; small = omega (arith, x.small) };
+          stands = record { tree = (x.is names).0; lo = 1; top = r.cursor.used; holds = (x.is names).2; fits = fits; within = x.within; small = omega (arith, x.small) };
         }
 
     -- What the profile asks, and what it says -----------------------------------------------
 
-    pub measurable : Deep Inside area p level_limit
+    pub measurable : Deep Inside area r.node level_limit
     measurable = record {
       rule = s;
       known = names;
       tree = (x.is names).0;
       lo = 1;
-      top = d.used;
+      top = r.cursor.used;
       holds = (x.is names).2;
       within = x.within;
-      groups = d.opened;
+      groups = r.cursor.opened;
       proper = fits.proper;
-      deep = parse-shallow names (x.is names).0 d.opened d.at names-read many (x.is names).1;
+      deep = parse-shallow names (x.is names).0 r.cursor.opened r.cursor.at names-read many (x.is names).1;
     }
 
-    judging : (j : Judgement) → Judges (depot flags) area p j → Judged (depot flags) (x.is names).0 j
+    judging : (j : Judgement) → Judges (depot flags) area r.node j → Judged (depot flags) (x.is names).0 j
     unfolding Judges
-    judging j h = h s names d.opened (x.is names).0 1 d.used fits.proper (x.is names).2
+    judging j h = h s names r.cursor.opened (x.is names).0 1 r.cursor.used fits.proper (x.is names).2
 
-    following : (checked : Bool) (j : Judgement) → Follows checked area p j → Followed checked (x.is names).0 j
+    following : (checked : Bool) (j : Judgement) → Follows checked area r.node j → Followed checked (x.is names).0 j
     unfolding Follows
-    following checked j h = h s names d.opened (x.is names).0 1 d.used fits.proper (x.is names).2
+    following checked j h = h s names r.cursor.opened (x.is names).0 1 r.cursor.used fits.proper (x.is names).2
 
-    module _ (new : List ℕ) (l : Linkage) (y : LinksWhole s d.opened table area new p l) where
-      made : Outside 1 d.used area new × Whole d.opened (x.is names).0 1 d.used new l
+    module _ (new : List ℕ) (l : Linkage) (y : LinksWhole s r.cursor.opened table area new r.node l) where
+      made : Outside 1 r.cursor.used area new × Whole r.cursor.opened (x.is names).0 1 r.cursor.used new l
       unfolding LinksWhole
-      made = y names many (fit-spelled s table d.opened x.fit) (x.is names).0 1 d.used (x.is names).2 fits
+      made = y names many (fit-spelled s table r.cursor.opened x.fit) (x.is names).0 1 r.cursor.used (x.is names).2 fits
 
       -- what was parsed is read, if every reference is to a group and the profile bars nothing
-      whole-read : (pc : ℕ) → l ≡ Entry pc → (j : Judgement) → j ≡ Passes → Judges (depot flags) area p j → reading s flags ≡ sound ((x.is names).0, d.opened) d.at
+      whole-read : (pc : ℕ) → l ≡ Entry pc → (j : Judgement) → j ≡ Passes → Judges (depot flags) area r.node j → reading s flags ≡ sound ((x.is names).0, r.cursor.opened) r.cursor.at
       whole-read pc e j k h =
-          let w : Entered d.opened (x.is names).0 1 d.used new pc = rw e at made.1 in
+          let w : Entered r.cursor.opened (x.is names).0 1 r.cursor.used new pc = rw e at made.1 in
           let passed : Judged (depot flags) (x.is names).0 Passes = rw k at (judging j h) in
-          parse-sound names (x.is names).0 d.opened d.at names-read many (x.is names).1 w.resolved ∙ passed (sound ((x.is names).0, d.opened) d.at)
+          parse-sound names (x.is names).0 r.cursor.opened r.cursor.at names-read many (x.is names).1 w.resolved ∙ passed (sound ((x.is names).0, r.cursor.opened) r.cursor.at)
 
-      pub entered : (checked : Bool) (pc : ℕ) → l ≡ Entry pc → (j : Judgement) → j ≡ Passes → Judges (depot flags) area p j → (q : Judgement) → q ≡ Passes → Follows checked area p q → StandsWith checked s flags new table table_start pc d.opened
+      pub entered : (checked : Bool) (pc : ℕ) → l ≡ Entry pc → (j : Judgement) → j ≡ Passes → Judges (depot flags) area r.node j → (q : Judgement) → q ≡ Passes → Follows checked area r.node q → StandsWith checked s flags new table table_start pc r.cursor.opened
       entered checked pc e j k h q u g =
-          let w : Entered d.opened (x.is names).0 1 d.used new pc = rw e at made.1 in
+          let w : Entered r.cursor.opened (x.is names).0 1 r.cursor.used new pc = rw e at made.1 in
           record {
             tree = (x.is names).0;
-            stop = d.at;
+            stop = r.cursor.at;
             reads = whole-read pc e j k h;
             end = made.0.below 0 (omega arith) ∙ x.end;
-            compiled = keep new new 1 d.used 1 table_start (omega arith) x.small (λ i a b. refl) (x.is names).0 pc 0 spans_length w.compiled;
+            compiled = keep new new 1 r.cursor.used 1 table_start (omega arith) x.small (λ i a b. refl) (x.is names).0 pc 0 spans_length w.compiled;
             near = omega (arith, w.near, x.small);
             many = rw names-read many;
-            named = rw names-read (fit-spelled s table d.opened x.fit);
+            named = rw names-read (fit-spelled s table r.cursor.opened x.fit);
             followed = rw u at (following checked q g);
           }
 
-      pub unfollowed : (checked : Bool) (pc : ℕ) → l ≡ Entry pc → (j : Judgement) → j ≡ Passes → Judges (depot flags) area p j → (q : Judgement) (f : Refusal) → q ≡ Barred f → Follows checked area p q → Fails checked s flags f
+      pub unfollowed : (checked : Bool) (pc : ℕ) → l ≡ Entry pc → (j : Judgement) → j ≡ Passes → Judges (depot flags) area r.node j → (q : Judgement) (f : Refusal) → q ≡ Barred f → Follows checked area r.node q → Fails checked s flags f
       unfollowed checked pc e j k h q f u g =
           let found : Followed checked (x.is names).0 (Barred f) = rw u at (following checked q g) in
-          fails-checked checked f found.0 (record { tree = (x.is names).0; groups = d.opened; stop = d.at; reads = whole-read pc e j k h; found = found.1 })
+          fails-checked checked f found.0 (record { tree = (x.is names).0; groups = r.cursor.opened; stop = r.cursor.at; reads = whole-read pc e j k h; found = found.1 })
 
-      pub barred : (checked : Bool) (pc : ℕ) → l ≡ Entry pc → (j : Judgement) (f : Refusal) → j ≡ Barred f → Judges (depot flags) area p j → Fails checked s flags f
+      pub barred : (checked : Bool) (pc : ℕ) → l ≡ Entry pc → (j : Judgement) (f : Refusal) → j ≡ Barred f → Judges (depot flags) area r.node j → Fails checked s flags f
       barred checked pc e j f k h =
-          let w : Entered d.opened (x.is names).0 1 d.used new pc = rw e at made.1 in
+          let w : Entered r.cursor.opened (x.is names).0 1 r.cursor.used new pc = rw e at made.1 in
           let found : Judged (depot flags) (x.is names).0 (Barred f) = rw k at (judging j h) in
-          fails-reading checked f (parse-sound names (x.is names).0 d.opened d.at names-read many (x.is names).1 w.resolved ∙ found (sound ((x.is names).0, d.opened) d.at))
+          fails-reading checked f (parse-sound names (x.is names).0 r.cursor.opened r.cursor.at names-read many (x.is names).1 w.resolved ∙ found (sound ((x.is names).0, r.cursor.opened) r.cursor.at))
 
       pub dangling : (place : ℕ) → l ≡ NoGroup place → reading s flags ≡ refused place NoSuchGroup
-      dangling place e = parse-dangling names (x.is names).0 d.opened d.at names-read many (x.is names).1 place (rw e at made.1)
+      dangling place e = parse-dangling names (x.is names).0 r.cursor.opened r.cursor.at names-read many (x.is names).1 place (rw e at made.1)
 
 -- The needed part alone was lent on ---------------------------------------------------
 

@@ -11,7 +11,6 @@ use crate::read_rule;
 use lengths::{Judgement, checkable, judge};
 use lexemes::in_depot;
 use linker::{Linkage, link};
-use parts::Answer;
 use syntax::{Reason, Refusal, SPANS_LENGTH};
 
 // How many numbers of the area a compiled rule takes at most, with the table of names behind it.
@@ -61,28 +60,22 @@ fn compile_into(
     requires { (length rule.now ≤ rule_limit) × (table_start ≤ length area.old) × (spans_length ≤ length table.old) }
     ensures { SaysWith checked rule.now flags area.new table.new table_start result }
 {
-    let r = read_rule(rule, flags, area, table);
-    match r {
-        Answer::Refused(f) => Err(f),
-        Answer::Sound(d, inside) => {
-            let groups = d.opened;
-            let profile = judged(area, inside, flags);
-            let course = followed(area, inside, checked);
-            let l = link(rule, area, inside, groups, table);
-            match l {
-                Linkage::NoGroup(place) => Err(Refusal::at(place, Reason::NoSuchGroup)),
-                Linkage::Entry(pc) => match profile {
-                    Judgement::Passes => match course {
-                        Judgement::Passes => Ok(Compiled {
-                            entry: pc as u32,
-                            groups,
-                        }),
-                        Judgement::Barred(f) => Err(f),
-                    },
-                    Judgement::Barred(f) => Err(f),
-                },
-            }
-        }
+    let inside = read_rule(rule, flags, area, table)?;
+    let groups = inside.cursor.opened;
+    let profile = judged(area, inside.node, flags);
+    let course = followed(area, inside.node, checked);
+    match link(rule, area, inside.node, groups, table) {
+        Linkage::NoGroup(place) => Err(Refusal::at(place, Reason::NoSuchGroup)),
+        Linkage::Entry(pc) => match profile {
+            Judgement::Passes => match course {
+                Judgement::Passes => Ok(Compiled {
+                    entry: pc as u32,
+                    groups,
+                }),
+                Judgement::Barred(f) => Err(f),
+            },
+            Judgement::Barred(f) => Err(f),
+        },
     }
 }
 
