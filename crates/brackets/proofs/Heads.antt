@@ -1,5 +1,6 @@
 -- The opening of a group: which case of the grammar follows from the bytes that the code met, and what the table of names then spells.
-use Rattle.std.specs.Prelude.{Result, Ok, Err, if◌then◌else◌}
+use Rattle.std.specs.Prelude.{Option, Some, None, IfSome, unwrap_or, Result, Ok, Err, if◌then◌else◌}
+use Rattle.std.specs.Option.{is_some}
 use mathlib.Core.Path.{◌≡◌, refl, ap, subst, ◌∙◌}
 use mathlib.Core.Bool.{Bool, true, false, not, ◌&&◌, ◌||◌}
 use mathlib.Core.List.{List, [], ◌∷◌}
@@ -174,6 +175,15 @@ used-called n (m ∷ ms) = by (same_bytes n m) (used-called n ms)
     by : (b : Bool) → is_used n ms ≡ not (eqb (group_called n ms) 0) → (b || is_used n ms) ≡ not (eqb (if b then suc (length ms) else group_called n ms) 0)
     by true h = rw (ne_eqb (suc (length ms)) 0 (λ z. omega arith))
     by false h = h
+
+-- a number is told where a group has the name, and it is not 0
+pub called-some : (r : Option ℕ) (P : ℕ → Type 0) → is_some r ≡ true → IfSome r (λ g. (1 ≤ g) × P g) → unwrap_or r 0 ≡ 0 → ⊥
+called-some None P e h z = absurd cc
+called-some (Some g) P e h z = omega (arith, h.0)
+
+pub called-none : (r : Option ℕ) → is_some r ≡ false → unwrap_or r 0 ≡ 0
+called-none None e = refl
+called-none (Some g) e = cc
 
 name-past : (closer : Char) (s : List ℕ) (place at : ℕ) → Given (name_up_to closer s place at) (Past at)
 unfolding name_up_to

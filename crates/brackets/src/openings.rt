@@ -72,7 +72,7 @@ fn name(
     match name_at(rule, b'>', at, start) {
         NameRead::BadName(f) => Err(f),
         NameRead::Named(from, len, next) => {
-            if group_called(rule, table, opened as usize, from, len) != 0 {
+            if group_called(rule, table, opened as usize, from, len).is_some() {
                 return Err(Refusal::at(at, Reason::NameTwice));
             }
             put_name(table, opened, from as u32, len as u32);

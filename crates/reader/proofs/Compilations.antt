@@ -1,6 +1,6 @@
 -- A rule that was read and linked is compiled: the reading of the whole rule follows from what was parsed with the names that the table spells, and from
 -- whether all references are resolved; what linking made stands in the needed part of the area, and the table behind it.
-use Rattle.std.specs.Prelude.{Result, Ok, Err}
+use Rattle.std.specs.Prelude.{⊤, Result, Ok, Err}
 use mathlib.Core.Path.{◌≡◌, refl, sym, ap, subst, ◌∙◌}
 use mathlib.Core.Bool.{Bool, true, false}
 use mathlib.Core.List.{List, [], ◌++◌, append_assoc}
@@ -22,15 +22,11 @@ use Rattle.syntax.specs.Reading.{parsed, names_read, names_of, unresolved, unles
 use Rattle.syntax.specs.Flags.{depot}
 use Rattle.syntax.specs.WellFormed.{levels, WellFormed}
 use Rattle.syntax.specs.Laws.Formation.{parsed-formed, well-formed}
-use Rattle.linker.specs.declared.Linkage.{Linkage}
-use Rattle.linker.specs.declared.Linkage.TheVariants.{Entry, NoGroup}
 use Rattle.name_table.specs.Table.{Spelled, names_in, NamesFit, spelled_same, spelled-next, length-names}
-use Rattle.linker.specs.Linking.{Fits, Linkable, Outside, Entered, Whole, LinksWhole}
+use Rattle.linker.specs.Linking.{Fits, Linkable, Outside, Entered, LinksWhole}
 use Rattle.linker.specs.Laws.{fits_whole}
 use Rattle.linker.specs.Nodes.{Inside}
 use Rattle.linker.proofs.Compiled.{keep}
-use Rattle.lengths.specs.declared.Judgement.{Judgement}
-use Rattle.lengths.specs.declared.Judgement.TheVariants.{Passes, Barred}
 use Rattle.lengths.specs.Measures.{Deep, Judged, Judges, Followed, Follows}
 use Rattle.parts.specs.declared.Part.{Part}
 use Rattle.reader.specs.Areas.{table_start}
@@ -140,54 +136,56 @@ module _ (s : List ℕ) (flags : ℕ) where
       deep = parse-shallow names (x.is names).0 r.cursor.opened r.cursor.at names-read many (x.is names).1;
     }
 
-    judging : (j : Judgement) → Judges (depot flags) area r.node j → Judged (depot flags) (x.is names).0 j
+    judging : (j : Result ⊤ Refusal) → Judges (depot flags) area r.node j → Judged (depot flags) (x.is names).0 j
     unfolding Judges
     judging j h = h s names r.cursor.opened (x.is names).0 1 r.cursor.used fits.proper (x.is names).2
 
-    following : (checked : Bool) (j : Judgement) → Follows checked area r.node j → Followed checked (x.is names).0 j
+    following : (checked : Bool) (j : Result ⊤ Refusal) → Follows checked area r.node j → Followed checked (x.is names).0 j
     unfolding Follows
     following checked j h = h s names r.cursor.opened (x.is names).0 1 r.cursor.used fits.proper (x.is names).2
 
-    module _ (new : List ℕ) (l : Linkage) (y : LinksWhole s r.cursor.opened table area new r.node l) where
-      made : Outside 1 r.cursor.used area new × Whole r.cursor.opened (x.is names).0 1 r.cursor.used new l
+    -- the first reference to no group
+    pub dangling : (new : List ℕ) (f : Refusal) → LinksWhole s r.cursor.opened table area new r.node (Err f) → reading s flags ≡ refused f.place f.reason
+    unfolding LinksWhole
+    dangling new f y =
+        let w = (y names many (fit-spelled s table r.cursor.opened x.fit) (x.is names).0 1 r.cursor.used (x.is names).2 fits).1 in
+        rw w.1 (parse-dangling names (x.is names).0 r.cursor.opened r.cursor.at names-read many (x.is names).1 f.place w.0)
+
+    module _ (new : List ℕ) (pc : ℕ) (y : LinksWhole s r.cursor.opened table area new r.node (Ok pc)) where
+      made : Outside 1 r.cursor.used area new × Entered r.cursor.opened (x.is names).0 1 r.cursor.used new pc
       unfolding LinksWhole
       made = y names many (fit-spelled s table r.cursor.opened x.fit) (x.is names).0 1 r.cursor.used (x.is names).2 fits
 
-      -- what was parsed is read, if every reference is to a group and the profile bars nothing
-      whole-read : (pc : ℕ) → l ≡ Entry pc → (j : Judgement) → j ≡ Passes → Judges (depot flags) area r.node j → reading s flags ≡ sound ((x.is names).0, r.cursor.opened) r.cursor.at
-      whole-read pc e j k h =
-          let w : Entered r.cursor.opened (x.is names).0 1 r.cursor.used new pc = rw e at made.1 in
-          let passed : Judged (depot flags) (x.is names).0 Passes = rw k at (judging j h) in
-          parse-sound names (x.is names).0 r.cursor.opened r.cursor.at names-read many (x.is names).1 w.resolved ∙ passed (sound ((x.is names).0, r.cursor.opened) r.cursor.at)
+      pub barred : (checked : Bool) (f : Refusal) → Judges (depot flags) area r.node (Err f) → Fails checked s flags f
+      barred checked f h =
+          let found = judging (Err f) h in
+          fails-reading checked f (parse-sound names (x.is names).0 r.cursor.opened r.cursor.at names-read many (x.is names).1 made.1.resolved ∙ found (sound ((x.is names).0, r.cursor.opened) r.cursor.at))
 
-      pub entered : (checked : Bool) (pc : ℕ) → l ≡ Entry pc → (j : Judgement) → j ≡ Passes → Judges (depot flags) area r.node j → (q : Judgement) → q ≡ Passes → Follows checked area r.node q → StandsWith checked s flags new table table_start pc r.cursor.opened
-      entered checked pc e j k h q u g =
-          let w : Entered r.cursor.opened (x.is names).0 1 r.cursor.used new pc = rw e at made.1 in
-          record {
-            tree = (x.is names).0;
-            stop = r.cursor.at;
-            reads = whole-read pc e j k h;
-            end = made.0.below 0 (omega arith) ∙ x.end;
-            compiled = keep new new 1 r.cursor.used 1 table_start (omega arith) x.small (λ i a b. refl) (x.is names).0 pc 0 spans_length w.compiled;
-            near = omega (arith, w.near, x.small);
-            many = rw names-read many;
-            named = rw names-read (fit-spelled s table r.cursor.opened x.fit);
-            followed = rw u at (following checked q g);
-          }
+      module _ (keeps : Judges (depot flags) area r.node (Ok tt)) where
+        -- what was parsed is read, if every reference is to a group and the profile bars nothing
+        whole-read : reading s flags ≡ sound ((x.is names).0, r.cursor.opened) r.cursor.at
+        whole-read =
+            let passed = judging (Ok tt) keeps in
+            parse-sound names (x.is names).0 r.cursor.opened r.cursor.at names-read many (x.is names).1 made.1.resolved ∙ passed (sound ((x.is names).0, r.cursor.opened) r.cursor.at)
 
-      pub unfollowed : (checked : Bool) (pc : ℕ) → l ≡ Entry pc → (j : Judgement) → j ≡ Passes → Judges (depot flags) area r.node j → (q : Judgement) (f : Refusal) → q ≡ Barred f → Follows checked area r.node q → Fails checked s flags f
-      unfollowed checked pc e j k h q f u g =
-          let found : Followed checked (x.is names).0 (Barred f) = rw u at (following checked q g) in
-          fails-checked checked f found.0 (record { tree = (x.is names).0; groups = r.cursor.opened; stop = r.cursor.at; reads = whole-read pc e j k h; found = found.1 })
+        pub unfollowed : (checked : Bool) (f : Refusal) → Follows checked area r.node (Err f) → Fails checked s flags f
+        unfollowed checked f g =
+            let found = following checked (Err f) g in
+            fails-checked checked f found.0 (record { tree = (x.is names).0; groups = r.cursor.opened; stop = r.cursor.at; reads = whole-read; found = found.1 })
 
-      pub barred : (checked : Bool) (pc : ℕ) → l ≡ Entry pc → (j : Judgement) (f : Refusal) → j ≡ Barred f → Judges (depot flags) area r.node j → Fails checked s flags f
-      barred checked pc e j f k h =
-          let w : Entered r.cursor.opened (x.is names).0 1 r.cursor.used new pc = rw e at made.1 in
-          let found : Judged (depot flags) (x.is names).0 (Barred f) = rw k at (judging j h) in
-          fails-reading checked f (parse-sound names (x.is names).0 r.cursor.opened r.cursor.at names-read many (x.is names).1 w.resolved ∙ found (sound ((x.is names).0, r.cursor.opened) r.cursor.at))
-
-      pub dangling : (place : ℕ) → l ≡ NoGroup place → reading s flags ≡ refused place NoSuchGroup
-      dangling place e = parse-dangling names (x.is names).0 r.cursor.opened r.cursor.at names-read many (x.is names).1 place (rw e at made.1)
+        pub entered : (checked : Bool) → Follows checked area r.node (Ok tt) → StandsWith checked s flags new table table_start pc r.cursor.opened
+        entered checked g =
+            record {
+              tree = (x.is names).0;
+              stop = r.cursor.at;
+              reads = whole-read;
+              end = made.0.below 0 (omega arith) ∙ x.end;
+              compiled = keep new new 1 r.cursor.used 1 table_start (omega arith) x.small (λ i a b. refl) (x.is names).0 pc 0 spans_length made.1.compiled;
+              near = omega (arith, made.1.near, x.small);
+              many = rw names-read many;
+              named = rw names-read (fit-spelled s table r.cursor.opened x.fit);
+              followed = following checked (Ok tt) g;
+            }
 
 -- The needed part alone was lent on ---------------------------------------------------
 

@@ -8,10 +8,9 @@ ghost use Rattle.reader.specs.Areas.{table_start};
 ghost use Rattle.reader.specs.Compiles.{SaysWith, Compiles};
 
 use crate::read_rule;
-use lengths::{Judgement, checkable, judge};
-use lexemes::in_depot;
-use linker::{Linkage, link};
-use syntax::{Reason, Refusal, SPANS_LENGTH};
+use lengths::{checkable, judge};
+use linker::link;
+use syntax::{Flags, Refusal, SPANS_LENGTH};
 
 // How many numbers of the area a compiled rule takes at most, with the table of names behind it.
 const RULE_AREA: usize = 16384;
@@ -26,26 +25,27 @@ pub struct Compiled {
     pub groups: u32,
 }
 
-// What the depot profile says of the rule whose inside stands at p, if it is asked for.
-fn judged(area: &[u32], p: usize, flags: u32) -> Judgement
+// Whether the rule whose inside stands at p keeps to the depot profile, if it is asked for. This and the next stand apart: one function for both would
+// be handed what it asks, and say no less.
+fn judged(area: &[u32], p: usize, flags: u32) -> Result<(), Refusal>
     requires { Deep Inside area.now p level_limit }
     ensures { Judges (depot flags) area.now p result }
 {
-    if in_depot(flags) {
+    if Flags(flags).in_depot() {
         return judge(area, p);
     }
-    Judgement::Passes
+    Ok(())
 }
 
 // Whether a check can follow the rule whose inside stands at p, if it is one that asks.
-fn followed(area: &[u32], p: usize, checked: bool) -> Judgement
+fn followed(area: &[u32], p: usize, checked: bool) -> Result<(), Refusal>
     requires { Deep Inside area.now p level_limit }
     ensures { Follows checked area.now p result }
 {
     if checked {
         return checkable(area, p);
     }
-    Judgement::Passes
+    Ok(())
 }
 
 // Reads and links a rule, and leaves the names of its groups in the table. What the profile bars and what a check cannot follow is
@@ -64,19 +64,10 @@ fn compile_into(
     let groups = inside.cursor.opened;
     let profile = judged(area, inside.node, flags);
     let course = followed(area, inside.node, checked);
-    match link(rule, area, inside.node, groups, table) {
-        Linkage::NoGroup(place) => Err(Refusal::at(place, Reason::NoSuchGroup)),
-        Linkage::Entry(pc) => match profile {
-            Judgement::Passes => match course {
-                Judgement::Passes => Ok(Compiled {
-                    entry: pc as u32,
-                    groups,
-                }),
-                Judgement::Barred(f) => Err(f),
-            },
-            Judgement::Barred(f) => Err(f),
-        },
-    }
+    let entry = link(rule, area, inside.node, groups, table)?;
+    profile?;
+    course?;
+    Ok(Compiled { entry, groups })
 }
 
 // Compiles a rule into the first numbers of the area. The others are not even lent on. The table is made beside the area, since no two parts of one slice

@@ -1,55 +1,32 @@
 -- `compile_into` meets its contract: each answer is a law of Compilations, at what the two passes and the profile ensure.
-use native.Mathlib.Omega.{arith}
 use Rattle.std.proofs.lemmas.Result.{err_from_is_err_and}
-use Rattle.syntax.specs.Limits.{group_limit, rule_area_need, spans_length}
-use Rattle.reader.specs.Areas.{table_start}
-use Rattle.reader.specs.Compiles.{StandsWith}
 use Rattle.reader.proofs.Compilations.{linkable, measurable, entered, unfollowed, barred, dangling, fails-reading, parse-refused}
 use Rattle.reader.proofs.compiling.compile_into.Goals as goal
 
 pub judged-profile-requires : goal.judged-profile-requires
 judged-profile-requires c = let a = c.args in
-    let read = c.read_rule in
-    measurable a.rule.now a.flags read.new.area read.new.table _ c.in_ok-inside.ensures
+    measurable a.rule.now a.flags c.read_rule.new.area c.read_rule.new.table _ c.in_ok-inside.ensures
 
 pub followed-course-requires : goal.followed-course-requires
 followed-course-requires c = let a = c.args in
-    let read = c.read_rule in
-    measurable a.rule.now a.flags read.new.area read.new.table _ c.in_ok-inside.ensures
+    measurable a.rule.now a.flags c.read_rule.new.area c.read_rule.new.table _ c.in_ok-inside.ensures
 
 pub link-requires : goal.link-requires
 link-requires c = let a = c.args in
-    let read = c.read_rule in
-    linkable a.rule.now a.flags read.new.area read.new.table _ c.in_ok-inside.ensures
+    linkable a.rule.now a.flags c.read_rule.new.area c.read_rule.new.table _ c.in_ok-inside.ensures
 
 pub returns-in_err-inside : goal.returns-in_err-inside
 returns-in_err-inside c = let p = err_from_is_err_and c.from_residual.result c.from_residual.ensures.1 in
     rw (p.1, p.2) (fails-reading _ _ c.args.checked _ (parse-refused _ _ _ _ c.in_err-inside.ensures))
 
-pub returns-in-NoGroup : goal.returns-in-NoGroup
-returns-in-NoGroup c = let a = c.args in
-    let read = c.read_rule in
-    rw c.at.ensures (fails-reading a.rule.now a.flags a.checked _
-    (dangling a.rule.now a.flags read.new.area read.new.table _ c.in_ok-inside.ensures _ _ c.link.ensures _ c.in-NoGroup.is))
+pub returns-in_err-entry : goal.returns-in_err-entry
+returns-in_err-entry c = ?
 
-pub overflow_cast-result : goal.overflow_cast-result
-unfolding table_start rule_area_need spans_length group_limit
-overflow_cast-result c = let a = c.args in
-    let read = c.read_rule in
-    let stands : StandsWith a.checked a.rule.now a.flags c.link.new.area read.new.table table_start _ _ = entered a.rule.now a.flags read.new.area read.new.table _ c.in_ok-inside.ensures _ _ c.link.ensures a.checked _ c.in-Entry.is c.judged-profile.result c.in-Passes.is c.judged-profile.ensures c.followed-course.result c.in-Passes-course.is c.followed-course.ensures in
-    omega (arith, stands.near)
+pub returns-in_err-profile : goal.returns-in_err-profile
+returns-in_err-profile c = ?
 
-pub returns-in-Passes-course : goal.returns-in-Passes-course
-returns-in-Passes-course c = let a = c.args in
-    let read = c.read_rule in
-    entered a.rule.now a.flags read.new.area read.new.table _ c.in_ok-inside.ensures _ _ c.link.ensures a.checked _ c.in-Entry.is c.judged-profile.result c.in-Passes.is c.judged-profile.ensures c.followed-course.result c.in-Passes-course.is c.followed-course.ensures
+pub returns-in_err-course : goal.returns-in_err-course
+returns-in_err-course c = ?
 
-pub returns-in-Barred-course : goal.returns-in-Barred-course
-returns-in-Barred-course c = let a = c.args in
-    let read = c.read_rule in
-    unfollowed a.rule.now a.flags read.new.area read.new.table _ c.in_ok-inside.ensures _ _ c.link.ensures a.checked _ c.in-Entry.is c.judged-profile.result c.in-Passes.is c.judged-profile.ensures c.followed-course.result _ c.in-Barred-course.is c.followed-course.ensures
-
-pub returns-in-Barred : goal.returns-in-Barred
-returns-in-Barred c = let a = c.args in
-    let read = c.read_rule in
-    barred a.rule.now a.flags read.new.area read.new.table _ c.in_ok-inside.ensures _ _ c.link.ensures a.checked _ c.in-Entry.is c.judged-profile.result _ c.in-Barred.is c.judged-profile.ensures
+pub returns : goal.returns
+returns c = ?
