@@ -15,6 +15,7 @@ use lib.Seq.{slice, slice_empty}
 use Rattle.syntax.specs.declared.Form.{Form}
 use Rattle.syntax.specs.declared.Form.TheVariants.{Grouped, Captured, Held, Ahead, NotAhead}
 use Rattle.syntax.specs.declared.Reason.TheVariants.{UnknownGroup, TooManyGroups, TooDeep, NameTwice}
+use Rattle.syntax.specs.declared.Parsed.{Parsed}
 use Rattle.syntax.specs.declared.Refusal.{Refusal}
 use Rattle.syntax.specs.Limits.{group_limit, spans_length}
 use Rattle.syntax.specs.Read.{byte, is, Read, sound, refused, and_then}
@@ -23,12 +24,11 @@ use Rattle.syntax.specs.Tree.{Rule, enclosed}
 use Rattle.syntax.specs.Names.{Name, Names, word_at, is_name, name_up_to, is_used, fresh, group_called}
 use Rattle.syntax.specs.Grammar.{Inner, closing, capturing, uncaptured, grouped, alternation, inside}
 use Rattle.syntax.specs.Laws.Forward.{Given, Past, if-given}
-use Rattle.lexemes.specs.declared.NameRead.{NameRead}
-use Rattle.lexemes.specs.declared.NameRead.TheVariants.{Named, BadName}
-use Rattle.lexemes.specs.Says.{Peeked, SaysName, SaysNameUpTo}
+use Rattle.lexemes.specs.declared.Name.{Name as NameAt}
+use Rattle.lexemes.specs.Says.{Peeked, SaysNameUpTo}
 use Rattle.name_table.specs.Table.{names_in, NamesFit, length-names}
 use Rattle.brackets.specs.declared.Bracket.{Bracket}
-use Rattle.brackets.specs.declared.Bracket.TheVariants.{Named as WithName, Captures, Begins}
+use Rattle.brackets.specs.declared.Bracket.TheVariants.{Named, Captures, Begins}
 use Rattle.brackets.specs.declared.Opening.{Opening}
 use Rattle.writer.specs.Wrote.{Wrote}
 use Rattle.brackets.specs.Says.{FormFits, head_of, Bracketed, IsBracket, SaysBracket, SaysHead, SaysOpening}
@@ -93,7 +93,7 @@ module _ {s : List ℕ} {d : ℕ} (at opened : ℕ) (p : Peeked s (at + 1) 63) (
   unfolding grouped
   grouped-named f inner names = rw (← p.is, ← q.is, f)
 
-  pub bracket-named : d ≡ 60 → opened < group_limit → SaysBracket s at opened (Ok (WithName (at + 3)))
+  pub bracket-named : d ≡ 60 → opened < group_limit → SaysBracket s at opened (Ok (Named (at + 3)))
   unfolding head_of
   bracket-named f few = record {
     on = omega arith;
@@ -192,46 +192,45 @@ name-past closer s place at = let w = word_at s at in if-given _ _ _ (is_name w 
 named-on : (s : List ℕ) (at start : ℕ) (n : Name) (next : ℕ) → name_up_to ">" s at start ≡ sound n next → start ≤ next
 named-on s at start n next e = subst (λ (y : Read Name). Given y (Past start)) e (name-past ">" s at start)
 
-module _ (s : List ℕ) (at start : ℕ) (n : NameRead) (says : SaysNameUpTo 62 s at start n) where
-  said-name : (x : NameRead) → n ≡ x → SaysName s (name_up_to ">" s at start) x
-  said-name x e = subst (λ (y : NameRead). SaysName s (name_up_to ">" s at start) y) e (says ">" refl)
+pub name_in : (s : List ℕ) (at start : ℕ) {p : Parsed NameAt} → SaysNameUpTo 62 s at start (Ok p) → p.value.from + p.value.len < length s
+name_in s at start says = (says ">" refl).1.closed
 
-  pub name_in : (m len next : ℕ) → n ≡ Named m len next → m + len < length s
-  name_in m len next e = (said-name (Named m len next) e).1.closed
+module _ (s : List ℕ) (at start : ℕ) (table : List ℕ) (opened : ℕ) where
+  -- the head of a group with a name, by the name's reading
+  by_name : (a : Read Name) → name_up_to ">" s at start ≡ a
+      → head_of s at (names_in s table opened) start true ≡ and_then (fresh at (names_in s table opened) a) (λ m next. sound (m ∷ names_in s table opened) next)
+  unfolding head_of
+  by_name a e = rw e
 
-  module _ (table : List ℕ) (opened : ℕ) where
-    -- the head of a group with a name, by the name's reading
-    by_name : (a : Read Name) → name_up_to ">" s at start ≡ a
-        → head_of s at (names_in s table opened) start true ≡ and_then (fresh at (names_in s table opened) a) (λ m next. sound (m ∷ names_in s table opened) next)
-    unfolding head_of
-    by_name a e = rw e
+  pub name-bad : (f : Refusal) → SaysNameUpTo 62 s at start (Err f) → SaysHead s table start (Captured (opened + 1)) (head_of s at (names_in s table opened) start true) (Err f)
+  unfolding fresh
+  name-bad f says = by_name (refused f.place f.reason) (says ">" refl)
 
-    pub name-bad : (f : Refusal) → n ≡ BadName f → SaysHead s table start (Captured (opened + 1)) (head_of s at (names_in s table opened) start true) (Err f)
+  module _ {p : Parsed NameAt} {same : ℕ} (says : SaysNameUpTo 62 s at start (Ok p)) (is : same ≡ group_called (slice p.value.from (p.value.from + p.value.len) s) (names_in s table opened)) where
+    abbrev told : Name
+    told = slice p.value.from (p.value.from + p.value.len) s
+
+    read_name : name_up_to ">" s at start ≡ sound told p.next
+    read_name = (says ">" refl).0
+
+    used-is : (b : Bool) → not (eqb same 0) ≡ b → is_used told (names_in s table opened) ≡ b
+    used-is b h = used-called told (names_in s table opened) ∙ rw (← is) h
+
+    pub name-twice : (same ≡ 0 → ⊥) → SaysHead s table start (Captured (opened + 1)) (head_of s at (names_in s table opened) start true) (Err (record { place = at; reason = NameTwice }))
     unfolding fresh
-    name-bad f e = by_name (refused f.place f.reason) (said-name (BadName f) e)
+    name-twice ne = by_name (sound told p.next) read_name ∙ rw (used-is true (rw (ne_eqb same 0 ne)))
 
-    module _ {m len next same : ℕ} (e : n ≡ Named m len next) (is : same ≡ group_called (slice m (m + len) s) (names_in s table opened)) where
-      read_name : name_up_to ">" s at start ≡ sound (slice m (m + len) s) next
-      read_name = (said-name (Named m len next) e).0
-
-      used-is : (b : Bool) → not (eqb same 0) ≡ b → is_used (slice m (m + len) s) (names_in s table opened) ≡ b
-      used-is b h = used-called (slice m (m + len) s) (names_in s table opened) ∙ rw (← is) h
-
-      pub name-twice : (same ≡ 0 → ⊥) → SaysHead s table start (Captured (opened + 1)) (head_of s at (names_in s table opened) start true) (Err (record { place = at; reason = NameTwice }))
-      unfolding fresh
-      name-twice ne = by_name (sound (slice m (m + len) s) next) read_name ∙ rw (used-is true (rw (ne_eqb same 0 ne)))
-
-      pub name_new : {new : List ℕ} → same ≡ 0 → Wrote table new (2 * opened) 2 (m ∷ len ∷ []) → NamesFit s table opened → opened + 1 ≤ group_limit → spans_length ≤ length table → length new ≡ length table
-          → SaysHead s new start (Captured (opened + 1)) (head_of s at (names_in s table opened) start true) (Ok (record { start = next; opened = opened + 1; form = Captured (opened + 1) }))
-      unfolding fresh
-      name_new {new} z w fit few wide long =
-          let y = (said-name (Named m len next) e).1 in
-          let on = named-on s at start (slice m (m + len) s) next read_name in
-          let room = table-room opened table few wide in (
-            record { on = on; within = omega (arith, y.behind, y.closed); few = few; numbered = (omega arith, few); fit = fit_next s opened w fit (λ k. omega (arith, y.closed)) (omega (arith, room, long)) },
-            refl,
-            by_name (sound (slice m (m + len) s) next) read_name ∙ rw (used-is false (rw z)) (rw (names-next s opened w)),
-          )
+    pub name_new : {new : List ℕ} → same ≡ 0 → Wrote table new (2 * opened) 2 (p.value.from ∷ p.value.len ∷ []) → NamesFit s table opened → opened + 1 ≤ group_limit → spans_length ≤ length table → length new ≡ length table
+        → SaysHead s new start (Captured (opened + 1)) (head_of s at (names_in s table opened) start true) (Ok (record { start = p.next; opened = opened + 1; form = Captured (opened + 1) }))
+    unfolding fresh
+    name_new {new} z w fit few wide long =
+        let y = (says ">" refl).1 in
+        let on = named-on s at start told p.next read_name in
+        let room = table-room opened table few wide in (
+          record { on = on; within = omega (arith, y.behind, y.closed); few = few; numbered = (omega arith, few); fit = fit_next s opened w fit (λ k. omega (arith, y.closed)) (omega (arith, room, long)) },
+          refl,
+          by_name (sound told p.next) read_name ∙ rw (used-is false (rw z)) (rw (names-next s opened w)),
+        )
 
 -- The whole opening -----------------------------------------------------------------
 
@@ -274,7 +273,7 @@ module _ (s old : List ℕ) (flags depth at opened : ℕ) where
 
   -- whatever group it is
   pub too-deep : (b : Bracket) → IsBracket s at opened b → depth ≡ 0 → SaysOpening s flags depth at (names_in s old opened) old (Err (record { place = at; reason = TooDeep }))
-  too-deep (WithName start) begun z = opening-deep begun z
+  too-deep (Named start) begun z = opening-deep begun z
   too-deep (Captures start) begun z = opening-deep begun z
   too-deep (Begins start form) begun z = opening-deep begun z
 
@@ -284,7 +283,7 @@ module _ (s old : List ℕ) (flags depth at opened : ℕ) where
   opening-form begun some few fit = opening-head begun old (Ok _) some (record { on = omega arith; within = begun.within; few = few; numbered = begun.numbered; fit = fit }, refl, refl)
 
   -- one that captures
-  pub opening-named : {start : ℕ} → IsBracket s at opened (WithName start) → (new : List ℕ) (r : Result Opening Refusal) → (depth ≡ 0 → ⊥) → SaysHead s new start (Captured (opened + 1)) (head_of s at (names_in s old opened) start true) r
+  pub opening-named : {start : ℕ} → IsBracket s at opened (Named start) → (new : List ℕ) (r : Result Opening Refusal) → (depth ≡ 0 → ⊥) → SaysHead s new start (Captured (opened + 1)) (head_of s at (names_in s old opened) start true) r
       → SaysOpening s flags depth at (names_in s old opened) new r
   opening-named begun new r some h = opening-head begun new r some h
 

@@ -1,5 +1,5 @@
 // Reads the openings of groups: what a group is, how deep it nests, and its name, in this order, which is that of the refusals on one bracket.
-ghost use Rattle.std.specs.Prelude.{true, List, [], ◌∷◌, ℕ, ◌+◌, ◌*◌, ◌≤◌, ◌<◌, length};
+ghost use Rattle.std.specs.Prelude.{◌≡◌, true, List, [], ◌∷◌, ℕ, ◌+◌, ◌*◌, ◌≤◌, ◌<◌, length};
 ghost use Rattle.syntax.specs.declared.Form.TheVariants.{Captured};
 ghost use Rattle.syntax.specs.Limits.{group_limit, spans_length};
 ghost use Rattle.name_table.specs.Table.{names_in, NamesFit};
@@ -8,9 +8,9 @@ ghost use Rattle.writer.specs.Wrote.{Wrote};
 ghost use Rattle.brackets.specs.Says.{head_of, SaysBracket, SaysHead, SaysOpening};
 
 use crate::{Bracket, EQUALS, EXCLAMATION, GREATER, Opening, QUESTION};
-use lexemes::{COLON, LESS, NameRead, name_at, peek};
+use lexemes::{COLON, LESS, name_at, peek};
 use name_table::group_called;
-use syntax::{Form, GROUP_LIMIT, Reason, Refusal};
+use syntax::{Form, GROUP_LIMIT, Parsed, Reason, Refusal};
 
 // What group opens at a bracket with a `?` and the byte `d` behind it.
 fn marked(d: u32, at: usize, opened: u32) -> Result<Bracket, Refusal>
@@ -58,6 +58,19 @@ fn put_name(table: &mut [u32], opened: u32, from: u32, len: u32)
     table[at + 1] = len;
 }
 
+// The opening of the group that captures behind those opened so far.
+fn captured(start: usize, opened: u32) -> Opening
+    requires { opened + 1 ≤ group_limit }
+    ensures { result ≡ record { start = start; opened = opened + 1; form = Captured (opened + 1) } }
+{
+    let number = opened + 1;
+    Opening {
+        start,
+        opened: number,
+        form: Form::Captured(number),
+    }
+}
+
 // The name of a group that captures, whose bracket stands at a position and whose name begins at `start`.
 fn name(
     rule: &[u8],
@@ -69,21 +82,12 @@ fn name(
     requires { (start ≤ length rule.now) × (length rule.now < 4294967296) × (opened + 1 ≤ group_limit) × (spans_length ≤ length table.old) × NamesFit rule.now table.old opened }
     ensures { SaysHead rule.now table.new start (Captured (opened + 1)) (head_of rule.now at (names_in rule.now table.old opened) start true) result }
 {
-    match name_at(rule, b'>', at, start) {
-        NameRead::BadName(f) => Err(f),
-        NameRead::Named(from, len, next) => {
-            if group_called(rule, table, opened as usize, from, len).is_some() {
-                return Err(Refusal::at(at, Reason::NameTwice));
-            }
-            put_name(table, opened, from as u32, len as u32);
-            let number = opened + 1;
-            Ok(Opening {
-                start: next,
-                opened: number,
-                form: Form::Captured(number),
-            })
-        }
+    let Parsed { value: name, next } = name_at(rule, b'>', at, start)?;
+    if group_called(rule, table, opened as usize, name.from, name.len).is_some() {
+        return Err(Refusal::at(at, Reason::NameTwice));
     }
+    put_name(table, opened, name.from as u32, name.len as u32);
+    Ok(captured(next, opened))
 }
 
 // The opening of a group whose bracket stands at a position, where so many more may nest.
@@ -105,12 +109,7 @@ pub fn opening_at(
         Bracket::Named { start } => name(rule, table, at, start, opened),
         Bracket::Captures { start } => {
             put_name(table, opened, 0, 0);
-            let number = opened + 1;
-            Ok(Opening {
-                start,
-                opened: number,
-                form: Form::Captured(number),
-            })
+            Ok(captured(start, opened))
         }
         Bracket::Begins { start, form } => Ok(Opening {
             start,

@@ -15,6 +15,7 @@ use Rattle.syntax.specs.declared.Most.{Most}
 use Rattle.syntax.specs.declared.Quantifier.{Quantifier}
 use Rattle.syntax.specs.declared.Quantifier.TheVariants.{Absent, Stray, Unfit, Times}
 use Rattle.syntax.specs.declared.Reason.TheVariants.{NothingToRepeat, BadBraces, RepeatOnRepeat}
+use Rattle.syntax.specs.declared.Parsed.{Parsed}
 use Rattle.syntax.specs.declared.Refusal.{Refusal}
 use Rattle.syntax.specs.Read.{byte, is, Read, sound, refused, and_then}
 use Rattle.syntax.specs.Tree.{Item, byte_in, assert, reference, empty, item, seq, repeat, held, possessive, line_break}
@@ -25,10 +26,10 @@ use Rattle.syntax.specs.Grammar.{atom, Sequence, unrepeatable, repeatable, repea
 use Rattle.syntax.specs.Compiled.{assertion_word, most_word, greed_word, folded_word}
 use Rattle.syntax.specs.Laws.Forward.{Given, Past, Holding, Bounded, and_right, atom-on, quantifier-on}
 use Rattle.syntax.specs.Laws.Within.{Upto, is-in, atom-in, quantifier-in}
+use Rattle.lexemes.specs.declared.Name.{Name as NameAt}
 use Rattle.lexer.specs.declared.Token.{Token}
-use Rattle.lexer.specs.declared.Token.TheVariants.{Byte, Assert, Reference, Called, BadItem}
-use Rattle.lexer.specs.declared.Lexed.{Lexed}
-use Rattle.lexer.specs.Says.{SaysItem}
+use Rattle.lexer.specs.declared.Token.TheVariants.{Byte, Assert, Reference, Called}
+use Rattle.lexer.specs.Says.{ItemIn, SaysItem}
 use Rattle.parts.specs.declared.Cursor.{Cursor}
 use Rattle.parts.specs.declared.Step.{Step}
 use Rattle.parts.specs.declared.Before.{Before}
@@ -111,17 +112,14 @@ given-at a P x n e g = subst (λ (y : Read _). Given y P) e g
 then-sound : {A B : Type 0} (a : Read A) (x : A) (n : ℕ) (k : A → ℕ → Read B) → a ≡ sound x n → and_then a k ≡ k x n
 then-sound a x n k e = ap (λ (y : Read _). and_then y k) e
 
-item-says : (s : List ℕ) (folded : Bool) (known : Names) (a : Read Item) (l : Lexed) (t : Token) → l.token ≡ t → SaysItem s folded known a l → SaysItem s folded known a (record { words = l.words; token = t })
-item-says s folded known a l t e h = subst (λ (y : Token). SaysItem s folded known a (record { words = l.words; token = y })) e h
+pub item-bad : (s : List ℕ) (old : List ℕ) (c : Cursor) (flags last : ℕ) (f : Refusal) → ((known : Names) → SaysItem s (ignore_case flags) known (atom s flags known c.opened c.at) (Err f)) → Items s flags old old c last (Err f)
+item-bad s old c flags last f says = record { moved = tt; frame = λ i k. refl; names = tt; claim = λ known told lo q h. rw (says known) }
 
-module _ (s : List ℕ) {old : List ℕ} {c : Cursor} (l : Lexed) (flags last : ℕ) (r : Ready (length s) old c) (in_rule : c.at < length s)
-    (says : (known : Names) → SaysItem s (ignore_case flags) known (atom s flags known c.opened c.at) l) where
+module _ (s : List ℕ) {old : List ℕ} {c : Cursor} (l : Parsed Token) (flags last : ℕ) (r : Ready (length s) old c) (in_rule : c.at < length s)
+    (says : (known : Names) → SaysItem s (ignore_case flags) known (atom s flags known c.opened c.at) (Ok l)) where
   -- what is said once the token is known
-  is-token : (t : Token) → l.token ≡ t → (known : Names) → SaysItem s (ignore_case flags) known (atom s flags known c.opened c.at) (record { words = l.words; token = t })
-  is-token t e known = item-says s (ignore_case flags) known (atom s flags known c.opened c.at) l t e (says known)
-
-  pub item-bad : (f : Refusal) → l.token ≡ BadItem f → Items s flags old old c last (Err f)
-  item-bad f e = record { moved = tt; frame = λ i k. refl; names = tt; claim = λ known told lo q h. rw (is-token (BadItem f) e known) }
+  is-token : (t : Token) → l.value ≡ t → (known : Names) → ItemIn s (ignore_case flags) known (atom s flags known c.opened c.at) t l.next
+  is-token t e known = subst (λ (y : Token). ItemIn s (ignore_case flags) known (atom s flags known c.opened c.at) y l.next) e (says known)
 
   -- an item ends behind its beginning and within the rule
   module _ (i : Item) (next : ℕ) (is : atom s flags [] c.opened c.at ≡ sound i next) where
@@ -131,30 +129,30 @@ module _ (s : List ℕ) {old : List ℕ} {c : Cursor} (l : Lexed) (flags last : 
     upto : next ≤ length s
     upto = given-at (atom s flags [] c.opened c.at) (Upto s) i next is (atom-in s flags [] c.opened c.at in_rule)
 
-  pub item-byte : {new : List ℕ} (next : ℕ) → l.token ≡ Byte next → Wrote old new c.used 11 (0 ∷ last ∷ c.at ∷ l.words) → Items s flags old new c last (Ok (record { cursor = behind_node c next 11; node = c.used; kind = Repeatable }))
-  item-byte {new} next e w =
-      let z = is-token (Byte next) e [] in
-      let n = on (byte_in (ignore_case flags) z.0) next z.1 in
-      let u = upto (byte_in (ignore_case flags) z.0) next z.1 in
+  pub item-byte : {new : List ℕ} (words : List ℕ) → l.value ≡ Byte words → Wrote old new c.used 11 (0 ∷ last ∷ c.at ∷ words) → Items s flags old new c last (Ok (record { cursor = behind_node c l.next 11; node = c.used; kind = Repeatable }))
+  item-byte {new} words e w =
+      let z = is-token (Byte words) e [] in
+      let n = on (byte_in (ignore_case flags) z.0) l.next z.1 in
+      let u = upto (byte_in (ignore_case flags) z.0) l.next z.1 in
       record {
         moved = record { on = n; within = u; grown = omega arith; paid = omega arith; address = omega arith; few = r.few };
         frame = w.below;
         names = refl;
         claim = λ known told lo q h.
-            let y = is-token (Byte next) e known in
+            let y = is-token (Byte words) e known in
             let t = item c.at (byte_in (ignore_case flags) y.0) in (
               repeatable (whole q) t,
               refl,
-              then-sound _ _ next _ y.1 ∙ (unfold with_item in refl),
+              then-sound _ _ l.next _ y.1 ∙ (unfold with_item in refl),
               so_far_more s known old new lo c.used last c.used (c.used + 11) (whole q) t h w.below (byte-part s known (ignore_case flags) y.0 w r.began y.2),
             );
       }
 
-  pub item-assert : {new : List ℕ} (k : Assertion) (next : ℕ) → l.token ≡ Assert k next → Wrote old new c.used 4 (1 ∷ last ∷ c.at ∷ assertion_word k ∷ []) → Items s flags old new c last (Ok (record { cursor = behind_node c next 4; node = c.used; kind = Nothing }))
-  item-assert {new} k next e w =
-      let z = is-token (Assert k next) e [] in
-      let n = on (assert k) next z in
-      let u = upto (assert k) next z in
+  pub item-assert : {new : List ℕ} (k : Assertion) → l.value ≡ Assert k → Wrote old new c.used 4 (1 ∷ last ∷ c.at ∷ assertion_word k ∷ []) → Items s flags old new c last (Ok (record { cursor = behind_node c l.next 4; node = c.used; kind = Nothing }))
+  item-assert {new} k e w =
+      let z = is-token (Assert k) e [] in
+      let n = on (assert k) l.next z in
+      let u = upto (assert k) l.next z in
       record {
         moved = record { on = n; within = u; grown = omega arith; paid = omega arith; address = omega arith; few = r.few };
         frame = w.below;
@@ -162,16 +160,16 @@ module _ (s : List ℕ) {old : List ℕ} {c : Cursor} (l : Lexed) (flags last : 
         claim = λ known told lo q h. (
           unrepeatable (seq (whole q) (item c.at (assert k))),
           refl,
-          then-sound _ _ next _ (is-token (Assert k next) e known) ∙ (unfold with_item in refl),
+          then-sound _ _ l.next _ (is-token (Assert k) e known) ∙ (unfold with_item in refl),
           chain_more s known old new lo c.used last c.used (c.used + 4) (whole q) (item c.at (assert k)) h w.below (assert-part s known k w r.began),
         );
       }
 
-  pub item-reference : {new : List ℕ} (m next : ℕ) → l.token ≡ Reference m next → Wrote old new c.used 5 (11 ∷ last ∷ c.at ∷ m ∷ folded_word (ignore_case flags) ∷ []) → Items s flags old new c last (Ok (record { cursor = behind_node c next 5; node = c.used; kind = Repeatable }))
-  item-reference {new} m next e w =
-      let z = is-token (Reference m next) e [] in
-      let n = on (reference (ignore_case flags) m) next z in
-      let u = upto (reference (ignore_case flags) m) next z in
+  pub item-reference : {new : List ℕ} (m : ℕ) → l.value ≡ Reference m → Wrote old new c.used 5 (11 ∷ last ∷ c.at ∷ m ∷ folded_word (ignore_case flags) ∷ []) → Items s flags old new c last (Ok (record { cursor = behind_node c l.next 5; node = c.used; kind = Repeatable }))
+  item-reference {new} m e w =
+      let z = is-token (Reference m) e [] in
+      let n = on (reference (ignore_case flags) m) l.next z in
+      let u = upto (reference (ignore_case flags) m) l.next z in
       record {
         moved = record { on = n; within = u; grown = omega arith; paid = omega arith; address = omega arith; few = r.few };
         frame = w.below;
@@ -179,33 +177,33 @@ module _ (s : List ℕ) {old : List ℕ} {c : Cursor} (l : Lexed) (flags last : 
         claim = λ known told lo q h. (
           repeatable (whole q) (item c.at (reference (ignore_case flags) m)),
           refl,
-          then-sound _ _ next _ (is-token (Reference m next) e known) ∙ (unfold with_item in refl),
+          then-sound _ _ l.next _ (is-token (Reference m) e known) ∙ (unfold with_item in refl),
           so_far_more s known old new lo c.used last c.used (c.used + 5) (whole q) (item c.at (reference (ignore_case flags) m)) h w.below (reference-part s known (ignore_case flags) w r.began),
         );
       }
 
   -- where a name stands in the rule
-  pub named-within : (m len next : ℕ) → l.token ≡ Called m len next → m + len < length s
-  named-within m len next e = (is-token (Called m len next) e []).1.closed
+  pub named-within : (n : NameAt) → l.value ≡ Called n → n.from + n.len < length s
+  named-within n e = (is-token (Called n) e []).1.closed
 
   -- a reference by name: its number depends on the names of the whole rule
-  pub item-named : {new : List ℕ} (m len next : ℕ) → l.token ≡ Called m len next → Wrote old new c.used 6 (2 ∷ last ∷ c.at ∷ m ∷ folded_word (ignore_case flags) ∷ len ∷ [])
-      → Items s flags old new c last (Ok (record { cursor = behind_node c next 6; node = c.used; kind = Repeatable }))
-  item-named {new} m len next e w =
-      let z = is-token (Called m len next) e [] in
-      let n = on (reference (ignore_case flags) (group_called (slice m (m + len) s) [])) next z.0 in
-      let u = upto (reference (ignore_case flags) (group_called (slice m (m + len) s) [])) next z.0 in
-      let v = named-within m len next e in
+  pub item-named : {new : List ℕ} (n : NameAt) → l.value ≡ Called n → Wrote old new c.used 6 (2 ∷ last ∷ c.at ∷ n.from ∷ folded_word (ignore_case flags) ∷ n.len ∷ [])
+      → Items s flags old new c last (Ok (record { cursor = behind_node c l.next 6; node = c.used; kind = Repeatable }))
+  item-named {new} n e w =
+      let z = is-token (Called n) e [] in
+      let after = on (reference (ignore_case flags) (group_called (slice n.from (n.from + n.len) s) [])) l.next z.0 in
+      let u = upto (reference (ignore_case flags) (group_called (slice n.from (n.from + n.len) s) [])) l.next z.0 in
+      let v = named-within n e in
       record {
-        moved = record { on = n; within = u; grown = omega arith; paid = omega arith; address = omega arith; few = r.few };
+        moved = record { on = after; within = u; grown = omega arith; paid = omega arith; address = omega arith; few = r.few };
         frame = w.below;
         names = refl;
         claim = λ known told lo q h.
-            let t = item c.at (reference (ignore_case flags) (group_called (slice m (m + len) s) known)) in (
+            let t = item c.at (reference (ignore_case flags) (group_called (slice n.from (n.from + n.len) s) known)) in (
               repeatable (whole q) t,
               refl,
-              then-sound _ _ next _ (is-token (Called m len next) e known).0 ∙ (unfold with_item in refl),
-              so_far_more s known old new lo c.used last c.used (c.used + 6) (whole q) t h w.below (named-part s known m len (ignore_case flags) w r.began (omega (arith, v))),
+              then-sound _ _ l.next _ (is-token (Called n) e known).0 ∙ (unfold with_item in refl),
+              so_far_more s known old new lo c.used last c.used (c.used + 6) (whole q) t h w.below (named-part s known n.from n.len (ignore_case flags) w r.began (omega (arith, v))),
             );
       }
 

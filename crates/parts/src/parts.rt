@@ -9,7 +9,7 @@ use crate::{Before, CLOSING, Cursor, Part, Step};
 use lexemes::{breaks_line, peek, quantifier_at};
 use lexer::{Token, item_at};
 use syntax::node::{AHEAD, ASSERTION, BREAK, HELD, PLAIN};
-use syntax::{Form, Greed, Most, Quantifier, Reason, Refusal};
+use syntax::{Form, Greed, Most, Parsed, Quantifier, Reason, Refusal};
 use writer::{
     folded_word, put_byte, put_four, put_group, put_marked, put_named, put_not_ahead,
     put_reference, put_repeat, put_three,
@@ -73,26 +73,26 @@ fn item(rule: &[u8], flags: u32, area: &mut [u32], so_far: Step) -> Result<Step,
     ensures { Items rule.now flags area.old area.new so_far.cursor so_far.node result }
 {
     let c = so_far.cursor;
-    let lexed = item_at(rule, flags, c.opened, c.at);
+    let Parsed { value: token, next } = item_at(rule, flags, c.opened, c.at)?;
     let before = so_far.node as u32;
     let place = c.at as u32;
-    match lexed.token {
-        Token::BadItem(f) => Err(f),
-        Token::Byte(next) => {
-            put_byte(area, c.used, before, place, lexed.words);
+    match token {
+        Token::Byte(words) => {
+            put_byte(area, c.used, before, place, words);
             Ok(c.step(next, 11, Before::Repeatable))
         }
-        Token::Assert(which, next) => {
+        Token::Assert(which) => {
             put_four(area, c.used, ASSERTION, before, place, u32::from(which));
             Ok(c.step(next, 4, Before::Nothing))
         }
-        Token::Reference(number, next) => {
+        Token::Reference(number) => {
             put_reference(area, c.used, before, place, number, folded_word(flags));
             Ok(c.step(next, 5, Before::Repeatable))
         }
-        Token::Called(from, len, next) => {
-            let folded = folded_word(flags);
-            put_named(area, c.used, before, place, from as u32, folded, len as u32);
+        Token::Called(name) => {
+            let from = name.from as u32;
+            let len = name.len as u32;
+            put_named(area, c.used, before, place, from, folded_word(flags), len);
             Ok(c.step(next, 6, Before::Repeatable))
         }
     }

@@ -1,7 +1,5 @@
 -- The opening of a group: its first bytes, its depth, and then its name, which settle its reading; one law for each return.
-use native.Mathlib.Omega.{arith}
 use Rattle.std.proofs.lemmas.Result.{err_from_is_err_and}
-use Rattle.syntax.specs.Limits.{group_limit}
 use Rattle.brackets.proofs.Heads.{opening-unknown, too-deep, opening-form, opening-named, opening-unnamed}
 use Rattle.brackets.proofs.openings.opening_at.Goals as goal
 
@@ -29,16 +27,15 @@ put_name-requires c = let a = c.args in
     let k = rw c.in-Captures.is at c.in_ok-bracket.ensures in
     (k.numbered.1, c.requires.3)
 
-pub overflow_add-number : goal.overflow_add-number
-unfolding group_limit
-overflow_add-number c = let a = c.args in
+pub captured-requires : goal.captured-requires
+captured-requires c = let a = c.args in
     let k = rw c.in-Captures.is at c.in_ok-bracket.ensures in
-    omega (arith, k.numbered.1)
+    k.numbered.1
 
 pub returns-in-Captures : goal.returns-in-Captures
 returns-in-Captures c = let a = c.args in
     let k = rw c.in-Captures.is at c.in_ok-bracket.ensures in
-    λ flags. opening-unnamed a.rule.now a.table.now flags a.depth a.at a.opened k c.if-depth-eq0.false c.put_name.ensures c.requires.4 c.requires.3 c.put_name.auto.table
+    λ flags. rw c.captured.ensures (opening-unnamed a.rule.now a.table.now flags a.depth a.at a.opened k c.if-depth-eq0.false c.put_name.ensures c.requires.4 c.requires.3 c.put_name.auto.table)
 
 pub returns-in-Begins : goal.returns-in-Begins
 returns-in-Begins c = let a = c.args in

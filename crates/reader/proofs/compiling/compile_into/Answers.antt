@@ -20,13 +20,20 @@ returns-in_err-inside c = let p = err_from_is_err_and c.from_residual.result c.f
     rw (p.1, p.2) (fails-reading _ _ c.args.checked _ (parse-refused _ _ _ _ c.in_err-inside.ensures))
 
 pub returns-in_err-entry : goal.returns-in_err-entry
-returns-in_err-entry c = ?
+returns-in_err-entry c = let a = c.args in
+    let p = err_from_is_err_and c.from_residual-in_err-entry.result c.from_residual-in_err-entry.ensures.1 in
+    rw (p.1, p.2) (fails-reading _ _ a.checked _ (dangling a.rule.now a.flags c.read_rule.new.area c.read_rule.new.table _ c.in_ok-inside.ensures _ _ c.in_err-entry.ensures))
 
 pub returns-in_err-profile : goal.returns-in_err-profile
-returns-in_err-profile c = ?
+returns-in_err-profile c = let a = c.args in
+    let p = err_from_is_err_and c.from_residual-in_err-profile.result c.from_residual-in_err-profile.ensures.1 in
+    rw (p.1, p.2) (barred a.rule.now a.flags c.read_rule.new.area c.read_rule.new.table _ c.in_ok-inside.ensures _ _ c.in_ok-entry.ensures a.checked _ c.in_err-profile.ensures)
 
 pub returns-in_err-course : goal.returns-in_err-course
-returns-in_err-course c = ?
+returns-in_err-course c = let a = c.args in
+    let p = err_from_is_err_and c.from_residual-in_err-course.result c.from_residual-in_err-course.ensures.1 in
+    rw (p.1, p.2) (unfollowed a.rule.now a.flags c.read_rule.new.area c.read_rule.new.table _ c.in_ok-inside.ensures _ _ c.in_ok-entry.ensures c.in_ok-profile.ensures a.checked _ c.in_err-course.ensures)
 
 pub returns : goal.returns
-returns c = ?
+returns c = let a = c.args in
+    entered a.rule.now a.flags c.read_rule.new.area c.read_rule.new.table _ c.in_ok-inside.ensures _ _ c.in_ok-entry.ensures c.in_ok-profile.ensures a.checked c.in_ok-course.ensures
