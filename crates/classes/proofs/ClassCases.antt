@@ -21,7 +21,7 @@ use Rattle.std.specs.Prelude.{Result, Ok, Err}
 use Rattle.syntax.specs.declared.Parsed.{Parsed}
 use Rattle.escapes.specs.declared.Member.{Member as Told}
 use Rattle.escapes.specs.Says.{member_of}
-use Rattle.classes.specs.Says.{HoldsMembers, SaysMembers, HoldsClass, SaysClass}
+use Rattle.classes.specs.Says.{HoldsMembers, SaysMembers, SaysClass}
 
 -- The bytes of a member ---------------------------------------------------------------
 

@@ -1,22 +1,18 @@
 -- The members of a class: which case of an element, a range or a member holds. Assumes nothing.
-use Rattle.std.specs.Prelude.{if◌then◌else◌}
 use mathlib.Core.Path.{◌≡◌, refl, sym, ◌∙◌}
-use mathlib.Core.List.{List, [], ◌∷◌}
-use mathlib.Core.Bool.{Bool, true, false, not, ◌&&◌}
+use mathlib.Core.List.{List}
+use mathlib.Core.Bool.{Bool, true, false, not}
 use mathlib.Core.Option.{none}
 use Prim.Native.Nat.{ℕ, ◌+◌, ◌≤◌, ◌<◌}
-use native.Mathlib.Omega.{arith}
 use lib.Dec.{eqb}
 use borrow.Author.Tests.{le-leb, lt-leb, ne_eqb}
 use Rattle.syntax.specs.declared.Reason.TheVariants.{UnclosedClass, BadRange, MixedRange}
-use Rattle.syntax.specs.Read.{byte, is_end, Read, sound, refused, and_then}
-use Rattle.syntax.specs.Sets.{Member, single, range, named, not_named, is_member}
+use Rattle.syntax.specs.Read.{byte, is_end, sound, refused}
+use Rattle.syntax.specs.Sets.{single, range}
 use Rattle.syntax.specs.Escapes.{class_escape}
 use Rattle.syntax.specs.Classes.{posix, element, range_end, alike, range_of, makes_range, member}
-use Rattle.std.specs.Prelude.{Result, Ok, Err}
 use Rattle.syntax.specs.declared.Parsed.{Parsed}
 use Rattle.syntax.specs.declared.Refusal.{Refusal}
-use Rattle.syntax.specs.Read.{read_of}
 use Rattle.escapes.specs.declared.Member.{Member as Told}
 use Rattle.escapes.specs.declared.Member.TheVariants.{Single, Range, Set, NotSet}
 use Rattle.escapes.specs.Says.{member_of}

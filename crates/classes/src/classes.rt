@@ -46,7 +46,13 @@ pub fn with_member(words: [u32; 8], m: Member, folded: bool) -> [u32; 8]
 }
 
 // The members up to the closing `]`. One that is first is a member.
-fn members_at(rule: &[u8], from: usize, start: usize, folded: bool, strict: bool) -> Reading<[u32; 8]>
+fn members_at(
+    rule: &[u8],
+    from: usize,
+    start: usize,
+    folded: bool,
+    strict: bool,
+) -> Reading<[u32; 8]>
     ensures { SaysMembers folded (members (length rule.now) rule.now strict from true [] start) result }
 {
     let mut words = empty();

@@ -4,16 +4,14 @@ use mathlib.Core.Path.{◌≡◌, refl, ap, ◌∙◌}
 use mathlib.Core.List.{List}
 use mathlib.Core.Bool.{Bool, true, false, not, ◌||◌}
 use mathlib.Core.Logic.{◌⊎◌}
-use Prim.Native.Nat.{ℕ, ◌+◌, ◌/◌, ◌%◌, ◌≤◌, ◌<◌}
+use Prim.Native.Nat.{ℕ, ◌+◌, ◌≤◌, ◌<◌}
 use native.Mathlib.Omega.{arith}
 use lib.Dec.{eqb}
-use lib.Seq.{slice}
-use borrow.Author.Tests.{eq-eqb, ne_eqb}
+use borrow.Author.Tests.{ne_eqb}
 use Rattle.charset.specs.Class.{has}
 use Rattle.charset.specs.Laws.Cases.{other-before, folding-single}
 use Rattle.syntax.specs.declared.Assertion.TheVariants.{TextStart, LineStart, TextEnd, LastLineEnd, LineEnd, WordBoundary, NoWordBoundary}
 use Rattle.syntax.specs.declared.Refusal.{Refusal}
-use Rattle.syntax.specs.Limits.{dot_all_bit, multiline_bit}
 use Rattle.syntax.specs.Read.{byte, Read, sound, refused, and_then}
 use Rattle.syntax.specs.Sets.{Member, single, Class, is_member, is_any, in_class, only, not_newline, any_byte}
 use Rattle.syntax.specs.Tree.{Item, byte_in, assert, reference}
@@ -24,12 +22,10 @@ use Rattle.syntax.specs.Classes.{class}
 use Rattle.syntax.specs.Grammar.{atom}
 use Rattle.std.specs.Prelude.{Result, Ok}
 use Rattle.syntax.specs.declared.Parsed.{Parsed}
-use Rattle.escapes.specs.declared.Member.{Member as Told}
 use Rattle.lexemes.specs.declared.Name.{Name as NameAt}
 use Rattle.lexer.specs.declared.Token.{Token}
 use Rattle.lexer.specs.declared.Token.TheVariants.{Byte, Called}
-use Rattle.lexemes.specs.Says.{NameWithin, SaysName}
-use Rattle.escapes.specs.Says.{member_of}
+use Rattle.lexemes.specs.Says.{SaysName}
 use Rattle.classes.specs.Says.{HoldsClass, SaysClass}
 use Rattle.lexer.specs.Says.{ItemIn, SaysItem}
 use Rattle.lexemes.proofs.Digits.{inside, outside}

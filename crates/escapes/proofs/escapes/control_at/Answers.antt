@@ -21,9 +21,9 @@ returns-in-97-to-122 c = c.single-in-97-to-122.ensures ∙ control-lower _ _ _ c
 pub returns-in_default : goal.returns-in_default
 returns-in_default c =
     rw c.malformed.ensures
-      (elim c.in_default.branch [
-        in_default-via-then-b-lt63 w ↦ control-far _ _ _ c.peek-b.ensures.is (inl (omega arith))
-        | in_default-via-else-b-lt63+else-b-lt92+then-b-lt93 w ↦ control-backslash _ _ _ c.peek-b.ensures.is (omega arith)
-        | in_default-via-else-b-lt63+else-b-lt92+else-b-lt93+else-b-lt96+then-b-lt97 w ↦ control-backquote _ _ _ c.peek-b.ensures.is (omega arith)
-        | in_default-via-else-b-lt63+else-b-lt92+else-b-lt93+else-b-lt96+else-b-lt97+else-b-lt123 w ↦ control-far _ _ _ c.peek-b.ensures.is (inr (omega arith))
-      ])
+    (elim c.in_default.branch [
+      | in_default-via-then-b-lt63 w ↦ control-far _ _ _ c.peek-b.ensures.is (inl (omega arith))
+      | in_default-via-else-b-lt63+else-b-lt92+then-b-lt93 w ↦ control-backslash _ _ _ c.peek-b.ensures.is (omega arith)
+      | in_default-via-else-b-lt63+else-b-lt92+else-b-lt93+else-b-lt96+then-b-lt97 w ↦ control-backquote _ _ _ c.peek-b.ensures.is (omega arith)
+      | in_default-via-else-b-lt63+else-b-lt92+else-b-lt93+else-b-lt96+else-b-lt97+else-b-lt123 w ↦ control-far _ _ _ c.peek-b.ensures.is (inr (omega arith))
+    ])

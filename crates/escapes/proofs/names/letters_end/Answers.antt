@@ -14,5 +14,5 @@ pub returns : goal.returns
 unfolding letters
 returns c =
     run-counted (between "a" "z") c.args.rule.now c.args.from c.count.result c.requires
-      (count_from_yields_List c.take_while-letters.result _ c.count.ensures.ran
-        (YieldsList-from_take_while _ (between "a" "z") (YieldsList-from_slice (drop c.args.from c.args.rule.now) (rw c.take_while-letters.ensures.source (c.iter.ensures.rest ∙ rest-whole c.args.rule.now c.args.from))) c.take_while-letters.ensures.closure c.take_while-letters.ensures.done (λ x b q k. search (rules, tests))))
+    (count_from_yields_List c.take_while-letters.result _ c.count.ensures.ran
+    (YieldsList-from_take_while _ (between "a" "z") (YieldsList-from_slice (drop c.args.from c.args.rule.now) (rw c.take_while-letters.ensures.source (c.iter.ensures.rest ∙ rest-whole c.args.rule.now c.args.from))) c.take_while-letters.ensures.closure c.take_while-letters.ensures.done (λ x b q k. search (rules, tests))))
