@@ -1,4 +1,5 @@
-// Reads the openings of groups: what a group is, how deep it nests, and its name, which is written into a table (`opening_at`). No node is written for an opening.
+// Reads the openings of groups: what a group is, how deep it nests, and its name, which is written into a table (`opening_at`). No node is written
+// for an opening.
 #![tactic(auto)]
 
 use syntax::Form;

@@ -79,7 +79,8 @@ fn name(
     start: usize,
     opened: u32,
 ) -> Result<Opening, Refusal>
-    requires { (start ≤ length rule.now) × (length rule.now < 4294967296) × (opened + 1 ≤ group_limit) × (spans_length ≤ length table.old) × NamesFit rule.now table.old opened }
+    requires { (start ≤ length rule.now) × (length rule.now < 4294967296) × (opened + 1 ≤ group_limit)
+        × (spans_length ≤ length table.old) × NamesFit rule.now table.old opened }
     ensures { SaysHead rule.now table.new start (Captured (opened + 1)) (head_of rule.now at (names_in rule.now table.old opened) start true) result }
 {
     let Parsed { value: name, next } = name_at(rule, b'>', at, start)?;
@@ -98,7 +99,8 @@ pub fn opening_at(
     opened: u32,
     depth: u32,
 ) -> Result<Opening, Refusal>
-    requires { (at < length rule.now) × (length rule.now < 4294967296) × (opened ≤ group_limit) × (spans_length ≤ length table.old) × NamesFit rule.now table.old opened }
+    requires { (at < length rule.now) × (length rule.now < 4294967296) × (opened ≤ group_limit)
+        × (spans_length ≤ length table.old) × NamesFit rule.now table.old opened }
     ensures { (flags : ℕ) → SaysOpening rule.now flags depth at (names_in rule.now table.old opened) table.new result }
 {
     let bracket = bracket(rule, at, opened)?;

@@ -31,7 +31,7 @@ pub struct Cursor {
     pub opened: u32,
 }
 
-// What was read: where it ends, and the position of its last node, or 0 for none.
+// What was read: where it ends, and the position of its last node. 0 stands for none, as it does in the nodes that name others.
 #[derive(Clone, Copy, Debug, PartialEq, Eq)]
 pub struct Part {
     pub cursor: Cursor,

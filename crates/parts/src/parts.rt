@@ -35,7 +35,8 @@ fn repeated(
     keeps: bool,
     next: usize,
 ) -> Result<Step, Refusal>
-    requires { Ready next area.old so_far.cursor × (so_far.cursor.at < next) × (so_far.node < so_far.cursor.used) × (keeps ≡ true → so_far.cursor.at + 1 < next) }
+    requires { Ready next area.old so_far.cursor × (so_far.cursor.at < next) × (so_far.node < so_far.cursor.used)
+        × (keeps ≡ true → so_far.cursor.at + 1 < next) }
     ensures { Repeats area.old area.new so_far.cursor so_far.node so_far.kind least most greed keeps next result }
 {
     let Step {
@@ -113,7 +114,8 @@ fn plain_item(rule: &[u8], flags: u32, area: &mut [u32], so_far: Step) -> Result
 
 // One part more of a sequence, which is no group.
 pub fn other(rule: &[u8], flags: u32, area: &mut [u32], so_far: Step) -> Result<Step, Refusal>
-    requires { Ready (length rule.now) area.old so_far.cursor × (so_far.cursor.at < length rule.now) × (so_far.node < so_far.cursor.used) × (byte rule.now so_far.cursor.at ≡ 40 → ⊥) }
+    requires { Ready (length rule.now) area.old so_far.cursor × (so_far.cursor.at < length rule.now) × (so_far.node < so_far.cursor.used)
+        × (byte rule.now so_far.cursor.at ≡ 40 → ⊥) }
     ensures { Others rule.now flags area.old area.new so_far.cursor so_far.node so_far.kind result }
 {
     let at = so_far.cursor.at;
@@ -136,7 +138,8 @@ pub fn close(
     before: usize,
     inside: Part,
 ) -> Result<Part, Refusal>
-    requires { Ready (length rule.now) area.old inside.cursor × FormFits form × (opening < inside.cursor.at) × (before < inside.cursor.used) × (inside.node < inside.cursor.used) }
+    requires { Ready (length rule.now) area.old inside.cursor × FormFits form × (opening < inside.cursor.at)
+        × (before < inside.cursor.used) × (inside.node < inside.cursor.used) }
     ensures { Closes rule.now opening form before area.old area.new inside.cursor inside.node result }
 {
     let c = inside.cursor;

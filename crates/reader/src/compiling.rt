@@ -71,7 +71,7 @@ fn compile_into(
 }
 
 // Compiles a rule into the first numbers of the area. The others are not even lent on. The table is made beside the area, since no two parts of one slice
-// can be lent at a time. A rule that is compiled for a check must be one that a check can follow.
+// can be lent at a time. A rule that is compiled for a check must be one that a check can follow; `checked` is the truth value of which `Compiles` speaks.
 pub fn compile(
     rule: &[u8],
     flags: u32,

@@ -1,5 +1,7 @@
 // Reads a rule's alternations, sequences, items and groups, and appends a node for each part to a lent area. The names of its groups go to a table of
 // their own: two numbers for each, where the name begins in the rule, and its length.
+//
+// The readers are a cycle of calls, as the grammar is, with an allowance of brackets that falls at each.
 #![tactic(auto)]
 
 ghost use Rattle.std.specs.Prelude.{◌≡◌, ◌+◌, ◌≤◌, ◌<◌, length};
@@ -63,7 +65,8 @@ fn piece(
     so_far: Step,
     depth: u32,
 ) -> Result<Step, Refusal>
-    requires { Ready (length rule.now) area.old so_far.cursor × Naming rule.now table.old so_far.cursor × (so_far.cursor.at < length rule.now) × (so_far.node < so_far.cursor.used) }
+    requires { Ready (length rule.now) area.old so_far.cursor
+        × Naming rule.now table.old so_far.cursor × (so_far.cursor.at < length rule.now) × (so_far.node < so_far.cursor.used) }
     ensures { Turns rule.now flags depth area.old area.new table.old table.new so_far.cursor so_far.node so_far.kind result }
 {
     let c = so_far.cursor;
@@ -120,7 +123,8 @@ fn sequence(
     }
 }
 
-// The further branches as long as a bar follows, behind the first. They are counted for the bars.
+// The further branches as long as a bar follows, behind the first. They are counted for the bars. A node names the branch before it by its position, and
+// 0, no branch's position, stands for none there, and so here.
 #[cycle(alternation_further_group_piece_sequence)]
 fn further(
     rule: &[u8],
