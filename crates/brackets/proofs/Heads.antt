@@ -1,5 +1,6 @@
 -- The opening of a group: which case of the grammar follows from the bytes that the code met, and what the table of names then spells.
-use Rattle.std.specs.Prelude.{if◌then◌else◌}
+use Rattle.std.specs.Prelude.{Option, Some, None, IfSome, unwrap_or, Result, Ok, Err, if◌then◌else◌}
+use Rattle.std.specs.Option.{is_some}
 use mathlib.Core.Path.{◌≡◌, refl, ap, subst, ◌∙◌}
 use mathlib.Core.Bool.{Bool, true, false, not, ◌&&◌, ◌||◌}
 use mathlib.Core.List.{List, [], ◌∷◌}
@@ -14,6 +15,7 @@ use lib.Seq.{slice, slice_empty}
 use Rattle.syntax.specs.declared.Form.{Form}
 use Rattle.syntax.specs.declared.Form.TheVariants.{Grouped, Captured, Held, Ahead, NotAhead}
 use Rattle.syntax.specs.declared.Reason.TheVariants.{UnknownGroup, TooManyGroups, TooDeep, NameTwice}
+use Rattle.syntax.specs.declared.Parsed.{Parsed}
 use Rattle.syntax.specs.declared.Refusal.{Refusal}
 use Rattle.syntax.specs.Limits.{group_limit, spans_length}
 use Rattle.syntax.specs.Read.{byte, is, Read, sound, refused, and_then}
@@ -22,16 +24,14 @@ use Rattle.syntax.specs.Tree.{Rule, enclosed}
 use Rattle.syntax.specs.Names.{Name, Names, word_at, is_name, name_up_to, is_used, fresh, group_called}
 use Rattle.syntax.specs.Grammar.{Inner, closing, capturing, uncaptured, grouped, alternation, inside}
 use Rattle.syntax.specs.Laws.Forward.{Given, Past, if-given}
-use Rattle.lexemes.specs.declared.NameRead.{NameRead}
-use Rattle.lexemes.specs.declared.NameRead.TheVariants.{Named, BadName}
-use Rattle.lexemes.specs.Says.{Peeked, SaysName, SaysNameUpTo}
+use Rattle.lexemes.specs.declared.Name.{Name as NameAt}
+use Rattle.lexemes.specs.Says.{Peeked, SaysNameUpTo}
 use Rattle.name_table.specs.Table.{names_in, NamesFit, length-names}
 use Rattle.brackets.specs.declared.Bracket.{Bracket}
-use Rattle.brackets.specs.declared.Bracket.TheVariants.{Captures, Begins, Unknown}
+use Rattle.brackets.specs.declared.Bracket.TheVariants.{Named, Captures, Begins}
 use Rattle.brackets.specs.declared.Opening.{Opening}
-use Rattle.brackets.specs.declared.Opening.TheVariants.{Opens, Unopened}
 use Rattle.writer.specs.Wrote.{Wrote}
-use Rattle.brackets.specs.Says.{FormFits, head_of, Bracketed, SaysBracket, SaysHead, SaysOpening}
+use Rattle.brackets.specs.Says.{FormFits, head_of, Bracketed, IsBracket, SaysBracket, SaysHead, SaysOpening}
 
 -- What group it is ------------------------------------------------------------------
 
@@ -65,27 +65,27 @@ module _ (s : List ℕ) (inner : Inner) (at : ℕ) (names : Names) (name : Read 
 
 -- behind `(?`
 module _ {s : List ℕ} {d : ℕ} (at opened : ℕ) (p : Peeked s (at + 1) 63) (q : Peeked s (at + 2) d) where
-  bracket-form : (form : Form) → FormFits form → d < 256 → ((inner : Inner) (names : Names) → grouped s inner at names ≡ uncaptured s inner at names form) → SaysBracket s at opened (Begins (at + 3) form)
+  bracket-form : (form : Form) → FormFits form → d < 256 → ((inner : Inner) (names : Names) → grouped s inner at names ≡ uncaptured s inner at names form) → SaysBracket s at opened (Ok (Begins (at + 3) form))
   unfolding uncaptured
   bracket-form form f l e = record { on = omega arith; within = omega (arith, q.near); numbered = f; goes = λ inner names n. e inner names }
 
-  pub bracket-plain : d ≡ 58 → SaysBracket s at opened (Begins (at + 3) Grouped)
+  pub bracket-plain : d ≡ 58 → SaysBracket s at opened (Ok (Begins (at + 3) Grouped))
   unfolding grouped
   bracket-plain f = bracket-form Grouped tt (omega arith) (λ inner names. rw (← p.is, ← q.is, f))
 
-  pub bracket-held : d ≡ 62 → SaysBracket s at opened (Begins (at + 3) Held)
+  pub bracket-held : d ≡ 62 → SaysBracket s at opened (Ok (Begins (at + 3) Held))
   unfolding grouped
   bracket-held f = bracket-form Held tt (omega arith) (λ inner names. rw (← p.is, ← q.is, f))
 
-  pub bracket-ahead : d ≡ 61 → SaysBracket s at opened (Begins (at + 3) Ahead)
+  pub bracket-ahead : d ≡ 61 → SaysBracket s at opened (Ok (Begins (at + 3) Ahead))
   unfolding grouped
   bracket-ahead f = bracket-form Ahead tt (omega arith) (λ inner names. rw (← p.is, ← q.is, f))
 
-  pub bracket-not-ahead : d ≡ 33 → SaysBracket s at opened (Begins (at + 3) NotAhead)
+  pub bracket-not-ahead : d ≡ 33 → SaysBracket s at opened (Ok (Begins (at + 3) NotAhead))
   unfolding grouped
   bracket-not-ahead f = bracket-form NotAhead tt (omega arith) (λ inner names. rw (← p.is, ← q.is, f))
 
-  pub bracket-unknown : (d ≡ 58 → ⊥) → (d ≡ 62 → ⊥) → (d ≡ 61 → ⊥) → (d ≡ 33 → ⊥) → (d ≡ 60 → ⊥) → SaysBracket s at opened (Unknown (record { place = at; reason = UnknownGroup }))
+  pub bracket-unknown : (d ≡ 58 → ⊥) → (d ≡ 62 → ⊥) → (d ≡ 61 → ⊥) → (d ≡ 33 → ⊥) → (d ≡ 60 → ⊥) → SaysBracket s at opened (Err (record { place = at; reason = UnknownGroup }))
   unfolding grouped
   bracket-unknown a b c e f inner names n = rw (← p.is, ← q.is) (simp (ne_eqb d 58 a, ne_eqb d 62 b, ne_eqb d 61 c, ne_eqb d 33 e, ne_eqb d 60 f))
 
@@ -93,7 +93,7 @@ module _ {s : List ℕ} {d : ℕ} (at opened : ℕ) (p : Peeked s (at + 1) 63) (
   unfolding grouped
   grouped-named f inner names = rw (← p.is, ← q.is, f)
 
-  pub bracket-named : d ≡ 60 → opened < group_limit → SaysBracket s at opened (Captures (at + 3) true)
+  pub bracket-named : d ≡ 60 → opened < group_limit → SaysBracket s at opened (Ok (Named (at + 3)))
   unfolding head_of
   bracket-named f few = record {
     on = omega arith;
@@ -102,7 +102,7 @@ module _ {s : List ℕ} {d : ℕ} (at opened : ℕ) (p : Peeked s (at + 1) 63) (
     goes = λ inner names n. grouped-named f inner names ∙ capture-some s inner at names _ n few;
   }
 
-  pub named-many : d ≡ 60 → group_limit ≤ opened → SaysBracket s at opened (Unknown (record { place = at; reason = TooManyGroups }))
+  pub named-many : d ≡ 60 → group_limit ≤ opened → SaysBracket s at opened (Err (record { place = at; reason = TooManyGroups }))
   named-many f many inner names n = grouped-named f inner names ∙ capture-many s inner at names _ n many
 
 module _ {s : List ℕ} {at b : ℕ} (opened : ℕ) (p : Peeked s (at + 1) b) (l : at < length s) (ne : b ≡ 63 → ⊥) where
@@ -110,7 +110,7 @@ module _ {s : List ℕ} {at b : ℕ} (opened : ℕ) (p : Peeked s (at + 1) b) (l
   unfolding grouped
   grouped-plainly inner names = rw (← p.is) (simp (ne_eqb b 63 ne))
 
-  pub bracket-capture : opened < group_limit → SaysBracket s at opened (Captures (at + 1) false)
+  pub bracket-capture : opened < group_limit → SaysBracket s at opened (Ok (Captures (at + 1)))
   unfolding head_of
   bracket-capture few = record {
     on = omega arith;
@@ -119,7 +119,7 @@ module _ {s : List ℕ} {at b : ℕ} (opened : ℕ) (p : Peeked s (at + 1) b) (l
     goes = λ inner names n. grouped-plainly inner names ∙ capture-some s inner at names _ n few;
   }
 
-  pub capture-too-many : group_limit ≤ opened → SaysBracket s at opened (Unknown (record { place = at; reason = TooManyGroups }))
+  pub capture-too-many : group_limit ≤ opened → SaysBracket s at opened (Err (record { place = at; reason = TooManyGroups }))
   capture-too-many many inner names n = grouped-plainly inner names ∙ capture-many s inner at names _ n many
 
 -- The table -------------------------------------------------------------------------
@@ -176,6 +176,15 @@ used-called n (m ∷ ms) = by (same_bytes n m) (used-called n ms)
     by true h = rw (ne_eqb (suc (length ms)) 0 (λ z. omega arith))
     by false h = h
 
+-- a number is told where a group has the name, and it is not 0
+pub called-some : (r : Option ℕ) (P : ℕ → Type 0) → is_some r ≡ true → IfSome r (λ g. (1 ≤ g) × P g) → unwrap_or r 0 ≡ 0 → ⊥
+called-some None P e h z = absurd cc
+called-some (Some g) P e h z = omega (arith, h.0)
+
+pub called-none : (r : Option ℕ) → is_some r ≡ false → unwrap_or r 0 ≡ 0
+called-none None e = refl
+called-none (Some g) e = cc
+
 name-past : (closer : Char) (s : List ℕ) (place at : ℕ) → Given (name_up_to closer s place at) (Past at)
 unfolding name_up_to
 name-past closer s place at = let w = word_at s at in if-given _ _ _ (is_name w && is closer (byte s (at + length w))) (omega arith) tt
@@ -183,46 +192,45 @@ name-past closer s place at = let w = word_at s at in if-given _ _ _ (is_name w 
 named-on : (s : List ℕ) (at start : ℕ) (n : Name) (next : ℕ) → name_up_to ">" s at start ≡ sound n next → start ≤ next
 named-on s at start n next e = subst (λ (y : Read Name). Given y (Past start)) e (name-past ">" s at start)
 
-module _ (s : List ℕ) (at start : ℕ) (n : NameRead) (says : SaysNameUpTo 62 s at start n) where
-  said-name : (x : NameRead) → n ≡ x → SaysName s (name_up_to ">" s at start) x
-  said-name x e = subst (λ (y : NameRead). SaysName s (name_up_to ">" s at start) y) e (says ">" refl)
+pub name_in : (s : List ℕ) (at start : ℕ) {p : Parsed NameAt} → SaysNameUpTo 62 s at start (Ok p) → p.value.from + p.value.len < length s
+name_in s at start says = (says ">" refl).1.closed
 
-  pub name_in : (m len next : ℕ) → n ≡ Named m len next → m + len < length s
-  name_in m len next e = (said-name (Named m len next) e).1.closed
+module _ (s : List ℕ) (at start : ℕ) (table : List ℕ) (opened : ℕ) where
+  -- the head of a group with a name, by the name's reading
+  by_name : (a : Read Name) → name_up_to ">" s at start ≡ a
+      → head_of s at (names_in s table opened) start true ≡ and_then (fresh at (names_in s table opened) a) (λ m next. sound (m ∷ names_in s table opened) next)
+  unfolding head_of
+  by_name a e = rw e
 
-  module _ (table : List ℕ) (opened : ℕ) where
-    -- the head of a group with a name, by the name's reading
-    by_name : (a : Read Name) → name_up_to ">" s at start ≡ a
-        → head_of s at (names_in s table opened) start true ≡ and_then (fresh at (names_in s table opened) a) (λ m next. sound (m ∷ names_in s table opened) next)
-    unfolding head_of
-    by_name a e = rw e
+  pub name-bad : (f : Refusal) → SaysNameUpTo 62 s at start (Err f) → SaysHead s table start (Captured (opened + 1)) (head_of s at (names_in s table opened) start true) (Err f)
+  unfolding fresh
+  name-bad f says = by_name (refused f.place f.reason) (says ">" refl)
 
-    pub name-bad : (f : Refusal) → n ≡ BadName f → SaysHead s table start (Captured (opened + 1)) (head_of s at (names_in s table opened) start true) (Unopened f)
+  module _ {p : Parsed NameAt} {same : ℕ} (says : SaysNameUpTo 62 s at start (Ok p)) (is : same ≡ group_called (slice p.value.from (p.value.from + p.value.len) s) (names_in s table opened)) where
+    abbrev told : Name
+    told = slice p.value.from (p.value.from + p.value.len) s
+
+    read_name : name_up_to ">" s at start ≡ sound told p.next
+    read_name = (says ">" refl).0
+
+    used-is : (b : Bool) → not (eqb same 0) ≡ b → is_used told (names_in s table opened) ≡ b
+    used-is b h = used-called told (names_in s table opened) ∙ rw (← is) h
+
+    pub name-twice : (same ≡ 0 → ⊥) → SaysHead s table start (Captured (opened + 1)) (head_of s at (names_in s table opened) start true) (Err (record { place = at; reason = NameTwice }))
     unfolding fresh
-    name-bad f e = by_name (refused f.place f.reason) (said-name (BadName f) e)
+    name-twice ne = by_name (sound told p.next) read_name ∙ rw (used-is true (rw (ne_eqb same 0 ne)))
 
-    module _ {m len next same : ℕ} (e : n ≡ Named m len next) (is : same ≡ group_called (slice m (m + len) s) (names_in s table opened)) where
-      read_name : name_up_to ">" s at start ≡ sound (slice m (m + len) s) next
-      read_name = (said-name (Named m len next) e).0
-
-      used-is : (b : Bool) → not (eqb same 0) ≡ b → is_used (slice m (m + len) s) (names_in s table opened) ≡ b
-      used-is b h = used-called (slice m (m + len) s) (names_in s table opened) ∙ rw (← is) h
-
-      pub name-twice : (same ≡ 0 → ⊥) → SaysHead s table start (Captured (opened + 1)) (head_of s at (names_in s table opened) start true) (Unopened (record { place = at; reason = NameTwice }))
-      unfolding fresh
-      name-twice ne = by_name (sound (slice m (m + len) s) next) read_name ∙ rw (used-is true (rw (ne_eqb same 0 ne)))
-
-      pub name_new : {new : List ℕ} → same ≡ 0 → Wrote table new (2 * opened) 2 (m ∷ len ∷ []) → NamesFit s table opened → opened + 1 ≤ group_limit → spans_length ≤ length table → length new ≡ length table
-          → SaysHead s new start (Captured (opened + 1)) (head_of s at (names_in s table opened) start true) (Opens next (opened + 1) (Captured (opened + 1)))
-      unfolding fresh
-      name_new {new} z w fit few wide long =
-          let y = (said-name (Named m len next) e).1 in
-          let on = named-on s at start (slice m (m + len) s) next read_name in
-          let room = table-room opened table few wide in (
-            record { on = on; within = omega (arith, y.behind, y.closed); few = few; numbered = (omega arith, few); fit = fit_next s opened w fit (λ k. omega (arith, y.closed)) (omega (arith, room, long)) },
-            refl,
-            by_name (sound (slice m (m + len) s) next) read_name ∙ rw (used-is false (rw z)) (rw (names-next s opened w)),
-          )
+    pub name_new : {new : List ℕ} → same ≡ 0 → Wrote table new (2 * opened) 2 (p.value.from ∷ p.value.len ∷ []) → NamesFit s table opened → opened + 1 ≤ group_limit → spans_length ≤ length table → length new ≡ length table
+        → SaysHead s new start (Captured (opened + 1)) (head_of s at (names_in s table opened) start true) (Ok (record { start = p.next; opened = opened + 1; form = Captured (opened + 1) }))
+    unfolding fresh
+    name_new {new} z w fit few wide long =
+        let y = (says ">" refl).1 in
+        let on = named-on s at start told p.next read_name in
+        let room = table-room opened table few wide in (
+          record { on = on; within = omega (arith, y.behind, y.closed); few = few; numbered = (omega arith, few); fit = fit_next s opened w fit (λ k. omega (arith, y.closed)) (omega (arith, room, long)) },
+          refl,
+          by_name (sound told p.next) read_name ∙ rw (used-is false (rw z)) (rw (names-next s opened w)),
+        )
 
 -- The whole opening -----------------------------------------------------------------
 
@@ -238,24 +246,21 @@ inside-none : (d : ℕ) (s : List ℕ) (flags : ℕ) (known : Names) (at : ℕ) 
 unfolding inside
 inside-none d s flags known at head e = rw e
 
-bracket-at : (s : List ℕ) (at opened : ℕ) (b x : Bracket) → b ≡ x → SaysBracket s at opened b → SaysBracket s at opened x
-bracket-at s at opened b x e h = subst (λ (y : Bracket). SaysBracket s at opened y) e h
-
-module _ (s old : List ℕ) (flags depth at opened : ℕ) (b : Bracket) (says : SaysBracket s at opened b) where
+module _ (s old : List ℕ) (flags depth at opened : ℕ) where
   long : length (names_in s old opened) ≡ opened
   long = length-names s old opened
 
-  pub opening-unknown : (f : Refusal) → b ≡ Unknown f → SaysOpening s flags depth at (names_in s old opened) old (Unopened f)
-  opening-unknown f e known = bracket-at s at opened b (Unknown f) e says (inside depth s flags known) (names_in s old opened) long
+  pub opening-unknown : (f : Refusal) → SaysBracket s at opened (Err f) → SaysOpening s flags depth at (names_in s old opened) old (Err f)
+  opening-unknown f says known = says (inside depth s flags known) (names_in s old opened) long
 
   -- a group of a form, by the reading of its head
   module _ {start : ℕ} {form : Form} {head : Names → Read Names} (begun : Bracketed s at opened start form head) where
-    opening-deep : depth ≡ 0 → SaysOpening s flags depth at (names_in s old opened) old (Unopened (record { place = at; reason = TooDeep }))
+    opening-deep : depth ≡ 0 → SaysOpening s flags depth at (names_in s old opened) old (Err (record { place = at; reason = TooDeep }))
     opening-deep z known = begun.goes (inside depth s flags known) (names_in s old opened) long ∙ rw (inside-none depth s flags known at (head (names_in s old opened)) z)
 
     -- the head's reading settles the group's
-    opening-head : (new : List ℕ) (o : Opening) → (depth ≡ 0 → ⊥) → SaysHead s new start form (head (names_in s old opened)) o → SaysOpening s flags depth at (names_in s old opened) new o
-    opening-head new (Opens from next same) some h =
+    opening-head : (new : List ℕ) (r : Result Opening Refusal) → (depth ≡ 0 → ⊥) → SaysHead s new start form (head (names_in s old opened)) r → SaysOpening s flags depth at (names_in s old opened) new r
+    opening-head new (Ok o) some h =
         let g = h.0 in
         let on = begun.on in
         record {
@@ -263,39 +268,33 @@ module _ (s old : List ℕ) (flags depth at opened : ℕ) (b : Bracket) (says : 
           deep = omega arith;
           goes = λ known. begun.goes (inside depth s flags known) (names_in s old opened) long ∙ rw (inside-more depth s flags known at (head (names_in s old opened)) some) (rw (h.2, h.1));
         }
-    opening-head new (Unopened f) some h = λ known.
+    opening-head new (Err f) some h = λ known.
         begun.goes (inside depth s flags known) (names_in s old opened) long ∙ rw (inside-more depth s flags known at (head (names_in s old opened)) some) (rw h)
 
+  -- whatever group it is
+  pub too-deep : (b : Bracket) → IsBracket s at opened b → depth ≡ 0 → SaysOpening s flags depth at (names_in s old opened) old (Err (record { place = at; reason = TooDeep }))
+  too-deep (Named start) begun z = opening-deep begun z
+  too-deep (Captures start) begun z = opening-deep begun z
+  too-deep (Begins start form) begun z = opening-deep begun z
+
   -- one that does not capture
-  module _ {start : ℕ} {form : Form} (e : b ≡ Begins start form) where
-    begun-form : Bracketed s at opened start form (λ names. sound names start)
-    begun-form = bracket-at s at opened b (Begins start form) e says
-
-    pub form-deep : depth ≡ 0 → SaysOpening s flags depth at (names_in s old opened) old (Unopened (record { place = at; reason = TooDeep }))
-    form-deep z = opening-deep begun-form z
-
-    pub opening-form : (depth ≡ 0 → ⊥) → opened ≤ group_limit → NamesFit s old opened → SaysOpening s flags depth at (names_in s old opened) old (Opens start opened form)
-    opening-form some few fit = opening-head begun-form old (Opens start opened form) some (record { on = omega arith; within = begun-form.within; few = few; numbered = begun-form.numbered; fit = fit }, refl, refl)
+  pub opening-form : {start : ℕ} {form : Form} → IsBracket s at opened (Begins start form) → (depth ≡ 0 → ⊥) → opened ≤ group_limit → NamesFit s old opened
+      → SaysOpening s flags depth at (names_in s old opened) old (Ok (record { start = start; opened = opened; form = form }))
+  opening-form begun some few fit = opening-head begun old (Ok _) some (record { on = omega arith; within = begun.within; few = few; numbered = begun.numbered; fit = fit }, refl, refl)
 
   -- one that captures
-  module _ {start : ℕ} {named : Bool} (e : b ≡ Captures start named) where
-    pub begun : Bracketed s at opened start (Captured (opened + 1)) (λ names. head_of s at names start named)
-    begun = bracket-at s at opened b (Captures start named) e says
+  pub opening-named : {start : ℕ} → IsBracket s at opened (Named start) → (new : List ℕ) (r : Result Opening Refusal) → (depth ≡ 0 → ⊥) → SaysHead s new start (Captured (opened + 1)) (head_of s at (names_in s old opened) start true) r
+      → SaysOpening s flags depth at (names_in s old opened) new r
+  opening-named begun new r some h = opening-head begun new r some h
 
-    pub capture-deep : depth ≡ 0 → SaysOpening s flags depth at (names_in s old opened) old (Unopened (record { place = at; reason = TooDeep }))
-    capture-deep z = opening-deep begun z
-
-    pub opening-named : (new : List ℕ) (o : Opening) → (depth ≡ 0 → ⊥) → named ≡ true → SaysHead s new start (Captured (opened + 1)) (head_of s at (names_in s old opened) start true) o → SaysOpening s flags depth at (names_in s old opened) new o
-    opening-named new o some t h = opening-head begun new o some (rw t h)
-
-    pub opening-unnamed : {new : List ℕ} → (depth ≡ 0 → ⊥) → named ≡ false → Wrote old new (2 * opened) 2 (0 ∷ 0 ∷ []) → NamesFit s old opened → spans_length ≤ length old → length new ≡ length old
-        → SaysOpening s flags depth at (names_in s old opened) new (Opens start (opened + 1) (Captured (opened + 1)))
-    unfolding head_of
-    opening-unnamed {new} some t w fit wide same =
-        let few = begun.numbered.1 in
-        let room = table-room opened old few wide in
-        opening-head begun new (Opens start (opened + 1) (Captured (opened + 1))) some (
-          record { on = omega arith; within = begun.within; few = few; numbered = begun.numbered; fit = fit_next s opened w fit (λ k. omega arith) (omega (arith, room, same)) },
-          refl,
-          rw (t, names-next s opened w, slice_empty 0 s),
-        )
+  pub opening-unnamed : {start : ℕ} → IsBracket s at opened (Captures start) → {new : List ℕ} → (depth ≡ 0 → ⊥) → Wrote old new (2 * opened) 2 (0 ∷ 0 ∷ []) → NamesFit s old opened → spans_length ≤ length old → length new ≡ length old
+      → SaysOpening s flags depth at (names_in s old opened) new (Ok (record { start = start; opened = opened + 1; form = Captured (opened + 1) }))
+  unfolding head_of
+  opening-unnamed begun {new} some w fit wide same =
+      let few = begun.numbered.1 in
+      let room = table-room opened old few wide in
+      opening-head begun new (Ok (record { start = _; opened = opened + 1; form = Captured (opened + 1) })) some (
+        record { on = omega arith; within = begun.within; few = few; numbered = begun.numbered; fit = fit_next s opened w fit (λ k. omega arith) (omega (arith, room, same)) },
+        refl,
+        rw (names-next s opened w, slice_empty 0 s),
+      )

@@ -1,7 +1,8 @@
-// Reads the openings of groups: what a group is, how deep it nests, and its name, which is written into a table (`opening_at`). No node is written for an opening.
+// Reads the openings of groups: what a group is, how deep it nests, and its name, which is written into a table (`opening_at`). No node is written
+// for an opening.
 #![tactic(auto)]
 
-use syntax::{Form, Refusal};
+use syntax::Form;
 
 mod openings;
 
@@ -16,18 +17,21 @@ const EQUALS: u32 = b'=' as u32;
 
 const EXCLAMATION: u32 = b'!' as u32;
 
-// The first bytes of a group: where the name or the inside of one that captures begins, and whether it has a name; or where the inside of any other begins, and
-// its form.
-#[derive(Drop)]
+// The first bytes of a group.
+#[derive(Clone, Copy, Debug, PartialEq, Eq)]
 enum Bracket {
-    Captures(usize, bool),
-    Begins(usize, Form),
-    Unknown(Refusal),
+    // of one that captures and has a name: where the name begins
+    Named { start: usize },
+    // of one that captures and has none: where its inside begins
+    Captures { start: usize },
+    // of any other: where its inside begins, and its form
+    Begins { start: usize, form: Form },
 }
 
 // A group's opening: where its inside begins, the groups then opened, and its form.
-#[derive(Drop)]
-pub enum Opening {
-    Opens(usize, u32, Form),
-    Unopened(Refusal),
+#[derive(Clone, Copy, Debug, PartialEq, Eq)]
+pub struct Opening {
+    pub start: usize,
+    pub opened: u32,
+    pub form: Form,
 }

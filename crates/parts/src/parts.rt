@@ -3,195 +3,172 @@ ghost use Rattle.std.specs.Prelude.{◌≡◌, true, ◌+◌, ◌≤◌, ◌<◌
 ghost use Rattle.syntax.specs.Read.{byte, refused};
 ghost use Rattle.syntax.specs.Grammar.{Sequence, unfit_for};
 ghost use Rattle.brackets.specs.Says.{FormFits};
-ghost use Rattle.parts.specs.Says.{Ready, kind_of, Items, PlainItems, Others, Repeats, Closes};
+ghost use Rattle.parts.specs.Says.{behind_node, Ready, kind_of, Items, PlainItems, Others, Repeats, Closes};
 
-use crate::{Answer, CLOSING, Cursor, NOTHING, REPEATABLE, REPEATED, Turn, behind};
+use crate::{Before, CLOSING, Cursor, Part, Step};
 use lexemes::{breaks_line, peek, quantifier_at};
 use lexer::{Token, item_at};
-use syntax::{Form, Greed, Most, Quantifier, Reason, Refusal};
+use syntax::node::{AHEAD, ASSERTION, BREAK, HELD, PLAIN};
+use syntax::{Form, Greed, Most, Parsed, Quantifier, Reason, Refusal};
 use writer::{
-    AHEAD, ASSERTION, BREAK, HELD, PLAIN, assertion_word, folded_word, put_byte, put_four,
-    put_group, put_marked, put_named, put_not_ahead, put_reference, put_repeat, put_three,
+    folded_word, put_byte, put_four, put_group, put_marked, put_named, put_not_ahead,
+    put_reference, put_repeat, put_three,
 };
 
 // The refusal of a repeat whose bounds do not fit.
-fn unfit(at: usize, kind: u32) -> Refusal
+fn unfit(at: usize, kind: Before) -> Refusal
     ensures { (q : Sequence) → kind ≡ kind_of q → unfit_for q at ≡ refused result.place result.reason }
 {
-    if kind == NOTHING {
-        return Refusal {
-            place: at,
-            reason: Reason::NothingToRepeat,
-        };
-    }
-    Refusal {
-        place: at,
-        reason: Reason::BadBraces,
+    match kind {
+        Before::Nothing => Refusal::at(at, Reason::NothingToRepeat),
+        Before::Repeatable | Before::Repeated => Refusal::at(at, Reason::BadBraces),
     }
 }
 
-// A repeat of the last part, which stands at `last`; the repeat ends at `next`. A possessive one stands alone in a held part.
+// A repeat of the last part; the repeat ends at `next`. A possessive one stands alone in a held part.
 fn repeated(
     area: &mut [u32],
-    c: Cursor,
-    last: usize,
-    kind: u32,
+    so_far: Step,
     least: u32,
     most: Most,
     greed: Greed,
     keeps: bool,
     next: usize,
-) -> Turn
-    requires { Ready next area.old c × (c.at < next) × (last < c.used) × (keeps ≡ true → c.at + 1 < next) }
-    ensures { Repeats area.old area.new c last kind least most greed keeps next result }
+) -> Result<Step, Refusal>
+    requires { Ready next area.old so_far.cursor × (so_far.cursor.at < next) × (so_far.node < so_far.cursor.used)
+        × (keeps ≡ true → so_far.cursor.at + 1 < next) }
+    ensures { Repeats area.old area.new so_far.cursor so_far.node so_far.kind least most greed keeps next result }
 {
-    let at = c.at;
-    let used = c.used;
-    if kind == NOTHING {
-        return Turn::Ends(Refusal {
-            place: at,
-            reason: Reason::NothingToRepeat,
-        });
+    let Step {
+        cursor: c,
+        node: last,
+        kind,
+    } = so_far;
+    match kind {
+        Before::Nothing => Err(Refusal::at(c.at, Reason::NothingToRepeat)),
+        Before::Repeated => Err(Refusal::at(c.at, Reason::RepeatOnRepeat)),
+        Before::Repeatable => {
+            let before = area[last + 1];
+            let place = c.at as u32;
+            let body = last as u32;
+            if keeps {
+                put_repeat(area, c.used, least, most, greed, place, body, 0);
+                let node = c.used + 8;
+                let own = (next - 1) as u32;
+                put_marked(area, node, HELD, before, own, c.used as u32);
+                return Ok(Step {
+                    cursor: c.behind(next, 15),
+                    node,
+                    kind: Before::Repeated,
+                });
+            }
+            put_repeat(area, c.used, least, most, greed, place, body, before);
+            Ok(c.step(next, 8, Before::Repeated))
+        }
     }
-    if kind == REPEATED {
-        return Turn::Ends(Refusal {
-            place: at,
-            reason: Reason::RepeatOnRepeat,
-        });
-    }
-    let before = area[last + 1];
-    let place = at as u32;
-    if keeps {
-        put_repeat(area, used, least, most, greed, place, last as u32, 0);
-        let around = used + 8;
-        let own = (next - 1) as u32;
-        put_marked(area, around, HELD, before, own, used as u32);
-        return Turn::Goes(behind(c, next, 15), around, REPEATED);
-    }
-    put_repeat(area, used, least, most, greed, place, last as u32, before);
-    Turn::Goes(behind(c, next, 8), used, REPEATED)
 }
 
-// An item that is no group, behind the part at `last`.
-fn item(rule: &[u8], flags: u32, area: &mut [u32], c: Cursor, last: usize) -> Turn
-    requires { Ready (length rule.now) area.old c × (c.at < length rule.now) × (last < c.used) }
-    ensures { Items rule.now flags area.old area.new c last result }
+// An item that is no group, behind a sequence so far.
+fn item(rule: &[u8], flags: u32, area: &mut [u32], so_far: Step) -> Result<Step, Refusal>
+    requires { Ready (length rule.now) area.old so_far.cursor × (so_far.cursor.at < length rule.now) × (so_far.node < so_far.cursor.used) }
+    ensures { Items rule.now flags area.old area.new so_far.cursor so_far.node result }
 {
-    let at = c.at;
-    let used = c.used;
-    let opened = c.opened;
-    let lexed = item_at(rule, flags, opened, at);
-    let words = lexed.words;
-    let token = lexed.token;
+    let c = so_far.cursor;
+    let Parsed { value: token, next } = item_at(rule, flags, c.opened, c.at)?;
+    let before = so_far.node as u32;
+    let place = c.at as u32;
     match token {
-        Token::BadItem(f) => Turn::Ends(f),
-        Token::Byte(next) => {
-            put_byte(area, used, last as u32, at as u32, words);
-            Turn::Goes(behind(c, next, 11), used, REPEATABLE)
+        Token::Byte(words) => {
+            put_byte(area, c.used, before, place, words);
+            Ok(c.step(next, 11, Before::Repeatable))
         }
-        Token::Assert(k, next) => {
-            let which = assertion_word(k);
-            put_four(area, used, ASSERTION, last as u32, at as u32, which);
-            Turn::Goes(behind(c, next, 4), used, NOTHING)
+        Token::Assert(which) => {
+            put_four(area, c.used, ASSERTION, before, place, u32::from(which));
+            Ok(c.step(next, 4, Before::Nothing))
         }
-        Token::Reference(n, next) => {
-            let folded = folded_word(flags);
-            put_reference(area, used, last as u32, at as u32, n, folded);
-            Turn::Goes(behind(c, next, 5), used, REPEATABLE)
+        Token::Reference(number) => {
+            put_reference(area, c.used, before, place, number, folded_word(flags));
+            Ok(c.step(next, 5, Before::Repeatable))
         }
-        Token::Called(from, len, next) => {
-            let folded = folded_word(flags);
-            put_named(
-                area,
-                used,
-                last as u32,
-                at as u32,
-                from as u32,
-                folded,
-                len as u32,
-            );
-            Turn::Goes(behind(c, next, 6), used, REPEATABLE)
+        Token::Called(name) => {
+            let from = name.from as u32;
+            let len = name.len as u32;
+            put_named(area, c.used, before, place, from, folded_word(flags), len);
+            Ok(c.step(next, 6, Before::Repeatable))
         }
     }
 }
 
-// An item that is no group, or `\R`, behind the part at `last`.
-fn plain_item(rule: &[u8], flags: u32, area: &mut [u32], c: Cursor, last: usize) -> Turn
-    requires { Ready (length rule.now) area.old c × (c.at < length rule.now) × (last < c.used) }
-    ensures { PlainItems rule.now flags area.old area.new c last result }
+// An item that is no group, or `\R`, behind a sequence so far.
+fn plain_item(rule: &[u8], flags: u32, area: &mut [u32], so_far: Step) -> Result<Step, Refusal>
+    requires { Ready (length rule.now) area.old so_far.cursor × (so_far.cursor.at < length rule.now) × (so_far.node < so_far.cursor.used) }
+    ensures { PlainItems rule.now flags area.old area.new so_far.cursor so_far.node result }
 {
-    let at = c.at;
-    let used = c.used;
-    let breaks = breaks_line(rule, at);
-    if breaks {
-        put_three(area, used, BREAK, last as u32, at as u32);
-        return Turn::Goes(behind(c, at + 2, 3), used, REPEATABLE);
+    let c = so_far.cursor;
+    if breaks_line(rule, c.at) {
+        put_three(area, c.used, BREAK, so_far.node as u32, c.at as u32);
+        return Ok(c.step(c.at + 2, 3, Before::Repeatable));
     }
-    item(rule, flags, area, c, last)
+    item(rule, flags, area, so_far)
 }
 
-// One part of a sequence that is no group.
-pub fn other(rule: &[u8], flags: u32, area: &mut [u32], c: Cursor, last: usize, kind: u32) -> Turn
-    requires { Ready (length rule.now) area.old c × (c.at < length rule.now) × (last < c.used) × (byte rule.now c.at ≡ 40 → ⊥) }
-    ensures { Others rule.now flags area.old area.new c last kind result }
+// One part more of a sequence, which is no group.
+pub fn other(rule: &[u8], flags: u32, area: &mut [u32], so_far: Step) -> Result<Step, Refusal>
+    requires { Ready (length rule.now) area.old so_far.cursor × (so_far.cursor.at < length rule.now) × (so_far.node < so_far.cursor.used)
+        × (byte rule.now so_far.cursor.at ≡ 40 → ⊥) }
+    ensures { Others rule.now flags area.old area.new so_far.cursor so_far.node so_far.kind result }
 {
-    let at = c.at;
-    let x = quantifier_at(rule, at);
-    match x {
-        Quantifier::Absent => plain_item(rule, flags, area, c, last),
-        Quantifier::Stray => Turn::Ends(Refusal {
-            place: at,
-            reason: Reason::BadBraces,
-        }),
-        Quantifier::Unfit => Turn::Ends(unfit(at, kind)),
+    let at = so_far.cursor.at;
+    match quantifier_at(rule, at) {
+        Quantifier::Absent => plain_item(rule, flags, area, so_far),
+        Quantifier::Stray => Err(Refusal::at(at, Reason::BadBraces)),
+        Quantifier::Unfit => Err(unfit(at, so_far.kind)),
         Quantifier::Times(least, most, greed, keeps, next) => repeated(
-            area, c, last, kind, least, most, greed, keeps, next,
+            area, so_far, least, most, greed, keeps, next,
         ),
     }
 }
 
-// The end of a group of a form, whose inside stands at p.
+// The end of a group of a form, behind its inside.
 pub fn close(
     rule: &[u8],
     area: &mut [u32],
     opening: usize,
     form: Form,
     before: usize,
-    c: Cursor,
-    p: usize,
-) -> Answer
-    requires { Ready (length rule.now) area.old c × FormFits form × (opening < c.at) × (before < c.used) × (p < c.used) }
-    ensures { Closes rule.now opening form before area.old area.new c p result }
+    inside: Part,
+) -> Result<Part, Refusal>
+    requires { Ready (length rule.now) area.old inside.cursor × FormFits form × (opening < inside.cursor.at)
+        × (before < inside.cursor.used) × (inside.node < inside.cursor.used) }
+    ensures { Closes rule.now opening form before area.old area.new inside.cursor inside.node result }
 {
-    let at = c.at;
-    let used = c.used;
-    let b = peek(rule, at);
-    if b != CLOSING {
-        return Answer::Refused(Refusal {
-            place: opening,
-            reason: Reason::UnclosedGroup,
-        });
+    let c = inside.cursor;
+    if peek(rule, c.at) != CLOSING {
+        return Err(Refusal::at(opening, Reason::UnclosedGroup));
     }
+    let before = before as u32;
+    let node = inside.node as u32;
+    let next = c.at + 1;
     match form {
         Form::Grouped => {
-            put_three(area, used, PLAIN, before as u32, p as u32);
-            Answer::Sound(behind(c, at + 1, 3), used)
+            put_three(area, c.used, PLAIN, before, node);
+            Ok(c.part(next, 3))
         }
         Form::Captured(number) => {
-            put_group(area, used, before as u32, number, p as u32);
-            Answer::Sound(behind(c, at + 1, 7), used)
+            put_group(area, c.used, before, number, node);
+            Ok(c.part(next, 7))
         }
         Form::Held => {
-            put_marked(area, used, HELD, before as u32, opening as u32, p as u32);
-            Answer::Sound(behind(c, at + 1, 7), used)
+            put_marked(area, c.used, HELD, before, opening as u32, node);
+            Ok(c.part(next, 7))
         }
         Form::Ahead => {
-            put_marked(area, used, AHEAD, before as u32, opening as u32, p as u32);
-            Answer::Sound(behind(c, at + 1, 7), used)
+            put_marked(area, c.used, AHEAD, before, opening as u32, node);
+            Ok(c.part(next, 7))
         }
         Form::NotAhead => {
-            put_not_ahead(area, used, before as u32, opening as u32, p as u32);
-            Answer::Sound(behind(c, at + 1, 8), used)
+            put_not_ahead(area, c.used, before, opening as u32, node);
+            Ok(c.part(next, 8))
         }
     }
 }

@@ -1,5 +1,6 @@
 -- The loop over the branches of an alternation: what it has passed, and what follows where it goes on, ends or is refused. A bar pays for the
 -- node of its branch and leaves enough for that of the last one.
+use Rattle.std.specs.Prelude.{Result, Ok, Err}
 use mathlib.Core.Path.{◌≡◌, refl, ap, ◌∙◌}
 use mathlib.Core.List.{List, [], ◌∷◌}
 use Prim.Native.Nat.{ℕ, ◌+◌, ◌-◌, ◌*◌, ◌≤◌, ◌<◌}
@@ -20,12 +21,11 @@ use Rattle.name_table.specs.Table.{names_in, NamesFit}
 use Rattle.linker.specs.Nodes.{Chain, Inside}
 use Rattle.linker.proofs.Regions.{preceding-same}
 use Rattle.parts.specs.declared.Cursor.{Cursor}
-use Rattle.parts.specs.declared.Answer.{Answer}
-use Rattle.parts.specs.declared.Answer.TheVariants.{Sound, Refused}
+use Rattle.parts.specs.declared.Part.{Part}
 use Rattle.writer.specs.Wrote.{Below, Wrote}
 use Rattle.parts.specs.Says.{price, behind_node, Ready, Moves}
 use Rattle.reader.specs.Says.{Naming, Branch, Furthers, Alternates}
-use Rattle.reader.proofs.Answers.{said, moved, named, says-as, moved_on, ready_on, naming-on}
+use Rattle.reader.proofs.Answers.{says-as, moved_on, ready_on, naming-on}
 use Rattle.parts.proofs.Standing.{below-same, Pending, branch-put, last-put, single-branch}
 
 -- the loop stands behind so many branches, the last of which has no node yet; `table` has the names of the groups so far
@@ -88,7 +88,7 @@ module _ {s old area names table : List ℕ} {c d : Cursor} {first before last c
     stops : (known : Names) (bs : Branches) → further (length s) s flags known (inside depth s flags known) bs (names_in s table d.opened) d.at ≡ sound (alternatives bs, names_in s table d.opened) d.at
     stops known bs = further-turn s flags known (inside depth s flags known) bs (names_in s table d.opened) d.at (inside_on depth s flags known) ∙ rw (← p.is) (simp (ne_eqb b 124 none))
 
-    pub further-single : before ≡ 0 → Furthers s flags depth old area names table c first (Sound d last)
+    pub further-single : before ≡ 0 → Furthers s flags depth old area names table c first (Ok (record { cursor = d; node = last }))
     further-single e = record {
       moved = h.moves;
       frame = h.frame;
@@ -98,7 +98,7 @@ module _ {s old area names table : List ℕ} {c d : Cursor} {first before last c
           (alternatives y.branches, y.rest ∙ stops known y.branches, single-branch s known area lo d.used before last y.branches e y.stand);
     }
 
-    pub further-last : {new : List ℕ} → (before ≡ 0 → ⊥) → Wrote area new d.used 3 (6 ∷ last ∷ before ∷ []) → Furthers s flags depth old new names table c first (Sound (behind_node d d.at 3) d.used)
+    pub further-last : {new : List ℕ} → (before ≡ 0 → ⊥) → Wrote area new d.used 3 (6 ∷ last ∷ before ∷ []) → Furthers s flags depth old new names table c first (Ok (record { cursor = behind_node d d.at 3; node = d.used }))
     further-last {new} ne w =
         let m = h.moves in
         record {
@@ -114,30 +114,31 @@ module _ {s old area names table : List ℕ} {c d : Cursor} {first before last c
         paid = let z = at-most-none before ne in omega (arith, h.saved)
 
   module _ {wrote : List ℕ} (bar : b ≡ 124) (w : Wrote area wrote d.used 4 (5 ∷ last ∷ before ∷ marked (crowded_at count d.at) ∷ [])) where
-    module _ {new : List ℕ} (after : List ℕ) (q : Answer) (x : Branch s flags depth wrote new table after (behind_node d (d.at + 1) 4) q) where
-      goes : (known : Names) (bs : Branches) (a : Read (Rule × Names)) → branch s flags known (inside depth s flags known) (names_in s table d.opened) (d.at + 1) ≡ a
-          → further (length s) s flags known (inside depth s flags known) bs (names_in s table d.opened) d.at
-          ≡ and_then a (λ y end. further (length s) s flags known (inside depth s flags known) (also bs d.at y.0) y.1 end)
-      goes known bs a e = further-turn s flags known (inside depth s flags known) bs (names_in s table d.opened) d.at (inside_on depth s flags known) ∙ rw (← p.is, bar) (rw e)
+    goes : (known : Names) (bs : Branches) (a : Read (Rule × Names)) → branch s flags known (inside depth s flags known) (names_in s table d.opened) (d.at + 1) ≡ a
+        → further (length s) s flags known (inside depth s flags known) bs (names_in s table d.opened) d.at
+        ≡ and_then a (λ y end. further (length s) s flags known (inside depth s flags known) (also bs d.at y.0) y.1 end)
+    goes known bs a e = further-turn s flags known (inside depth s flags known) bs (names_in s table d.opened) d.at (inside_on depth s flags known) ∙ rw (← p.is, bar) (rw e)
 
-      frame : Below c.used new old
-      frame i l = x.frame i (omega (arith, h.moves.grown)) ∙ w.below i (omega (arith, h.moves.grown)) ∙ h.frame i l
+    module _ {new : List ℕ} (after : List ℕ) where
+      -- the branch behind the bar, and what stood there before
+      framed : (q : Result Part Refusal) → Branch s flags depth wrote new table after (behind_node d (d.at + 1) 4) q → Below c.used new old
+      framed q x i l = x.frame i (omega (arith, h.moves.grown)) ∙ w.below i (omega (arith, h.moves.grown)) ∙ h.frame i l
 
-      pub further-refused : (f : Refusal) → q ≡ Refused f → Furthers s flags depth old new names after c first (Refused f)
-      further-refused f e = record {
+      pub further-refused : (f : Refusal) → Branch s flags depth wrote new table after (behind_node d (d.at + 1) 4) (Err f) → Furthers s flags depth old new names after c first (Err f)
+      further-refused f x = record {
         moved = tt;
-        frame = frame;
+        frame = framed (Err f) x;
         names = tt;
         claim = λ known lo t k.
             let y = h.claim known lo t k in
-            y.rest ∙ goes known y.branches (refused f.place f.reason) (said (Chain s known) (names_in s after) _ new (d.used + 4) q (Refused f) e (x.claim known));
+            y.rest ∙ goes known y.branches (refused f.place f.reason) (x.claim known);
       }
 
-      pub branched-more : (e : Cursor) (n : ℕ) → q ≡ Sound e n → length new ≡ length area → length after ≡ length table → Branched s flags depth old new names after c first e d.used n (count + 1)
+      pub branched-more : (q : Part) → Branch s flags depth wrote new table after (behind_node d (d.at + 1) 4) (Ok q) → length new ≡ length area → length after ≡ length table → Branched s flags depth old new names after c first q.cursor d.used q.node (count + 1)
       unfolding branch_count
-      branched-more e n eq long wide =
+      branched-more q x long wide =
           let g = h.moves in
-          let m = moved (length s) (behind_node d (d.at + 1) 4) 0 q (Sound e n) eq x.moved in
+          let m = x.moved in
           let one = began in
           record {
             moves = record { on = omega (arith, g.on, m.on); within = m.within; grown = omega (arith, g.grown, m.grown); paid = omega (arith, g.paid, m.paid); address = m.address; few = m.few };
@@ -146,11 +147,11 @@ module _ {s old area names table : List ℕ} {c d : Cursor} {first before last c
             many = omega (arith, h.many, m.on);
             long = long ∙ h.long;
             wide = wide ∙ h.wide;
-            frame = frame;
-            fit = named s after q (Sound e n) eq x.names;
+            frame = framed (Ok q) x;
+            fit = x.names;
             claim = λ known lo t k.
                 let y = h.claim known lo t k in
-                let z = said (Chain s known) (names_in s after) (branch s flags known (inside depth s flags known) (names_in s table d.opened) (d.at + 1)) new (d.used + 4) q (Sound e n) eq (x.claim known) in
+                let z = x.claim known in
                 record {
                   branches = also y.branches d.at z.0;
                   counted = omega (arith, y.counted);
@@ -159,7 +160,7 @@ module _ {s old area names table : List ℕ} {c d : Cursor} {first before last c
                     preceding-same s known wrote new y.branches d.at lo (d.used + 4) d.used (below-same new wrote (d.used + 4) lo (d.used + 4) (omega arith) x.frame) (branch-put s known lo d.at y.branches w (ap (λ (k : ℕ). marked (crowded_at k d.at)) y.counted) one y.stand),
                     z.2,
                   );
-                  rest = y.rest ∙ goes known y.branches (sound (z.0, names_in s after e.opened) e.at) z.1;
+                  rest = y.rest ∙ goes known y.branches (sound (z.0, names_in s after q.cursor.opened) q.cursor.at) z.1;
                 };
           }
 
@@ -170,23 +171,23 @@ first-branch : (s : List ℕ) (flags depth : ℕ) (known names : Names) (at : �
 unfolding alternation
 first-branch s flags depth known names at a x = rw x
 
-module _ (s : List ℕ) (flags depth : ℕ) {old mid : List ℕ} (names table : List ℕ) (c : Cursor) (r : Answer) (x : Branch s flags depth old mid names table c r) where
-  pub alternation-refused : (f : Refusal) → r ≡ Refused f → Alternates s flags depth old mid names table c (Refused f)
-  alternation-refused f e = record {
+module _ (s : List ℕ) (flags depth : ℕ) {old mid : List ℕ} (names table : List ℕ) (c : Cursor) where
+  pub alternation-refused : (f : Refusal) → Branch s flags depth old mid names table c (Err f) → Alternates s flags depth old mid names table c (Err f)
+  alternation-refused f x = record {
     moved = tt;
     frame = x.frame;
     names = tt;
-    claim = λ known. first-branch s flags depth known (names_in s names c.opened) c.at (refused f.place f.reason) (said (Chain s known) (names_in s table) _ mid c.used r (Refused f) e (x.claim known));
+    claim = λ known. first-branch s flags depth known (names_in s names c.opened) c.at (refused f.place f.reason) (x.claim known);
   }
 
-  pub alternation-goes : (d : Cursor) (p : ℕ) → r ≡ Sound d p → (new after : List ℕ) (r' : Answer) → Furthers s flags depth mid new table after d p r' → Alternates s flags depth old new names after c r'
-  alternation-goes d p e new after r' z =
-      let m = moved (length s) c 0 r (Sound d p) e x.moved in
+  pub alternation-goes : (q : Part) → Branch s flags depth old mid names table c (Ok q) → (new after : List ℕ) (r : Result Part Refusal) → Furthers s flags depth mid new table after q.cursor q.node r → Alternates s flags depth old new names after c r
+  alternation-goes q x new after r z =
+      let m = x.moved in
       record {
-        moved = moved_on (length s) c d 0 0 r' (omega (arith, m.on)) m.grown m.paid z.moved;
+        moved = moved_on (length s) c q.cursor 0 0 r (omega (arith, m.on)) m.grown m.paid z.moved;
         frame = λ i l. z.frame i (omega (arith, m.grown)) ∙ x.frame i l;
         names = z.names;
         claim = λ known.
-            let y = said (Chain s known) (names_in s table) (branch s flags known (inside depth s flags known) (names_in s names c.opened) c.at) mid c.used r (Sound d p) e (x.claim known) in
-            says-as (Inside s known) (names_in s after) _ _ new c.used r' (first-branch s flags depth known (names_in s names c.opened) c.at (sound (y.0, names_in s table d.opened) d.at) y.1) (z.claim known c.used y.0 y.2);
+            let y = x.claim known in
+            says-as (Inside s known) (names_in s after) _ _ new c.used r (first-branch s flags depth known (names_in s names c.opened) c.at (sound (y.0, names_in s table q.cursor.opened) q.cursor.at) y.1) (z.claim known c.used y.0 y.2);
       }

@@ -1,5 +1,6 @@
 -- A rule that was read and linked is compiled: the reading of the whole rule follows from what was parsed with the names that the table spells, and from
 -- whether all references are resolved; what linking made stands in the needed part of the area, and the table behind it.
+use Rattle.std.specs.Prelude.{⊤, Result, Ok, Err}
 use mathlib.Core.Path.{◌≡◌, refl, sym, ap, subst, ◌∙◌}
 use mathlib.Core.Bool.{Bool, true, false}
 use mathlib.Core.List.{List, [], ◌++◌, append_assoc}
@@ -21,23 +22,16 @@ use Rattle.syntax.specs.Reading.{parsed, names_read, names_of, unresolved, unles
 use Rattle.syntax.specs.Flags.{depot}
 use Rattle.syntax.specs.WellFormed.{levels, WellFormed}
 use Rattle.syntax.specs.Laws.Formation.{parsed-formed, well-formed}
-use Rattle.linker.specs.declared.Linkage.{Linkage}
-use Rattle.linker.specs.declared.Linkage.TheVariants.{Entry, NoGroup}
 use Rattle.name_table.specs.Table.{Spelled, names_in, NamesFit, spelled_same, spelled-next, length-names}
-use Rattle.linker.specs.Linking.{Fits, Linkable, Outside, Entered, Whole, LinksWhole}
+use Rattle.linker.specs.Linking.{Fits, Linkable, Outside, Entered, LinksWhole}
 use Rattle.linker.specs.Laws.{fits_whole}
 use Rattle.linker.specs.Nodes.{Inside}
 use Rattle.linker.proofs.Compiled.{keep}
-use Rattle.lengths.specs.declared.Judgement.{Judgement}
-use Rattle.lengths.specs.declared.Judgement.TheVariants.{Passes, Barred}
 use Rattle.lengths.specs.Measures.{Deep, Judged, Judges, Followed, Follows}
-use Rattle.parts.specs.declared.Cursor.{Cursor}
-use Rattle.parts.specs.declared.Answer.TheVariants.{Sound}
+use Rattle.parts.specs.declared.Part.{Part}
 use Rattle.reader.specs.Areas.{table_start}
-use Rattle.writer.specs.Wrote.{Wrote}
 use Rattle.reader.specs.Says.{Reads}
-use Rattle.reader.specs.declared.compiling.Compilation.{Compilation}
-use Rattle.reader.specs.declared.compiling.Compilation.TheVariants.{Sound as Compiled·rule, Refused as Failed}
+use Rattle.reader.specs.declared.compiling.Compiled.{Compiled}
 use Rattle.reader.specs.Compiles.{StandsWith, Unfollowed, Fails, SaysWith, Says, Compiles}
 
 -- The table -----------------------------------------------------------------------
@@ -100,96 +94,98 @@ module _ (s : List ℕ) (flags : ℕ) where
 
   -- What linking asks, and what it gives -----------------------------------------------
 
-  module _ (area table : List ℕ) (d : Cursor) (p : ℕ) (x : Reads s flags area table (Sound d p)) where
+  module _ (area table : List ℕ) (r : Part) (x : Reads s flags area table (Ok r)) where
     abbrev names : Names
-    names = names_in s table d.opened
+    names = names_in s table r.cursor.opened
 
-    many : length names ≡ d.opened
-    many = length-names s table d.opened
+    many : length names ≡ r.cursor.opened
+    many = length-names s table r.cursor.opened
 
     -- the names do not depend on those that are known
     names-read : names_of s flags ≡ names
     unfolding names_of names_read
     names-read = rw (x.is []).1
 
-    fits : Fits d.opened spans_length (x.is names).0
-    fits = parse-fits names (x.is names).0 d.opened d.at names-read many (x.is names).1
+    fits : Fits r.cursor.opened spans_length (x.is names).0
+    fits = parse-fits names (x.is names).0 r.cursor.opened r.cursor.at names-read many (x.is names).1
 
-    pub linkable : Linkable s d.opened table area p
+    pub linkable : Linkable s r.cursor.opened table area r.node
     linkable =
         let b = start-below in
         record {
           known = names;
           many = many;
-          spelled = fit-spelled s table d.opened x.fit;
+          spelled = fit-spelled s table r.cursor.opened x.fit;
           room = x.fit.room;
-          stands = record { tree = (x.is names).0; lo = 1; top = d.used; holds = (x.is names).2; fits = fits; within = x.within; small = omega (arith, x.small) };
+          stands = record { tree = (x.is names).0; lo = 1; top = r.cursor.used; holds = (x.is names).2; fits = fits; within = x.within; small = omega (arith, x.small) };
         }
 
     -- What the profile asks, and what it says -----------------------------------------------
 
-    pub measurable : Deep Inside area p level_limit
+    pub measurable : Deep Inside area r.node level_limit
     measurable = record {
       rule = s;
       known = names;
       tree = (x.is names).0;
       lo = 1;
-      top = d.used;
+      top = r.cursor.used;
       holds = (x.is names).2;
       within = x.within;
-      groups = d.opened;
+      groups = r.cursor.opened;
       proper = fits.proper;
-      deep = parse-shallow names (x.is names).0 d.opened d.at names-read many (x.is names).1;
+      deep = parse-shallow names (x.is names).0 r.cursor.opened r.cursor.at names-read many (x.is names).1;
     }
 
-    judging : (j : Judgement) → Judges (depot flags) area p j → Judged (depot flags) (x.is names).0 j
+    judging : (j : Result ⊤ Refusal) → Judges (depot flags) area r.node j → Judged (depot flags) (x.is names).0 j
     unfolding Judges
-    judging j h = h s names d.opened (x.is names).0 1 d.used fits.proper (x.is names).2
+    judging j h = h s names r.cursor.opened (x.is names).0 1 r.cursor.used fits.proper (x.is names).2
 
-    following : (checked : Bool) (j : Judgement) → Follows checked area p j → Followed checked (x.is names).0 j
+    following : (checked : Bool) (j : Result ⊤ Refusal) → Follows checked area r.node j → Followed checked (x.is names).0 j
     unfolding Follows
-    following checked j h = h s names d.opened (x.is names).0 1 d.used fits.proper (x.is names).2
+    following checked j h = h s names r.cursor.opened (x.is names).0 1 r.cursor.used fits.proper (x.is names).2
 
-    module _ (new : List ℕ) (l : Linkage) (y : LinksWhole s d.opened table area new p l) where
-      made : Outside 1 d.used area new × Whole d.opened (x.is names).0 1 d.used new l
+    -- the first reference to no group
+    pub dangling : (new : List ℕ) (f : Refusal) → LinksWhole s r.cursor.opened table area new r.node (Err f) → reading s flags ≡ refused f.place f.reason
+    unfolding LinksWhole
+    dangling new f y =
+        let w = (y names many (fit-spelled s table r.cursor.opened x.fit) (x.is names).0 1 r.cursor.used (x.is names).2 fits).1 in
+        rw w.1 (parse-dangling names (x.is names).0 r.cursor.opened r.cursor.at names-read many (x.is names).1 f.place w.0)
+
+    module _ (new : List ℕ) (pc : ℕ) (y : LinksWhole s r.cursor.opened table area new r.node (Ok pc)) where
+      made : Outside 1 r.cursor.used area new × Entered r.cursor.opened (x.is names).0 1 r.cursor.used new pc
       unfolding LinksWhole
-      made = y names many (fit-spelled s table d.opened x.fit) (x.is names).0 1 d.used (x.is names).2 fits
+      made = y names many (fit-spelled s table r.cursor.opened x.fit) (x.is names).0 1 r.cursor.used (x.is names).2 fits
 
-      -- what was parsed is read, if every reference is to a group and the profile bars nothing
-      whole-read : (pc : ℕ) → l ≡ Entry pc → (j : Judgement) → j ≡ Passes → Judges (depot flags) area p j → reading s flags ≡ sound ((x.is names).0, d.opened) d.at
-      whole-read pc e j k h =
-          let w : Entered d.opened (x.is names).0 1 d.used new pc = rw e at made.1 in
-          let passed : Judged (depot flags) (x.is names).0 Passes = rw k at (judging j h) in
-          parse-sound names (x.is names).0 d.opened d.at names-read many (x.is names).1 w.resolved ∙ passed (sound ((x.is names).0, d.opened) d.at)
+      pub barred : (checked : Bool) (f : Refusal) → Judges (depot flags) area r.node (Err f) → Fails checked s flags f
+      barred checked f h =
+          let found = judging (Err f) h in
+          fails-reading checked f (parse-sound names (x.is names).0 r.cursor.opened r.cursor.at names-read many (x.is names).1 made.1.resolved ∙ found (sound ((x.is names).0, r.cursor.opened) r.cursor.at))
 
-      pub entered : (checked : Bool) (pc : ℕ) → l ≡ Entry pc → (j : Judgement) → j ≡ Passes → Judges (depot flags) area p j → (q : Judgement) → q ≡ Passes → Follows checked area p q → StandsWith checked s flags new table table_start pc d.opened
-      entered checked pc e j k h q u g =
-          let w : Entered d.opened (x.is names).0 1 d.used new pc = rw e at made.1 in
-          record {
-            tree = (x.is names).0;
-            stop = d.at;
-            reads = whole-read pc e j k h;
-            end = made.0.below 0 (omega arith) ∙ x.end;
-            compiled = keep new new 1 d.used 1 table_start (omega arith) x.small (λ i a b. refl) (x.is names).0 pc 0 spans_length w.compiled;
-            near = omega (arith, w.near, x.small);
-            many = rw names-read many;
-            named = rw names-read (fit-spelled s table d.opened x.fit);
-            followed = rw u at (following checked q g);
-          }
+      module _ (keeps : Judges (depot flags) area r.node (Ok tt)) where
+        -- what was parsed is read, if every reference is to a group and the profile bars nothing
+        whole-read : reading s flags ≡ sound ((x.is names).0, r.cursor.opened) r.cursor.at
+        whole-read =
+            let passed = judging (Ok tt) keeps in
+            parse-sound names (x.is names).0 r.cursor.opened r.cursor.at names-read many (x.is names).1 made.1.resolved ∙ passed (sound ((x.is names).0, r.cursor.opened) r.cursor.at)
 
-      pub unfollowed : (checked : Bool) (pc : ℕ) → l ≡ Entry pc → (j : Judgement) → j ≡ Passes → Judges (depot flags) area p j → (q : Judgement) (f : Refusal) → q ≡ Barred f → Follows checked area p q → Fails checked s flags f
-      unfollowed checked pc e j k h q f u g =
-          let found : Followed checked (x.is names).0 (Barred f) = rw u at (following checked q g) in
-          fails-checked checked f found.0 (record { tree = (x.is names).0; groups = d.opened; stop = d.at; reads = whole-read pc e j k h; found = found.1 })
+        pub unfollowed : (checked : Bool) (f : Refusal) → Follows checked area r.node (Err f) → Fails checked s flags f
+        unfollowed checked f g =
+            let found = following checked (Err f) g in
+            fails-checked checked f found.0 (record { tree = (x.is names).0; groups = r.cursor.opened; stop = r.cursor.at; reads = whole-read; found = found.1 })
 
-      pub barred : (checked : Bool) (pc : ℕ) → l ≡ Entry pc → (j : Judgement) (f : Refusal) → j ≡ Barred f → Judges (depot flags) area p j → Fails checked s flags f
-      barred checked pc e j f k h =
-          let w : Entered d.opened (x.is names).0 1 d.used new pc = rw e at made.1 in
-          let found : Judged (depot flags) (x.is names).0 (Barred f) = rw k at (judging j h) in
-          fails-reading checked f (parse-sound names (x.is names).0 d.opened d.at names-read many (x.is names).1 w.resolved ∙ found (sound ((x.is names).0, d.opened) d.at))
-
-      pub dangling : (place : ℕ) → l ≡ NoGroup place → reading s flags ≡ refused place NoSuchGroup
-      dangling place e = parse-dangling names (x.is names).0 d.opened d.at names-read many (x.is names).1 place (rw e at made.1)
+        pub entered : (checked : Bool) → Follows checked area r.node (Ok tt) → StandsWith checked s flags new table table_start pc r.cursor.opened
+        entered checked g =
+            record {
+              tree = (x.is names).0;
+              stop = r.cursor.at;
+              reads = whole-read;
+              end = made.0.below 0 (omega arith) ∙ x.end;
+              compiled = keep new new 1 r.cursor.used 1 table_start (omega arith) x.small (λ i a b. refl) (x.is names).0 pc 0 spans_length made.1.compiled;
+              near = omega (arith, made.1.near, x.small);
+              many = rw names-read many;
+              named = rw names-read (fit-spelled s table r.cursor.opened x.fit);
+              followed = following checked (Ok tt) g;
+            }
 
 -- The needed part alone was lent on ---------------------------------------------------
 
@@ -209,20 +205,18 @@ module _ (part old : List ℕ) (long : length part ≡ table_start) (enough : ru
       length-take spans_length (drop table_start (part ++ drop table_start old)) ∙ rw k (omega arith)
 
 -- What stands in the first numbers stands in the whole area, in which the table follows them and whose rest is as it was.
-module _ (checked : Bool) (s : List ℕ) (flags : ℕ) (old part before copy table : List ℕ) (long : length part ≡ table_start) (wide : length copy ≡ spans_length) (enough : rule_area_need ≤ length old) (w : Wrote before copy 0 spans_length table) where
+module _ (checked : Bool) (s : List ℕ) (flags : ℕ) (old part table : List ℕ) (long : length part ≡ table_start) (wide : length table ≡ spans_length) (enough : rule_area_need ≤ length old) where
   abbrev pub joined : List ℕ
-  joined = part ++ (copy ++ drop rule_area_need old)
+  joined = part ++ (table ++ drop rule_area_need old)
 
   front : (i : ℕ) → i < table_start → get_or joined i 0 ≡ get_or part i 0
-  front i h = get_or-append part (copy ++ drop rule_area_need old) 0 i (omega arith)
+  front i h = get_or-append part (table ++ drop rule_area_need old) 0 i (omega arith)
 
-  behind : drop table_start joined ≡ copy ++ drop rule_area_need old
-  behind = drop_at part (copy ++ drop rule_area_need old) table_start long
+  behind : drop table_start joined ≡ table ++ drop rule_area_need old
+  behind = drop_at part (table ++ drop rule_area_need old) table_start long
 
   copied : (i : ℕ) → i < spans_length → get_or (drop table_start joined) i 0 ≡ get_or table i 0
-  copied i h =
-      let e : i ≡ 0 + i = omega arith in
-      ap (λ (l : List ℕ). get_or l i 0) behind ∙ get_or-append copy (drop rule_area_need old) 0 i (omega arith) ∙ ap (λ (j : ℕ). get_or copy j 0) e ∙ w.at i h
+  copied i h = ap (λ (l : List ℕ). get_or l i 0) behind ∙ get_or-append table (drop rule_area_need old) 0 i (omega arith)
 
   few-names : (groups : ℕ) → groups ≤ group_limit → 2 * groups ≤ spans_length
   unfolding spans_length
@@ -232,43 +226,43 @@ module _ (checked : Bool) (s : List ℕ) (flags : ℕ) (old part before copy tab
   unfolding table_start rule_area_need spans_length group_limit
   starts = omega arith
 
-  says-wider : (r : Compilation) → SaysWith checked s flags part table table_start r → Says checked s flags joined r
-  says-wider (Compiled·rule pc groups) x =
+  says-wider : (r : Result Compiled Refusal) → SaysWith checked s flags part table table_start r → Says checked s flags joined r
+  says-wider (Ok c) x =
       let b = start-below in
-      let g : WellFormed groups x.tree = rw x.reads at (well-formed s flags) in
-      let n = few-names groups g.few in
+      let g : WellFormed c.groups x.tree = rw x.reads at (well-formed s flags) in
+      let n = few-names c.groups g.few in
       let m = x.many in
       record {
         tree = x.tree;
         stop = x.stop;
         reads = x.reads;
         end = front 0 starts ∙ x.end;
-        compiled = keep part joined 1 table_start 1 rule_area_need (omega arith) b (λ i a u. front i u) x.tree pc 0 spans_length x.compiled;
+        compiled = keep part joined 1 table_start 1 rule_area_need (omega arith) b (λ i a u. front i u) x.tree c.entry 0 spans_length x.compiled;
         near = omega (arith, x.near);
         many = x.many;
         named = spelled_same s _ table (drop table_start joined) (λ i l. copied i (omega arith)) x.named;
         followed = x.followed;
       }
-  says-wider (Failed f) x = x
+  says-wider (Err f) x = x
 
   rest : drop rule_area_need joined ≡ drop rule_area_need old
   rest =
-      let e : length (part ++ copy) ≡ rule_area_need = length-append part copy ∙ rw (long, wide) whole-need in
-      ap (λ (l : List ℕ). drop rule_area_need l) (sym (append_assoc part copy (drop rule_area_need old))) ∙ drop_at (part ++ copy) (drop rule_area_need old) rule_area_need e
+      let e : length (part ++ table) ≡ rule_area_need = length-append part table ∙ rw (long, wide) whole-need in
+      ap (λ (l : List ℕ). drop rule_area_need l) (sym (append_assoc part table (drop rule_area_need old))) ∙ drop_at (part ++ table) (drop rule_area_need old) rule_area_need e
 
   joined-long : length joined ≡ length old
   joined-long = let e = whole-need in simp (length-append, length-drop) (omega arith)
 
-  pub wider : (r : Compilation) → SaysWith checked s flags part table table_start r → Compiles checked s flags old joined r
+  pub wider : (r : Result Compiled Refusal) → SaysWith checked s flags part table table_start r → Compiles checked s flags old joined r
   wider r x = record { says = says-wider r x; rest = rest; long = joined-long }
 
   -- what comes back from the two parts that were lent
-  pub is-joined : take table_start (part ++ drop table_start old) ++ (copy ++ drop spans_length (drop table_start (part ++ drop table_start old))) ≡ joined
+  pub is-joined : take table_start (part ++ drop table_start old) ++ (table ++ drop spans_length (drop table_start (part ++ drop table_start old))) ≡ joined
   is-joined =
       let a = take_at part (drop table_start old) table_start long in
       let b = drop_at part (drop table_start old) table_start long in
       let c = drop-drop spans_length table_start old ∙ ap (λ (n : ℕ). drop n old) whole-need in
       rw (a, b, c)
 
-  pub back-joined : length (take table_start (part ++ drop table_start old) ++ (copy ++ drop spans_length (drop table_start (part ++ drop table_start old)))) ≡ length old
+  pub back-joined : length (take table_start (part ++ drop table_start old) ++ (table ++ drop spans_length (drop table_start (part ++ drop table_start old)))) ≡ length old
   back-joined = ap length is-joined ∙ joined-long

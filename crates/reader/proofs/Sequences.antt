@@ -1,4 +1,5 @@
 -- The loop over the parts of a sequence: what it has passed, and what follows where it goes on, ends or is refused.
+use Rattle.std.specs.Prelude.{Ok, Err}
 use mathlib.Core.Path.{◌≡◌, refl, sym, ◌∙◌}
 use mathlib.Core.List.{List}
 use mathlib.Core.Bool.{Bool, true, false}
@@ -19,24 +20,24 @@ use Rattle.syntax.specs.Laws.Within.{ends-false}
 use Rattle.lexemes.specs.Says.{Peeked}
 use Rattle.name_table.specs.Table.{names_in, NamesFit}
 use Rattle.parts.specs.declared.Cursor.{Cursor}
-use Rattle.parts.specs.declared.Answer.TheVariants.{Sound, Refused}
-use Rattle.parts.specs.declared.Turn.{Turn}
-use Rattle.parts.specs.declared.Turn.TheVariants.{Goes, Ends}
+use Rattle.parts.specs.declared.Step.{Step}
+use Rattle.parts.specs.declared.Before.{Before}
+use Rattle.parts.specs.declared.Before.TheVariants.{Nothing}
 use Rattle.writer.specs.Wrote.{Below}
 use Rattle.parts.specs.Says.{Ready, Moves, SoFar, kind_of}
 use Rattle.reader.specs.Says.{Naming, Branch, Turns}
-use Rattle.reader.proofs.Answers.{said-turn, moved-turn, named-turn, ready_on, naming-on}
+use Rattle.reader.proofs.Answers.{ready_on, naming-on}
 use Rattle.parts.proofs.Standing.{chain-none, so-far-chain}
 
 -- the branch is the rest of a sequence of which the last part so far stands at `last`; `names` and `table` are the table of names before and after
-pub record Rest (s : List ℕ) (flags depth : ℕ) (new names table : List ℕ) (c d : Cursor) (last kind : ℕ) (known : Names) : Type 0 where
+pub record Rest (s : List ℕ) (flags depth : ℕ) (new names table : List ℕ) (c d : Cursor) (last : ℕ) (kind : Before) (known : Names) : Type 0 where
   pub before : Sequence
   pub is : kind ≡ kind_of before
   pub stands : SoFar s known new before c.used d.used last
   pub rest : branch s flags known (inside depth s flags known) (names_in s names c.opened) c.at ≡ sequence (length s) s flags known (inside depth s flags known) before (names_in s table d.opened) d.at
 
 -- from the cursor c to d
-pub record Passed (s : List ℕ) (flags depth : ℕ) (old new names table : List ℕ) (c d : Cursor) (last kind : ℕ) : Type 0 where
+pub record Passed (s : List ℕ) (flags depth : ℕ) (old new names table : List ℕ) (c d : Cursor) (last : ℕ) (kind : Before) : Type 0 where
   pub moves : Moves (length s) c 0 d last
   pub long : length new ≡ length old
   pub wide : length table ≡ length names
@@ -44,7 +45,7 @@ pub record Passed (s : List ℕ) (flags depth : ℕ) (old new names table : List
   pub fit : NamesFit s table d.opened
   pub claim : (known : Names) → Rest s flags depth new names table c d last kind known
 
-pub passed_none : {area table : List ℕ} {c : Cursor} (s : List ℕ) (flags depth : ℕ) → Ready (length s) area c → Naming s table c → Passed s flags depth area area table table c c 0 0
+pub passed_none : {area table : List ℕ} {c : Cursor} (s : List ℕ) (flags depth : ℕ) → Ready (length s) area c → Naming s table c → Passed s flags depth area area table table c c 0 Nothing
 passed_none {area} {table} {c} s flags depth r n = record {
   moves = record { on = omega arith; within = r.within; grown = omega arith; paid = omega arith; address = r.began; few = r.few };
   long = refl;
@@ -68,7 +69,7 @@ goes_on {s} {at} p is e = ends-false s at (rw (← p.is) (sym is ∙ e))
 abbrev pub moved_to : Cursor → ℕ → Cursor
 moved_to c at = record { at = at; used = c.used; opened = c.opened }
 
-module _ {s old area names table : List ℕ} {c d : Cursor} {flags depth last kind at : ℕ} (h : Passed s flags depth old area names table c d last kind) (skips : at ≡ behind_blanks s flags d.at) where
+module _ {s old area names table : List ℕ} {c d : Cursor} {flags depth last at : ℕ} {kind : Before} (h : Passed s flags depth old area names table c d last kind) (skips : at ≡ behind_blanks s flags d.at) where
   pub past-blanks : d.at ≤ at
   past-blanks = omega (arith, blanks-on s flags d.at)
 
@@ -87,9 +88,9 @@ module _ {s old area names table : List ℕ} {c d : Cursor} {flags depth last ki
 
 -- The turns of the loop -----------------------------------------------------------
 
-module _ {s old area names table : List ℕ} {c d : Cursor} {last kind at b : ℕ} {done : Bool} (flags depth : ℕ) (h : Passed s flags depth old area names table c d last kind)
+module _ {s old area names table : List ℕ} {c d : Cursor} {last at b : ℕ} {kind : Before} {done : Bool} (flags depth : ℕ) (h : Passed s flags depth old area names table c d last kind)
     (skips : at ≡ behind_blanks s flags d.at) (p : Peeked s at b) (is : done ≡ ends b) where
-  pub sequence-stops : done ≡ true → Branch s flags depth old area names table c (Sound (moved_to d at) last)
+  pub sequence-stops : done ≡ true → Branch s flags depth old area names table c (Ok (record { cursor = moved_to d at; node = last }))
   sequence-stops e = record {
     moved = moved-past h skips;
     frame = h.frame;
@@ -103,7 +104,7 @@ module _ {s old area names table : List ℕ} {c d : Cursor} {last kind at b : �
       stop : (known : Names) (q : Sequence) → sequence (length s) s flags known (inside depth s flags known) q (names_in s table d.opened) d.at ≡ sound (whole q, names_in s table d.opened) at
       stop known q = sequence-turn s flags known (inside depth s flags known) q (names_in s table d.opened) d.at (inside_on depth s flags known) ∙ rw (← skips, t)
 
-  module _ {new : List ℕ} (after : List ℕ) (on : done ≡ false) (r : Turn) (x : Turns s flags depth area new table after (moved_to d at) last kind r) where
+  module _ (on : done ≡ false) where
     goes : (known : Names) (a : Read (Sequence × Names)) → part s flags known (inside depth s flags known) (h.claim known).before (names_in s table d.opened) at (quantifier s at) ≡ a
         → branch s flags known (inside depth s flags known) (names_in s names c.opened) c.at ≡ and_then a (λ y next. sequence (length s) s flags known (inside depth s flags known) y.0 y.1 next)
     goes known a e =
@@ -112,28 +113,29 @@ module _ {s old area names table : List ℕ} {c d : Cursor} {last kind at b : �
         t : ends (byte s at) ≡ false
         t = rw (← p.is) (sym is ∙ on)
 
-    pub sequence-refused : (f : Refusal) → r ≡ Ends f → Branch s flags depth old new names after c (Refused f)
-    sequence-refused f e = record {
-      moved = tt;
-      frame = λ i l. x.frame i (omega (arith, h.moves.grown)) ∙ h.frame i l;
-      names = tt;
-      claim = λ known.
-          let q = h.claim known in
-          goes known (refused f.place f.reason) (said-turn s known (names_in s after) _ new c.used r (Ends f) e (x.claim known c.used q.before q.is q.stands));
-    }
+    module _ {new : List ℕ} (after : List ℕ) where
+      pub sequence-refused : (f : Refusal) → Turns s flags depth area new table after (moved_to d at) last kind (Err f) → Branch s flags depth old new names after c (Err f)
+      sequence-refused f x = record {
+        moved = tt;
+        frame = λ i l. x.frame i (omega (arith, h.moves.grown)) ∙ h.frame i l;
+        names = tt;
+        claim = λ known.
+            let q = h.claim known in
+            goes known (refused f.place f.reason) (x.claim known c.used q.before q.is q.stands);
+      }
 
-    pub passed-more : (e : Cursor) (n k : ℕ) → r ≡ Goes e n k → length new ≡ length area → length after ≡ length table → Passed s flags depth old new names after c e n k
-    passed-more e n k q long wide =
-        let m = moved-turn (length s) (moved_to d at) r (Goes e n k) q x.moved in
-        let g = moved-past h skips in
-        record {
-          moves = record { on = omega (arith, g.on, m.on); within = m.within; grown = omega (arith, g.grown, m.grown); paid = omega (arith, g.paid, m.paid); address = m.address; few = m.few };
-          long = long ∙ h.long;
-          wide = wide ∙ h.wide;
-          frame = λ i l. x.frame i (omega (arith, g.grown)) ∙ h.frame i l;
-          fit = named-turn s after r (Goes e n k) q x.names;
-          claim = λ known.
-              let z = h.claim known in
-              let y = said-turn s known (names_in s after) (part s flags known (inside depth s flags known) z.before (names_in s table d.opened) at (quantifier s at)) new c.used r (Goes e n k) q (x.claim known c.used z.before z.is z.stands) in
-              record { before = y.0; is = y.1; stands = y.3; rest = goes known (sound (y.0, names_in s after e.opened) e.at) y.2 };
-        }
+      pub passed-more : (r : Step) → Turns s flags depth area new table after (moved_to d at) last kind (Ok r) → length new ≡ length area → length after ≡ length table → Passed s flags depth old new names after c r.cursor r.node r.kind
+      passed-more r x long wide =
+          let m = x.moved in
+          let g = moved-past h skips in
+          record {
+            moves = record { on = omega (arith, g.on, m.on); within = m.within; grown = omega (arith, g.grown, m.grown); paid = omega (arith, g.paid, m.paid); address = m.address; few = m.few };
+            long = long ∙ h.long;
+            wide = wide ∙ h.wide;
+            frame = λ i l. x.frame i (omega (arith, g.grown)) ∙ h.frame i l;
+            fit = x.names;
+            claim = λ known.
+                let z = h.claim known in
+                let y = x.claim known c.used z.before z.is z.stands in
+                record { before = y.0; is = y.1; stands = y.3; rest = goes known (sound (y.0, names_in s after r.cursor.opened) r.cursor.at) y.2 };
+          }

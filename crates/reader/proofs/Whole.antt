@@ -1,5 +1,5 @@
 -- The whole rule: from what the reader of its branches promises, begun behind the end's node, to the rule's reading.
-use Rattle.std.specs.Prelude.{if◌then◌else◌}
+use Rattle.std.specs.Prelude.{Ok, Err, if◌then◌else◌}
 use mathlib.Core.Path.{◌≡◌, refl, ◌∙◌}
 use mathlib.Core.List.{List, []}
 use Prim.Native.Nat.{ℕ, ◌≤◌, ◌<◌}
@@ -19,12 +19,10 @@ use Rattle.lexemes.specs.Says.{Peeked}
 use Rattle.name_table.specs.Table.{names_in}
 use Rattle.linker.specs.Nodes.{Inside}
 use Rattle.parts.specs.declared.Cursor.{Cursor}
-use Rattle.parts.specs.declared.Answer.{Answer}
-use Rattle.parts.specs.declared.Answer.TheVariants.{Sound, Refused}
+use Rattle.parts.specs.declared.Part.{Part}
 use Rattle.reader.specs.Areas.{table_start}
 use Rattle.parts.specs.Says.{Ready}
 use Rattle.reader.specs.Says.{Naming, Alternates, Reads}
-use Rattle.reader.proofs.Answers.{said, moved, named}
 
 -- the cursor behind the end's node
 abbrev pub beginning : Cursor
@@ -51,27 +49,27 @@ whole : (s : List ℕ) (flags : ℕ) (known : Names) (table : List ℕ) (a : Rea
 unfolding parsed nesting_limit
 whole s flags known table a e = rw (rw (no_names s table) at e)
 
-module _ (s : List ℕ) (flags : ℕ) (area new names table : List ℕ) (r : Answer) (x : Alternates s flags 24 (set area 0 9) new names table beginning r) where
-  pub whole-refused : (f : Refusal) → r ≡ Refused f → Reads s flags new table (Refused f)
-  whole-refused f e = λ known. whole s flags known names (refused f.place f.reason) (said (Inside s known) (names_in s table) _ new 1 r (Refused f) e (x.claim known))
+module _ (s : List ℕ) (flags : ℕ) (area new names table : List ℕ) where
+  pub whole-refused : (f : Refusal) → Alternates s flags 24 (set area 0 9) new names table beginning (Err f) → Reads s flags new table (Err f)
+  whole-refused f x = λ known. whole s flags known names (refused f.place f.reason) (x.claim known)
 
-  module _ {d : Cursor} {p b : ℕ} (e : r ≡ Sound d p) (peeked : Peeked s d.at b) where
-    pub whole-unopened : (b ≡ 256 → ⊥) → Reads s flags new table (Refused (record { place = d.at; reason = UnopenedGroup }))
+  module _ (q : Part) (x : Alternates s flags 24 (set area 0 9) new names table beginning (Ok q)) {b : ℕ} (peeked : Peeked s q.cursor.at b) where
+    pub whole-unopened : (b ≡ 256 → ⊥) → Reads s flags new table (Err (record { place = q.cursor.at; reason = UnopenedGroup }))
     unfolding is_end
     whole-unopened ne = λ known.
-        let y = said (Inside s known) (names_in s table) (alternation s flags known (inside 24 s flags known) (names_in s names 0) 0) new 1 r (Sound d p) e (x.claim known) in
-        whole s flags known names (sound (y.0, names_in s table d.opened) d.at) y.1 ∙ rw (← peeked.is) (simp (ne_eqb b 256 ne))
+        let y = x.claim known in
+        whole s flags known names (sound (y.0, names_in s table q.cursor.opened) q.cursor.at) y.1 ∙ rw (← peeked.is) (simp (ne_eqb b 256 ne))
 
-    pub whole-sound : b ≡ 256 → length s ≤ rule_limit → table_start ≤ length area → length new ≡ length area → Reads s flags new table (Sound d p)
+    pub whole-sound : b ≡ 256 → length s ≤ rule_limit → table_start ≤ length area → length new ≡ length area → Reads s flags new table (Ok q)
     unfolding is_end rule_limit table_start rule_area_need spans_length group_limit
     whole-sound z l h long =
-        let m = moved (length s) beginning 0 r (Sound d p) e x.moved in
+        let m = x.moved in
         record {
           is = λ known.
-              let y = said (Inside s known) (names_in s table) (alternation s flags known (inside 24 s flags known) (names_in s names 0) 0) new 1 r (Sound d p) e (x.claim known) in
-              (y.0, whole s flags known names (sound (y.0, names_in s table d.opened) d.at) y.1 ∙ rw (← peeked.is, z), y.2);
+              let y = x.claim known in
+              (y.0, whole s flags known names (sound (y.0, names_in s table q.cursor.opened) q.cursor.at) y.1 ∙ rw (← peeked.is, z), y.2);
           end = x.frame 0 (omega arith) ∙ get_or-set_same area 0 9 0 (omega arith);
-          fit = named s table r (Sound d p) e x.names;
+          fit = x.names;
           within = omega (arith, m.paid, m.within);
           small = omega (arith, m.paid, m.within);
         }

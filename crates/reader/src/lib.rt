@@ -1,5 +1,7 @@
 // Reads a rule's alternations, sequences, items and groups, and appends a node for each part to a lent area. The names of its groups go to a table of
 // their own: two numbers for each, where the name begins in the rule, and its length.
+//
+// The readers are a cycle of calls, as the grammar is, with an allowance of brackets that falls at each.
 #![tactic(auto)]
 
 ghost use Rattle.std.specs.Prelude.{◌≡◌, ◌+◌, ◌≤◌, ◌<◌, length};
@@ -11,13 +13,14 @@ ghost use Rattle.reader.specs.Says.{Naming, Groups, Turns, Branch, Furthers, Alt
 
 use brackets::{Opening, opening_at};
 use lexemes::{END, behind_blanks, peek};
-use parts::{Answer, CLOSING, Cursor, NOTHING, REPEATABLE, Turn, behind, close, other};
+use parts::{Before, CLOSING, Cursor, Part, Step, close, other};
+use syntax::node::LAST;
 use syntax::{NESTING_LIMIT, Reason, Refusal};
-use writer::{FINISH, LAST, put_branch, put_three};
+use writer::{put_branch, put_three};
 
 mod compiling;
 
-pub use compiling::{Compilation, TABLE_START, compile};
+pub use compiling::{Compiled, TABLE_START, compile};
 
 // Bytes that a rule gives a meaning, as `peek` gives them.
 const OPENING: u32 = b'(' as u32;
@@ -34,76 +37,55 @@ fn group(
     c: Cursor,
     before: usize,
     depth: u32,
-) -> Answer
+) -> Result<Part, Refusal>
     requires { Ready (length rule.now) area.old c × Naming rule.now table.old c × (c.at < length rule.now) × (before < c.used) }
     ensures { Groups rule.now flags depth area.old area.new table.old table.new c before result }
 {
-    let at = c.at;
-    let used = c.used;
-    let opened = c.opened;
-    let o = opening_at(rule, table, at, opened, depth);
-    match o {
-        Opening::Unopened(f) => Answer::Refused(f),
-        Opening::Opens(start, next, form) => {
-            let r = alternation(
-                rule,
-                flags,
-                area,
-                table,
-                Cursor {
-                    at: start,
-                    used: used,
-                    opened: next,
-                },
-                depth - 1,
-            );
-            match r {
-                Answer::Refused(f) => Answer::Refused(f),
-                Answer::Sound(d, p) => close(rule, area, at, form, before, d, p),
-            }
-        }
-    }
+    let Opening {
+        start,
+        opened,
+        form,
+    } = opening_at(rule, table, c.at, c.opened, depth)?;
+    let inner = Cursor {
+        at: start,
+        used: c.used,
+        opened,
+    };
+    let inside = alternation(rule, flags, area, table, inner, depth - 1)?;
+    close(rule, area, c.at, form, before, inside)
 }
 
-// One part of a sequence whose last part so far stands at `last`: an item, a group, or a repeat of that part.
+// One part more of a sequence: an item, a group, or a repeat of its last part.
 #[cycle(alternation_further_group_piece_sequence)]
 fn piece(
     rule: &[u8],
     flags: u32,
     area: &mut [u32],
     table: &mut [u32],
-    c: Cursor,
-    last: usize,
-    kind: u32,
+    so_far: Step,
     depth: u32,
-) -> Turn
-    requires { Ready (length rule.now) area.old c × Naming rule.now table.old c × (c.at < length rule.now) × (last < c.used) }
-    ensures { Turns rule.now flags depth area.old area.new table.old table.new c last kind result }
+) -> Result<Step, Refusal>
+    requires { Ready (length rule.now) area.old so_far.cursor
+        × Naming rule.now table.old so_far.cursor × (so_far.cursor.at < length rule.now) × (so_far.node < so_far.cursor.used) }
+    ensures { Turns rule.now flags depth area.old area.new table.old table.new so_far.cursor so_far.node so_far.kind result }
 {
-    let at = c.at;
-    let b = peek(rule, at);
-    if b == OPENING {
-        let r = group(rule, flags, area, table, c, last, depth);
-        match r {
-            Answer::Refused(f) => {
-                return Turn::Ends(f);
-            }
-            Answer::Sound(d, p) => {
-                return Turn::Goes(d, p, REPEATABLE);
-            }
-        }
+    let c = so_far.cursor;
+    if peek(rule, c.at) == OPENING {
+        let Part { cursor, node } = group(rule, flags, area, table, c, so_far.node, depth)?;
+        return Ok(Step {
+            cursor,
+            node,
+            kind: Before::Repeatable,
+        });
     }
-    other(rule, flags, area, c, last, kind)
+    other(rule, flags, area, so_far)
 }
 
 // Whether a sequence ends at a byte.
 fn stops(b: u32) -> bool
     ensures { result ≡ ends b }
 {
-    match b {
-        BAR | CLOSING | END => true,
-        _ => false,
-    }
+    matches!(b, BAR | CLOSING | END)
 }
 
 // The parts up to a bar, a closing bracket or the end. Blanks are skipped before each part and before the end, and nowhere else.
@@ -115,84 +97,65 @@ fn sequence(
     table: &mut [u32],
     c: Cursor,
     depth: u32,
-) -> Answer
+) -> Result<Part, Refusal>
     requires { Ready (length rule.now) area.old c × Naming rule.now table.old c }
     ensures { Branch rule.now flags depth area.old area.new table.old table.new c result }
 {
-    let mut d = c;
-    let mut last: usize = 0;
-    let mut kind = NOTHING;
+    let mut so_far = Step {
+        cursor: c,
+        node: 0,
+        kind: Before::Nothing,
+    };
     loop {
-        let from = d.at;
-        let used = d.used;
-        let opened = d.opened;
-        let at = behind_blanks(rule, flags, from);
-        let here = Cursor {
-            at: at,
-            used: used,
-            opened: opened,
+        let at = behind_blanks(rule, flags, so_far.cursor.at);
+        let cursor = Cursor {
+            at,
+            ..so_far.cursor
         };
-        let b = peek(rule, at);
-        let done = stops(b);
-        if done {
-            return Answer::Sound(here, last);
+        let here = Step { cursor, ..so_far };
+        if stops(peek(rule, at)) {
+            return Ok(Part {
+                cursor,
+                node: here.node,
+            });
         }
-        let r = piece(rule, flags, area, table, here, last, kind, depth);
-        match r {
-            Turn::Ends(f) => {
-                return Answer::Refused(f);
-            }
-            Turn::Goes(e, p, k) => {
-                d = e;
-                last = p;
-                kind = k;
-            }
-        }
+        so_far = piece(rule, flags, area, table, here, depth)?;
     }
 }
 
-// The further branches as long as a bar follows, behind the first, whose last part stands at `first`. They are counted for the bars.
+// The further branches as long as a bar follows, behind the first. They are counted for the bars. A node names the branch before it by its position, and
+// 0, no branch's position, stands for none there, and so here.
 #[cycle(alternation_further_group_piece_sequence)]
 fn further(
     rule: &[u8],
     flags: u32,
     area: &mut [u32],
     table: &mut [u32],
-    c: Cursor,
-    first: usize,
+    first: Part,
     depth: u32,
-) -> Answer
-    requires { Ready (length rule.now) area.old c × Naming rule.now table.old c × (first < c.used) }
-    ensures { Furthers rule.now flags depth area.old area.new table.old table.new c first result }
+) -> Result<Part, Refusal>
+    requires { Ready (length rule.now) area.old first.cursor × Naming rule.now table.old first.cursor × (first.node < first.cursor.used) }
+    ensures { Furthers rule.now flags depth area.old area.new table.old table.new first.cursor first.node result }
 {
-    let mut d = c;
-    let mut last = first;
-    let mut before: usize = 0;
-    let mut count: usize = 1;
+    let mut branch = first;
+    let mut before = 0;
+    let mut count = 1;
     loop {
-        let at = d.at;
-        let used = d.used;
-        let b = peek(rule, at);
-        if b != BAR {
+        let Part {
+            cursor: c,
+            node: last,
+        } = branch;
+        if peek(rule, c.at) != BAR {
             if before == 0 {
-                return Answer::Sound(d, last);
+                return Ok(branch);
             }
-            put_three(area, used, LAST, last as u32, before as u32);
-            return Answer::Sound(behind(d, at, 3), used);
+            put_three(area, c.used, LAST, last as u32, before as u32);
+            return Ok(c.part(c.at, 3));
         }
-        put_branch(area, used, last as u32, before as u32, count, at);
-        let r = sequence(rule, flags, area, table, behind(d, at + 1, 4), depth);
-        match r {
-            Answer::Refused(f) => {
-                return Answer::Refused(f);
-            }
-            Answer::Sound(e, p) => {
-                d = e;
-                last = p;
-                before = used;
-                count += 1;
-            }
-        }
+        put_branch(area, c.used, last as u32, before as u32, count, c.at);
+        branch = sequence(rule, flags, area, table, c.behind(c.at + 1, 4), depth)?;
+        before = c.used;
+        count += 1;
     }
 }
 
@@ -205,47 +168,34 @@ fn alternation(
     table: &mut [u32],
     c: Cursor,
     depth: u32,
-) -> Answer
+) -> Result<Part, Refusal>
     requires { Ready (length rule.now) area.old c × Naming rule.now table.old c }
     ensures { Alternates rule.now flags depth area.old area.new table.old table.new c result }
 {
-    let r = sequence(rule, flags, area, table, c, depth);
-    match r {
-        Answer::Refused(f) => Answer::Refused(f),
-        Answer::Sound(d, p) => further(rule, flags, area, table, d, p, depth),
-    }
+    let first = sequence(rule, flags, area, table, c, depth)?;
+    further(rule, flags, area, table, first, depth)
 }
 
 // Reads a whole rule. Its nodes stand behind that of the end, at position 0.
-pub fn read_rule(rule: &[u8], flags: u32, area: &mut [u32], table: &mut [u32]) -> Answer
+pub fn read_rule(
+    rule: &[u8],
+    flags: u32,
+    area: &mut [u32],
+    table: &mut [u32],
+) -> Result<Part, Refusal>
     requires { (length rule.now ≤ rule_limit) × (table_start ≤ length area.old) × (spans_length ≤ length table.old) }
     ensures { Reads rule.now flags area.new table.new result }
 {
-    area[0] = FINISH;
-    let r = alternation(
-        rule,
-        flags,
-        area,
-        table,
-        Cursor {
-            at: 0,
-            used: 1,
-            opened: 0,
-        },
-        NESTING_LIMIT,
-    );
-    match r {
-        Answer::Refused(f) => Answer::Refused(f),
-        Answer::Sound(d, p) => {
-            let at = d.at;
-            let b = peek(rule, at);
-            if b == END {
-                return Answer::Sound(d, p);
-            }
-            Answer::Refused(Refusal {
-                place: at,
-                reason: Reason::UnopenedGroup,
-            })
-        }
+    area[0] = syntax::node::END;
+    let start = Cursor {
+        at: 0,
+        used: 1,
+        opened: 0,
+    };
+    let inside = alternation(rule, flags, area, table, start, NESTING_LIMIT)?;
+    let end = inside.cursor.at;
+    if peek(rule, end) != END {
+        return Err(Refusal::at(end, Reason::UnopenedGroup));
     }
+    Ok(inside)
 }

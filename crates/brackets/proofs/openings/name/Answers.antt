@@ -1,46 +1,34 @@
 -- The name of a group: one law for each return.
+use mathlib.Core.Path.{sym, ◌∙◌}
 use native.Mathlib.Omega.{arith}
-use Rattle.syntax.specs.Limits.{group_limit}
-use Rattle.brackets.proofs.Heads.{name_in, name-bad, name-twice, name_new}
+use Rattle.std.proofs.lemmas.Result.{err_from_is_err_and}
+use Rattle.brackets.proofs.Heads.{called-some, called-none, name_in, name-bad, name-twice, name_new}
 use Rattle.brackets.proofs.openings.name.Goals as goal
 
-pub group_called-same-requires : goal.group_called-same-requires
-group_called-same-requires c = let a = c.args in
-    let n = c.name_at-n in
-    let l = name_in a.rule.now a.at a.start n.result n.ensures _ _ _ c.in-Named.is in
+pub group_called-requires : goal.group_called-requires
+group_called-requires c = let a = c.args in
+    let l = name_in a.rule.now a.at a.start c.in_ok-name.ensures in
     (c.requires.4, omega (arith, l))
 
-pub returns-then-same-ne0 : goal.returns-then-same-ne0
-returns-then-same-ne0 c = let a = c.args in
-    let n = c.name_at-n in
-    name-twice a.rule.now a.at a.start n.result n.ensures a.table.now a.opened c.in-Named.is c.group_called-same.ensures.0 c.if-same-ne0.true
-
-pub overflow_cast-from : goal.overflow_cast-from
-overflow_cast-from c = let a = c.args in
-    let n = c.name_at-n in
-    let l = name_in a.rule.now a.at a.start n.result n.ensures _ _ _ c.in-Named.is in
+pub overflow_cast-name : goal.overflow_cast-name
+overflow_cast-name c = let a = c.args in
+    let l = name_in a.rule.now a.at a.start c.in_ok-name.ensures in
     omega (arith, l, c.requires.1)
 
-pub overflow_cast-len : goal.overflow_cast-len
-overflow_cast-len c = let a = c.args in
-    let n = c.name_at-n in
-    let l = name_in a.rule.now a.at a.start n.result n.ensures _ _ _ c.in-Named.is in
+pub overflow_cast-name-2 : goal.overflow_cast-name-2
+overflow_cast-name-2 c = let a = c.args in
+    let l = name_in a.rule.now a.at a.start c.in_ok-name.ensures in
     omega (arith, l, c.requires.1)
 
-pub overflow_add-result : goal.overflow_add-result
-unfolding group_limit
-overflow_add-result c = omega (arith, c.requires.2)
+pub returns-in_err-name : goal.returns-in_err-name
+returns-in_err-name c = let a = c.args in
+    let p = err_from_is_err_and c.from_residual.result c.from_residual.ensures.1 in
+    rw (p.1, p.2) (name-bad a.rule.now a.at a.start a.table.now a.opened _ c.in_err-name.ensures)
 
-pub overflow_add-result-in-Named : goal.overflow_add-result-in-Named
-unfolding group_limit
-overflow_add-result-in-Named c = omega (arith, c.requires.2)
+pub returns-then-is_some : goal.returns-then-is_some
+returns-then-is_some c = let a = c.args in
+    rw c.at.ensures (name-twice a.rule.now a.at a.start a.table.now a.opened c.in_ok-name.ensures c.group_called.ensures.0 (called-some _ _ (sym c.is_some.ensures ∙ c.if-is_some.true) c.group_called.ensures.1))
 
-pub returns-in-BadName : goal.returns-in-BadName
-returns-in-BadName c = let a = c.args in
-    let n = c.name_at-n in
-    name-bad a.rule.now a.at a.start n.result n.ensures a.table.now a.opened _ c.in-BadName.is
-
-pub returns-else-same-ne0 : goal.returns-else-same-ne0
-returns-else-same-ne0 c = let a = c.args in
-    let n = c.name_at-n in
-    name_new a.rule.now a.at a.start n.result n.ensures a.table.now a.opened c.in-Named.is c.group_called-same.ensures.0 c.if-same-ne0.false c.put_name.ensures c.requires.4 c.requires.2 c.requires.3 c.put_name.auto.table
+pub returns : goal.returns
+returns c = let a = c.args in
+    rw c.captured.ensures (name_new a.rule.now a.at a.start a.table.now a.opened c.in_ok-name.ensures c.group_called.ensures.0 (called-none _ (sym c.is_some.ensures ∙ c.if-is_some.false)) c.put_name.ensures c.requires.4 c.requires.2 c.requires.3 c.put_name.auto.table)

@@ -2,8 +2,8 @@
 use Rattle.parts.proofs.Items.{unfit-nothing, unfit-braces}
 use Rattle.parts.proofs.parts.unfit.Goals as goal
 
-pub returns-then-kind-eq-NOTHING : goal.returns-then-kind-eq-NOTHING
-returns-then-kind-eq-NOTHING c = unfit-nothing c.args.kind c.args.at c.if-kind-eq-NOTHING.true
+pub returns-in-Nothing : goal.returns-in-Nothing
+returns-in-Nothing c = rw c.at.ensures (unfit-nothing c.args.kind c.args.at c.in-Nothing.is)
 
-pub returns : goal.returns
-returns c = unfit-braces c.args.kind c.args.at c.if-kind-eq-NOTHING.false
+pub returns-in-Repeatable : goal.returns-in-Repeatable
+returns-in-Repeatable c = rw c.at-in-Repeatable.ensures (unfit-braces c.args.kind c.args.at c.in-Repeatable.is)
