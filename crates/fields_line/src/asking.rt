@@ -25,7 +25,6 @@ fn rows_of(listing: Listing) -> usize
         Listing::Complete(rows, _steps) => rows,
         Listing::Full(rows, _steps) => rows,
         Listing::Exhausted(_start, rows, _steps) => rows,
-        Listing::Refused(_f) => 0,
     }
 }
 
@@ -49,7 +48,6 @@ fn is_cut(listing: Listing, start: u32, results: &[u32]) -> bool
         Listing::Complete(_rows, _steps) => false,
         Listing::Full(rows, _steps) => last_start(start, rows, results) == start,
         Listing::Exhausted(n, _rows, _steps) => n == start,
-        Listing::Refused(_f) => false,
     }
 }
 
