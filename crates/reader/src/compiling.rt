@@ -5,7 +5,6 @@ ghost use Rattle.syntax.specs.Flags.{depot};
 ghost use Rattle.linker.specs.Nodes.{Inside};
 ghost use Rattle.lengths.specs.Measures.{Deep, Judges, Follows};
 ghost use Rattle.reader.specs.Areas.{table_start};
-ghost use Rattle.writer.specs.Wrote.{Wrote};
 ghost use Rattle.reader.specs.Compiles.{SaysWith, Compiles};
 
 use crate::read_rule;
@@ -87,18 +86,6 @@ fn compile_into(
     }
 }
 
-// Copies the table into its part of the area.
-fn put_table(part: &mut [u32], table: [u32; SPANS_LENGTH])
-    requires { spans_length ≤ length part.old }
-    ensures { Wrote part.old part.new 0 spans_length table }
-{
-    let numbers = table;
-    for i in 0..SPANS_LENGTH {
-        let number = numbers[i];
-        part[i] = number;
-    }
-}
-
 // Compiles a rule into the first numbers of the area. The others are not even lent on. The table is made beside the area, since no two parts of one slice
 // can be lent at a time. A rule that is compiled for a check must be one that a check can follow.
 pub fn compile(
@@ -112,6 +99,6 @@ pub fn compile(
 {
     let mut table = [0; SPANS_LENGTH];
     let r = compile_into(rule, flags, checked, &mut area[..TABLE_START], &mut table);
-    put_table(&mut area[TABLE_START..RULE_AREA], table);
+    area[TABLE_START..RULE_AREA].copy_from_slice(&table);
     r
 }
