@@ -23,7 +23,8 @@ use registers::unset_groups;
 use seeking::{Sought, seek};
 use syntax::{GROUP_LIMIT, Refusal};
 
-// What a match tells: matched or not, and the steps; or the start at which its budget was used up, and the steps; or why it is refused.
+// What a match tells: matched or not, and the steps; or the start at which its budget was used up, and the steps; or why it is refused. A rule of the project
+// has it so: a match's outcome is an enum of four cases, a refusal among them, and no `Result`.
 #[derive(Clone, Copy, Debug, PartialEq, Eq)]
 pub enum Outcome {
     Matched(u64),

@@ -57,7 +57,7 @@ pub fn prepare(
     ensures { (need : ℕ) (line results : List ℕ) → length line ≡ subject → ltb (length results) need ≡ short
         → Prepares checked need (call_of rule.now flags line budget rule_area.old work_area.old results names.old) result rule_area.new work_area.new names.new }
 {
-    unfit(
+    match unfit(
         rule.len(),
         flags,
         subject,
@@ -66,7 +66,8 @@ pub fn prepare(
         work_area.len(),
         short,
         names.len(),
-    )
-    .map_err(|reason| Refusal::at(0, reason))?;
-    compile_or_clear(rule, flags, checked, budget, rule_area, work_area, names)
+    ) {
+        Err(reason) => Err(Refusal::at(0, reason)),
+        Ok(()) => compile_or_clear(rule, flags, checked, budget, rule_area, work_area, names),
+    }
 }

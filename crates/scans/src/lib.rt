@@ -25,11 +25,7 @@ fn reset(regs: &mut [u32])
     requires { length regs.old ≡ registers }
     ensures { Clear regs.new }
 {
-    let mut i: usize = 0;
-    while i < SPANS_LENGTH {
-        regs[i] = UNSET;
-        i += 1;
-    }
+    regs[..SPANS_LENGTH].fill(UNSET);
 }
 
 // What is told behind the last row: the last search found nothing, or its budget was used up, or it found a match that has no row left.
