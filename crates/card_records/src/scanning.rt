@@ -61,12 +61,10 @@ fn is_padding(card: &[u8], from: usize, to: usize) -> bool
     requires { (from ≤ to) × (to < 131072) × ((i : ℕ) → i < to → place i < length card.now) }
     ensures { IsPadding card.now from to result }
 {
-    let mut i = from;
-    while i < to {
+    for i in from..to {
         if card[SETTINGS + 1 + i + i / PIECE_BODY] != 0 {
             return false;
         }
-        i += 1;
     }
     true
 }

@@ -1,7 +1,7 @@
 // Reading a card.
 ghost use Rattle.std.specs.Prelude.{◌≡◌, ◌≤◌, ◌<◌, length};
 ghost use Rattle.semantics.specs.Calls.{over};
-ghost use Rattle.card_format.specs.Cards.{Card, written, rule_bytes_need, card_in, rule_in, read_call};
+ghost use Rattle.card_format.specs.Cards.{Card as SaidCard, written, rule_bytes_need, card_in, rule_in, read_call};
 ghost use Rattle.card_format.specs.Places.{text_end};
 ghost use Rattle.card_records.specs.Walking.{IsCard};
 ghost use Rattle.cards.specs.Answers.{Returned, read_of, Legible};
@@ -34,13 +34,10 @@ pub struct Card {
 // Copies the rule of a card to the front of an area.
 fn gather(card: &[u8], size: usize, area: &mut [u8])
     requires { (size < 65536) × (text_end size ≤ length card.now) × (size ≤ length area.old) }
-    ensures { (k : Card) → card.now ≡ written k → length k.rule ≡ size → area.new ≡ over k.rule area.old }
+    ensures { (k : SaidCard) → card.now ≡ written k → length k.rule ≡ size → area.new ≡ over k.rule area.old }
 {
-    let mut i: usize = 0;
-    while i < size {
-        let b = card[SETTINGS + 1 + i + i / PIECE_BODY];
-        area[i] = b;
-        i += 1;
+    for i in 0..size {
+        area[i] = card[SETTINGS + 1 + i + i / PIECE_BODY];
     }
 }
 
@@ -80,8 +77,10 @@ fn read_found(
         budget: two_bytes(card, BUDGET),
         groups: card[GROUPS] as u32,
     };
-    unfit(size, held.flags, held.budget, rule_area.len()).map_err(|reason| Refusal::at(0, reason))?;
-    read_fitting(card, held, rule_area, area)
+    match unfit(size, held.flags, held.budget, rule_area.len()) {
+        Err(reason) => Err(Refusal::at(0, reason)),
+        Ok(()) => read_fitting(card, held, rule_area, area),
+    }
 }
 
 // Reads a card: its rule goes to the front of the area.
@@ -91,20 +90,24 @@ pub fn read_card(card: &[u8], rule_area: &mut [u32], area: &mut [u8]) -> Result<
     if area.len() < RULE_BYTES_NEED {
         return Err(Refusal::at(0, Reason::WrittenAreaShort));
     }
-    let size = find_card(card).map_err(|reason| Refusal::at(0, reason))?;
-    read_found(card, size, rule_area, area)
+    match find_card(card) {
+        Err(reason) => Err(Refusal::at(0, reason)),
+        Ok(size) => read_found(card, size, rule_area, area),
+    }
 }
 
 // For whoever looks at a card whose rule is refused: that rule goes to the front of the area, if there is room for it, and its length is told.
 pub fn rule_in(card: &[u8], area: &mut [u8]) -> usize
     ensures { (result ≡ length (rule_in (card_in card.now) (length area.old))) × (area.new ≡ over (rule_in (card_in card.now) (length area.old)) area.old) × (result ≤ length area.old) }
 {
-    let Ok(size) = find_card(card) else {
-        return 0;
-    };
-    if area.len() < size {
-        return 0;
+    match find_card(card) {
+        Err(_) => 0,
+        Ok(size) => {
+            if area.len() < size {
+                return 0;
+            }
+            gather(card, size, area);
+            size
+        }
     }
-    gather(card, size, area);
-    size
 }

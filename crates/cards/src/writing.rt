@@ -41,6 +41,8 @@ pub fn write_card(
     if area.len() < CARD_NEED {
         return Err(Refusal::at(0, Reason::WrittenAreaShort));
     }
-    unfit(rule.len(), flags, budget, rule_area.len()).map_err(|reason| Refusal::at(0, reason))?;
-    write_fitting(rule, flags, budget, rule_area, area)
+    match unfit(rule.len(), flags, budget, rule_area.len()) {
+        Err(reason) => Err(Refusal::at(0, reason)),
+        Ok(()) => write_fitting(rule, flags, budget, rule_area, area),
+    }
 }

@@ -53,11 +53,20 @@ fn search(
     ensures finds { Finds code.now (between text.now from to) results.old results.new entry budget result }
     ensures keeps { Keeps code.now entry groups regs.new }
 {
-    let cost = opening.cost;
-    let any = opening.any;
-    let set = opening.set;
     match seek(
-        code, text, from, to, regs, work, &set, any, cost, entry, budget, 0, 0,
+        code,
+        text,
+        from,
+        to,
+        regs,
+        work,
+        &opening.set,
+        opening.any,
+        opening.cost,
+        entry,
+        budget,
+        0,
+        0,
     ) {
         Sought::Found(begin, end, steps) => {
             write_row(results, 0, begin, end, regs);

@@ -54,16 +54,13 @@ pub fn scan_searches(
     ensures { (x : Rule) → Stands code.now x entry → Scans subject.now x budget results.old results.new result }
 {
     let open = find_opening(code, entry, budget, subject.len());
-    let cost = open.cost;
-    let any = open.any;
-    let set = open.set;
     let mut from: u32 = 0;
     let mut barred = false;
     let mut rows: usize = 0;
     let mut steps: u64 = 0;
     loop {
         let found = search(
-            code, subject, regs, work, &set, any, cost, entry, budget, from, barred,
+            code, subject, regs, work, &open.set, open.any, open.cost, entry, budget, from, barred,
         );
         let Sought::Found(start, stop, used) = found else {
             return end_scan(found, rows, steps);

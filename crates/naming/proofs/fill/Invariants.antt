@@ -8,4 +8,3 @@ use Rattle.naming.proofs.fill.Given as goal
 
 abbrev pub invariant-loop-g : goal.invariant-loop-g
 invariant-loop-g l = (l.g ≤ l.groups) × (length l.names ≡ length l.initial.names) × (l.names ≡ over (entries l.g (names_in l.rule l.table l.groups) 1) l.initial.names)
-

@@ -8,4 +8,3 @@ use Rattle.naming.proofs.write_entry.Given as goal
 
 abbrev pub invariant-loop-i : goal.invariant-loop-i
 invariant-loop-i l = (l.i ≤ name_entry) × (length l.names ≡ length l.initial.names) × (l.names ≡ paste l.initial.names l.base (entry (slice l.from (l.from + l.len) l.rule)) l.i)
-
