@@ -50,6 +50,7 @@ pub fn match_lines_held(
     let mut regs = [UNSET; REGISTERS];
     let mut from: usize = 0;
     let mut at: usize = 0;
+    // two places step side by side, in the buffer and in the results, and a line is named by its ends: an iterator over lines would be no plainer
     while from < buffer.len() {
         let to = line_end(buffer, from);
         let behind = at + PART_LENGTH;

@@ -52,10 +52,7 @@ fn tell(numbers: &mut [u32], outcome: Outcome)
         Outcome::Matched(steps) => put(numbers, 0, 0, steps),
         Outcome::NotMatched(steps) => put(numbers, 1, 0, steps),
         Outcome::Exhausted(start, steps) => put(numbers, 2, start, steps),
-        Outcome::Refused(f) => {
-            let reason = f.reason;
-            put(numbers, 3, u32::from(reason), 0);
-        }
+        Outcome::Refused(f) => put(numbers, 3, u32::from(f.reason), 0),
     }
 }
 
@@ -79,10 +76,7 @@ fn match_one(
     ensures keeps { Keeps code.now entry groups regs.new }
 {
     if SUBJECT_LIMIT < to - from {
-        return Outcome::Refused(Refusal {
-            place: 0,
-            reason: Reason::SubjectTooLong,
-        });
+        return Outcome::Refused(Refusal::at(0, Reason::SubjectTooLong));
     }
     match_opened(
         code, entry, groups, opening, buffer, from, to, budget, regs, work, row,

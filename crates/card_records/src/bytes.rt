@@ -77,11 +77,8 @@ pub fn put_card(rule: &[u8], flags: u32, budget: u32, groups: u32, area: &mut [u
     ensures { (result ≡ length (written (card_of rule.now flags budget groups))) × (area.new ≡ over (written (card_of rule.now flags budget groups)) area.old) }
 {
     let total = text_end(rule.len()) + LENGTH;
-    let mut i: usize = 0;
-    while i < total {
-        let b = card_byte(rule, flags, budget, groups, i);
-        area[i] = b;
-        i += 1;
+    for i in 0..total {
+        area[i] = card_byte(rule, flags, budget, groups, i);
     }
     total
 }

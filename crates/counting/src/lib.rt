@@ -32,23 +32,10 @@ fn count_block(buffer: &[u8], from: usize, size: usize) -> u8
     ensures { (result ≤ size) × (result ≡ newlines (take size (drop from buffer.now))) }
 {
     let mut count: u8 = 0;
-    let mut i: usize = 0;
-    while i < size {
+    for i in 0..size {
         count = count_newline(buffer[from + i], count);
-        i += 1;
     }
     count
-}
-
-// How long the next block is.
-fn block_size(left: usize) -> usize
-    requires { 0 < left }
-    ensures { (0 < result) × (result ≤ left) × (result < 2 ^ 8) }
-{
-    if left < BLOCK {
-        return left;
-    }
-    BLOCK
 }
 
 // The number of lines. Before each block, one more than the 0A so far are counted.
@@ -62,7 +49,7 @@ pub fn count_lines(buffer: &[u8]) -> usize
     let mut lines: usize = 1;
     let mut i: usize = 0;
     while i < last {
-        let size = block_size(last - i);
+        let size = BLOCK.min(last - i);
         lines += count_block(buffer, i, size) as usize;
         i += size;
     }

@@ -23,8 +23,9 @@ use registers::unset_groups;
 use seeking::{Sought, seek};
 use syntax::{GROUP_LIMIT, Refusal};
 
-// What a match tells: matched or not, and the steps; or the start at which its budget was used up, and the steps; or why it is refused.
-#[derive(Drop)]
+// What a match tells: matched or not, and the steps; or the start at which its budget was used up, and the steps; or why it is refused. A rule of the project
+// has it so: a match's outcome is an enum of four cases, a refusal among them, and no `Result`.
+#[derive(Clone, Copy, Debug, PartialEq, Eq)]
 pub enum Outcome {
     Matched(u64),
     NotMatched(u64),
@@ -52,11 +53,20 @@ fn search(
     ensures finds { Finds code.now (between text.now from to) results.old results.new entry budget result }
     ensures keeps { Keeps code.now entry groups regs.new }
 {
-    let cost = opening.cost;
-    let any = opening.any;
-    let set = opening.set;
     match seek(
-        code, text, from, to, regs, work, &set, any, cost, entry, budget, 0, 0,
+        code,
+        text,
+        from,
+        to,
+        regs,
+        work,
+        &opening.set,
+        opening.any,
+        opening.cost,
+        entry,
+        budget,
+        0,
+        0,
     ) {
         Sought::Found(begin, end, steps) => {
             write_row(results, 0, begin, end, regs);

@@ -10,9 +10,5 @@ pub fn unset_groups(regs: &mut [u32], groups: u32)
     ensures { regs.new ≡ replicate (2 * groups) unset ++ drop (2 * groups) regs.old }
 {
     let all = 2 * groups as usize;
-    let mut i: usize = 0;
-    while i < all {
-        regs[i] = UNSET;
-        i += 1;
-    }
+    regs[..all].fill(UNSET);
 }

@@ -1,4 +1,5 @@
 -- The starts of a listing, one after another: what a start begins with, and what is told behind it.
+use Rattle.std.specs.Prelude.{Ok}
 use mathlib.Core.Path.{◌≡◌, refl, sym, ◌∙◌}
 use mathlib.Core.List.{List, [], ◌++◌, append-nil}
 use mathlib.Core.Logic.{inl, inr}
@@ -38,7 +39,7 @@ between_first sub x budget area =
 
 -- what a listing told is its answer
 pub told : {sub : List ℕ} {x : Rule} {budget : ℕ} {old area : List ℕ} {ending : Ending} {rows steps : ℕ} → Tells sub x budget old area ending rows steps
-    → {r : Listing} → listing_of r ≡ list_outcome ending rows steps → Lists sub x budget old area r
+    → {r : Listing} → listing_of (Ok r) ≡ list_outcome ending rows steps → Lists sub x budget old area r
 told t e = record { outcome = rw (t.is, t.holds.many) e; results = rw t.is t.holds.written }
 
 module _ {sub : List ℕ} {x : Rule} {budget : ℕ} {first area : List ℕ} {start rows steps : ℕ} (b : Between sub x budget first area start rows steps) (regs : List ℕ) where

@@ -26,9 +26,6 @@ pub fn list_starts(
     ensures { (x : Rule) → Stands code.now x entry → Lists sub.now x budget results.old results.new result }
 {
     let open = find_opening(code, entry, budget, sub.len());
-    let cost = open.cost;
-    let any = open.any;
-    let set = open.set;
     let last = sub.len() as u32;
     let mut start: u32 = 0;
     let mut rows: usize = 0;
@@ -43,7 +40,14 @@ pub fn list_starts(
                 if start == last {
                     return Listing::Complete(rows, steps + used as u64);
                 }
-                let on = pass_starts(&set, any, cost, sub, start + 1, steps + used as u64);
+                let on = pass_starts(
+                    &open.set,
+                    open.any,
+                    open.cost,
+                    sub,
+                    start + 1,
+                    steps + used as u64,
+                );
                 start = on.start;
                 steps = on.steps;
             }

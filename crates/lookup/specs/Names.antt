@@ -1,6 +1,6 @@
 -- How a name is found in a name index, whatever stands there. What a call fills it with is in `semantics`, NameIndex.
 -- docs/REFERENCE.md, 16.7
-use Rattle.std.specs.Prelude.{List, Bool, ◌&&◌, ℕ, zero, suc, ◌-◌, ◌*◌, leb, eqb, length, get_or, take, drop, if◌then◌else◌}
+use Rattle.std.specs.Prelude.{List, Bool, ◌&&◌, Option, Some, None, ℕ, zero, suc, ◌-◌, ◌*◌, leb, eqb, length, get_or, take, drop, if◌then◌else◌}
 use Rattle.syntax.specs.Limits.{group_limit, name_limit, name_entry}
 use Rattle.syntax.specs.Sets.{same_bytes}
 
@@ -32,3 +32,8 @@ first_named (suc many) name names group = if is_of name (entry_of names group) t
 -- "the first whole one of that name .. counts", of as many entries as there can be groups; 02, j): "64 entries, all of them counting in the lookup"
 unfoldable pub group_named : (name names : List ℕ) → ℕ
 group_named name names = first_named group_limit name names 1
+
+-- the same as the code answers it: 0 is none
+unfoldable pub group_at : ℕ → Option ℕ
+group_at zero = None
+group_at (suc passed) = Some (suc passed)

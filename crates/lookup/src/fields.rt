@@ -31,11 +31,10 @@ pub fn find(name: &[u8], names: &[u8], line: &[u8], kind: u32, row: &[u32]) -> F
     if !is_row(numbers, line.len()) {
         return Found::Nothing;
     }
-    let group = group_named(name, names);
-    if group == 0 {
-        return Found::Nothing;
+    match group_named(name, names) {
+        Some(group) => of_span(numbers[2 * group], numbers[2 * group + 1]),
+        None => Found::Nothing,
     }
-    of_span(numbers[2 * group], numbers[2 * group + 1])
 }
 
 // Looks a field up. It may be a part of either text, so that both are lent for the same time: a caller that is lent them names one lifetime for

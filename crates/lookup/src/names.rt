@@ -1,6 +1,6 @@
 // The name index: the group that has a name.
 ghost use Rattle.std.specs.Prelude.{◌≡◌};
-ghost use Rattle.lookup.specs.Names.{is_of, group_named};
+ghost use Rattle.lookup.specs.Names.{is_of, group_named, group_at};
 
 use check::same;
 use syntax::{NAME_ENTRY, NAME_LIMIT};
@@ -26,21 +26,19 @@ fn is_of(name: &[u8], bytes: &[u8]) -> bool
     same(&bytes[1..end], name)
 }
 
-// The group of the first entry that has a name, and 0 if none has it. Behind an entry that is not whole no other is.
-pub fn group_named(name: &[u8], names: &[u8]) -> usize
-    ensures { result ≡ group_named name.now names.now }
+// The group of the first entry that has a name. Behind an entry that is not whole no other is.
+pub fn group_named(name: &[u8], names: &[u8]) -> Option<usize>
+    ensures { result ≡ group_at (group_named name.now names.now) }
 {
-    let mut passed: usize = 0;
-    while passed < GROUPS {
+    for passed in 0..GROUPS {
         let from = passed * NAME_ENTRY;
         let to = from + NAME_ENTRY;
         if names.len() < to {
-            return 0;
+            return None;
         }
         if is_of(name, &names[from..to]) {
-            return passed + 1;
+            return Some(passed + 1);
         }
-        passed += 1;
     }
-    0
+    None
 }

@@ -34,14 +34,12 @@ fn spans_hold(row: &[u32], line: usize) -> bool
     requires { length row.now ≡ row_length }
     ensures { result ≡ spans_hold group_limit line row.now 1 }
 {
-    let mut passed: usize = 0;
-    while passed < GROUPS {
+    for passed in 0..GROUPS {
         let from = row[2 + 2 * passed];
         let to = row[3 + 2 * passed];
         if !span_holds(line, from, to) {
             return false;
         }
-        passed += 1;
     }
     true
 }

@@ -37,7 +37,6 @@ fn accept(
         }
         Verdict::Nothing(_steps) => Err(Unmade::Unfound),
         Verdict::Exhausted(_start, _steps) => Err(Unmade::Exhausted),
-        Verdict::Refused(_why) => Err(Unmade::Unfound),
     }
 }
 

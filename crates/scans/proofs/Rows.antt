@@ -1,4 +1,5 @@
 -- One search after another: the rows found so far stand in the area, and the searches from the next one on make the rest.
+use Rattle.std.specs.Prelude.{Ok}
 use mathlib.Core.Path.{◌≡◌, refl, ap, sym, subst}
 use mathlib.Core.Logic.{inl, inr}
 use mathlib.Core.List.{List, [], ◌∷◌, ◌++◌}
@@ -79,7 +80,7 @@ module _ {sub : List ℕ} {x : Rule} {budget : ℕ} {old area : List ℕ} {rows 
   pub ends-few : (regs : List ℕ) (o : Sought) → Answers regs o (search_from sub x budget from barred) → Last area rows o → length sub ≤ subject_limit → budget < 4294967296 → steps + steps_of o < 2 ^ 64
   ends-few regs o a l s b = rw (scan-ends regs o a l) at (scan-few sub x budget (room old) s b)
 
-  pub scanning-end : (regs : List ℕ) (o : Sought) → Answers regs o (search_from sub x budget from barred) → Last area rows o → {r : Listing} → listing_of r ≡ list_outcome (last_of o) rows (steps + steps_of o) → Scans sub x budget old area r
+  pub scanning-end : (regs : List ℕ) (o : Sought) → Answers regs o (search_from sub x budget from barred) → Last area rows o → {r : Listing} → listing_of (Ok r) ≡ list_outcome (last_of o) rows (steps + steps_of o) → Scans sub x budget old area r
   scanning-end regs o a l e = let s = scan-ends regs o a l in record { outcome = rw (s, g.holds.many) e; results = rw s g.holds.written }
 
   -- A row ---------------------------------------------------------------------------

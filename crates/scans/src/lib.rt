@@ -5,7 +5,7 @@
 // that it ends.
 #![tactic(auto)]
 
-ghost use Rattle.std.specs.Prelude.{◌≡◌, ◌+◌, ◌<◌, ◌^◌, length};
+ghost use Rattle.std.specs.Prelude.{◌≡◌, ◌+◌, ◌<◌, ◌^◌, Ok, length};
 ghost use Rattle.syntax.specs.Limits.{registers};
 ghost use Rattle.syntax.specs.Tree.{Rule};
 ghost use Rattle.semantics.specs.Calls.{list_outcome};
@@ -25,17 +25,13 @@ fn reset(regs: &mut [u32])
     requires { length regs.old ≡ registers }
     ensures { Clear regs.new }
 {
-    let mut i: usize = 0;
-    while i < SPANS_LENGTH {
-        regs[i] = UNSET;
-        i += 1;
-    }
+    regs[..SPANS_LENGTH].fill(UNSET);
 }
 
 // What is told behind the last row: the last search found nothing, or its budget was used up, or it found a match that has no row left.
 fn end_scan(last: Sought, rows: usize, steps: u64) -> Listing
     requires { steps + steps_of last < 2 ^ 64 }
-    ensures { listing_of result ≡ list_outcome (last_of last) rows (steps + steps_of last) }
+    ensures { listing_of (Ok result) ≡ list_outcome (last_of last) rows (steps + steps_of last) }
 {
     match last {
         Sought::Found(_start, _stop, used) => Listing::Full(rows, steps + used),
@@ -58,16 +54,13 @@ pub fn scan_searches(
     ensures { (x : Rule) → Stands code.now x entry → Scans subject.now x budget results.old results.new result }
 {
     let open = find_opening(code, entry, budget, subject.len());
-    let cost = open.cost;
-    let any = open.any;
-    let set = open.set;
     let mut from: u32 = 0;
     let mut barred = false;
     let mut rows: usize = 0;
     let mut steps: u64 = 0;
     loop {
         let found = search(
-            code, subject, regs, work, &set, any, cost, entry, budget, from, barred,
+            code, subject, regs, work, &open.set, open.any, open.cost, entry, budget, from, barred,
         );
         let Sought::Found(start, stop, used) = found else {
             return end_scan(found, rows, steps);

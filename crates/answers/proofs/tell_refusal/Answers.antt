@@ -12,4 +12,4 @@ overflow_cast-f c = omega (arith, c.requires)
 
 pub returns : goal.returns
 unfolding refusal_numbers
-returns c = c.tell.ensures ∙ ap (λ (n : ℕ). numbers 3 n c.args.f.place 0 0) c.number.ensures
+returns c = c.tell.ensures ∙ ap (λ (n : ℕ). numbers 3 n c.args.f.place 0 0) c.from.ensures

@@ -6,6 +6,7 @@ use Prim.Native.Nat.{ℕ, ◌/◌}
 use native.Mathlib.Omega.{arith}
 use lib.ListN.{length}
 use lib.Dec.{ltb}
+use Rattle.std.proofs.lemmas.Result.{err_from_is_err_and}
 use Rattle.syntax.specs.Limits.{group_limit, spans_length, row_length, part_length, rule_area_need, work_per_step}
 use Rattle.syntax.specs.Laws.Formation.{well-formed}
 use Rattle.semantics.specs.Calls.{work_area_need}
@@ -25,21 +26,21 @@ unfolding part_length row_length spans_length group_limit rule_area_need
 slice_bounds-match_lines_held-end c = let a = c.args in
     let b = c.args.buffer.now in
     let p = c.prepare.ensures (parts_need (lines_of b)) [] a.results.now refl (short_is b a.results.now c.count_lines-lines.result c.count_lines-lines.ensures) in
-    rule_area-long (is-ready p _ _ c.in-Ready.is)
+    rule_area-long (is-ready p _ c.in_ok-compiled.was)
 
-pub slice_bounds-match_lines_held-end-in-Ready : goal.slice_bounds-match_lines_held-end-in-Ready
+pub slice_bounds-match_lines_held-end-2 : goal.slice_bounds-match_lines_held-end-2
 unfolding part_length row_length spans_length group_limit rule_area_need
-slice_bounds-match_lines_held-end-in-Ready c = let a = c.args in
+slice_bounds-match_lines_held-end-2 c = let a = c.args in
     let b = c.args.buffer.now in
     let p = c.prepare.ensures (parts_need (lines_of b)) [] a.results.now refl (short_is b a.results.now c.count_lines-lines.result c.count_lines-lines.ensures) in
-    sym (readied-held (is-ready p _ _ c.in-Ready.is)).code_size
+    sym (readied-held (is-ready p _ c.in_ok-compiled.was)).code_size
 
 pub match_lines_held-requires : goal.match_lines_held-requires
 unfolding part_length row_length spans_length group_limit rule_area_need
 match_lines_held-requires c = let a = c.args in
     let b = c.args.buffer.now in
     let p = c.prepare.ensures (parts_need (lines_of b)) [] a.results.now refl (short_is b a.results.now c.count_lines-lines.result c.count_lines-lines.ensures) in
-    let q = is-ready p _ _ c.in-Ready.is in
+    let q = is-ready p _ c.in_ok-compiled.was in
     let w = rw q.reads at (well-formed a.rule.now a.flags) in
     record {
       held = (readied-held q, results-long q, w.few);
@@ -51,22 +52,23 @@ unfolding part_length row_length spans_length group_limit work_area_need work_pe
 finish-requires c = let a = c.args in
     let b = c.args.buffer.now in
     let p = c.prepare.ensures (parts_need (lines_of b)) [] a.results.now refl (short_is b a.results.now c.count_lines-lines.result c.count_lines-lines.ensures) in
-    let q = is-ready p _ _ c.in-Ready.is in
+    let q = is-ready p _ c.in_ok-compiled.was in
     (rule_area-long q, omega (arith, work_area-long q, c.match_lines_held.auto.work))
 
-pub returns-in-Refused : goal.returns-in-Refused
+pub returns-in_err-compiled : goal.returns-in_err-compiled
 unfolding part_length row_length spans_length group_limit batch_call batch_of
-returns-in-Refused c = let a = c.args in
+returns-in_err-compiled c = let a = c.args in
     let b = c.args.buffer.now in
     let p = c.prepare.ensures (parts_need (lines_of b)) [] a.results.now refl (short_is b a.results.now c.count_lines-lines.result c.count_lines-lines.ensures) in
-    denied-returns batch_refused (parts_need (lines_of b)) (batch_rule (lines_of b)) (is-denied p _ c.in-Refused.is)
+    let q = err_from_is_err_and c.from_residual.result c.from_residual.ensures.1 in
+    rw (q.1, q.2) (denied-returns batch_refused (parts_need (lines_of b)) (batch_rule (lines_of b)) (is-denied p _ c.in_err-compiled.was))
 
-pub returns-in-Ready : goal.returns-in-Ready
+pub returns : goal.returns
 unfolding part_length row_length spans_length group_limit rule_area_need batch_call batch_of
-returns-in-Ready c = let a = c.args in
+returns c = let a = c.args in
     let b = c.args.buffer.now in
     let p = c.prepare.ensures (parts_need (lines_of b)) [] a.results.now refl (short_is b a.results.now c.count_lines-lines.result c.count_lines-lines.ensures) in
     let d = call_of a.rule.now a.flags b a.budget a.rule_area.now a.work_area.now a.results.now a.names.now in
-    let q = is-ready p _ _ c.in-Ready.is in
+    let q = is-ready p _ c.in_ok-compiled.was in
     let h = c.match_lines_held in
     readied-returns batch_refused (parts_need (lines_of b)) (batch_rule (lines_of b)) (batch-clears (lines_of b) (lineless d)) q _ h.ensures.work_unchanged (batch-told (lines_of b) d q c.count_lines-lines.result c.count_lines-lines.ensures _ (h.ensures.fills q.tree q.stands)) c.finish.ensures.rule_area_after c.finish.ensures.work_area_after

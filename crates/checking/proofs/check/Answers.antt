@@ -1,6 +1,7 @@
 -- `check` meets its contract: a call is refused as it is prepared, also for what a check cannot follow; or its inside checks the rule that stands, and its areas are
 -- cleared.
 use mathlib.Core.Path.{refl, sym}
+use Rattle.std.proofs.lemmas.Result.{err_from_is_err_and}
 use Rattle.syntax.specs.Limits.{rule_area_need, work_per_step, row_length}
 use Rattle.semantics.specs.Calls.{work_area_need}
 use Rattle.semantics.specs.Checks.{check_refused, check_rule, check_call}
@@ -14,36 +15,37 @@ pub slice_bounds-check_held-end : goal.slice_bounds-check_held-end
 unfolding rule_area_need row_length
 slice_bounds-check_held-end c = let a = c.args in
     let p = c.prepare.ensures row_length a.subject.now a.results.now refl refl in
-    rule_area-long (is-ready p _ _ c.in-Ready.is)
+    rule_area-long (is-ready p _ c.in_ok-compiled.was)
 
-pub slice_bounds-check_held-end-in-Ready : goal.slice_bounds-check_held-end-in-Ready
+pub slice_bounds-check_held-end-2 : goal.slice_bounds-check_held-end-2
 unfolding rule_area_need row_length
-slice_bounds-check_held-end-in-Ready c = let a = c.args in
+slice_bounds-check_held-end-2 c = let a = c.args in
     let p = c.prepare.ensures row_length a.subject.now a.results.now refl refl in
-    sym (readied-held (is-ready p _ _ c.in-Ready.is)).code_size
+    sym (readied-held (is-ready p _ c.in_ok-compiled.was)).code_size
 
 pub check_held-told-requires : goal.check_held-told-requires
 unfolding rule_area_need row_length
 check_held-told-requires c = let a = c.args in
-    let p = is-ready (c.prepare.ensures row_length a.subject.now a.results.now refl refl) _ _ c.in-Ready.is in
+    let p = is-ready (c.prepare.ensures row_length a.subject.now a.results.now refl refl) _ c.in_ok-compiled.was in
     ((p.tree, p.stands), (readied-held p).subject_fits, results-long p)
 
 pub finish-requires : goal.finish-requires
 unfolding row_length work_area_need work_per_step
 finish-requires c = let a = c.args in
-    let p = is-ready (c.prepare.ensures row_length a.subject.now a.results.now refl refl) _ _ c.in-Ready.is in
+    let p = is-ready (c.prepare.ensures row_length a.subject.now a.results.now refl refl) _ c.in_ok-compiled.was in
     (rule_area-long p, work_area-long p)
 
-pub returns-in-Refused : goal.returns-in-Refused
+pub returns-in_err-compiled : goal.returns-in_err-compiled
 unfolding row_length check_call verdict_of
-returns-in-Refused c = let a = c.args in
+returns-in_err-compiled c = let a = c.args in
     let p = c.prepare.ensures row_length a.subject.now a.results.now refl refl in
     let d = call_of a.rule.now a.flags a.subject.now a.budget a.rule_area.now a.work_area.now a.results.now a.names.now in
-    denied-as check_refused row_length (check_rule a.proposal.now) (λ x _ e. check-declines a.proposal.now d x _ _ e) (is-denied p _ c.in-Refused.is)
+    let q = err_from_is_err_and c.from_residual.result c.from_residual.ensures.1 in
+    rw (q.1, q.2) (denied-as check_refused row_length (check_rule a.proposal.now) (λ x _ e. check-declines a.proposal.now d x _ _ e) (is-denied p _ c.in_err-compiled.was))
 
-pub returns-in-Ready : goal.returns-in-Ready
+pub returns : goal.returns
 unfolding rule_area_need row_length check_call
-returns-in-Ready c = let a = c.args in
+returns c = let a = c.args in
     let d = call_of a.rule.now a.flags a.subject.now a.budget a.rule_area.now a.work_area.now a.results.now a.names.now in
-    let p = is-ready (c.prepare.ensures row_length a.subject.now a.results.now refl refl) _ _ c.in-Ready.is in
+    let p = is-ready (c.prepare.ensures row_length a.subject.now a.results.now refl refl) _ c.in_ok-compiled.was in
     readied-as check_refused row_length (check_rule a.proposal.now) p (check-clears a.proposal.now d p.tree (p.followed refl)) _ refl (reports-told a.proposal.now d p.tree (p.followed refl) _ _ (c.check_held-told.ensures p.tree p.stands)) c.finish.ensures.rule_area_after c.finish.ensures.work_area_after

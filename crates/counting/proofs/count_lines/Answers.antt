@@ -16,22 +16,22 @@ unfolding newlines
 loop-i-init c = (omega arith, omega arith, refl)
 
 pub count_block-requires : goal.count_block-requires
-count_block-requires c = (omega (arith, c.block_size-size.ensures.1), c.block_size-size.ensures.2)
+count_block-requires c = (omega (arith, c.min-size.ensures), omega (arith, c.min-size.ensures))
 
 pub overflow_add-lines : goal.overflow_add-lines
-overflow_add-lines c = omega (arith, c.loop-i.invariant.1, c.block_size-size.ensures.1, c.count_block.ensures.0)
+overflow_add-lines c = omega (arith, c.loop-i.invariant.1, c.min-size.ensures, c.count_block.ensures.0)
 
 pub overflow_add-i : goal.overflow_add-i
-overflow_add-i c = omega (arith, c.loop-i.invariant.0, c.block_size-size.ensures.1)
+overflow_add-i c = omega (arith, c.loop-i.invariant.0, c.min-size.ensures)
 
 pub loop-i-smaller : goal.loop-i-smaller
-loop-i-smaller c = omega (arith, c.block_size-size.ensures.0, c.loop-i-test.true)
+loop-i-smaller c = omega (arith, c.min-size.ensures, c.loop-i-test.true)
 
 pub loop-i-preserved : goal.loop-i-preserved
 loop-i-preserved c = let l = c.loop-i in
-    let s = c.block_size-size in
+    let s = c.min-size in
     let n = c.count_block in
-    (omega (arith, s.ensures.1, c.loop-i-test.true), omega (arith, l.invariant.1, n.ensures.0), counts-block c.args.buffer.now l.i s.result l.lines n.result l.invariant.2 n.ensures.1)
+    (omega (arith, s.ensures, c.loop-i-test.true), omega (arith, l.invariant.1, n.ensures.0), counts-block c.args.buffer.now l.i s.result l.lines n.result l.invariant.2 n.ensures.1)
 
 pub returns : goal.returns
 returns c = let l = c.loop-i in

@@ -35,8 +35,5 @@ returns-in-Exhausted c = record {
   work_unchanged = c.match_held.ensures.work_unchanged;
 }
 
-pub returns-in-Refused : goal.returns-in-Refused
-returns-in-Refused c = record {
-  explains = λ x st. absurd (never-refused _ _ _ _ (c.match_held.ensures.finds x st) _ c.in-Refused.is);
-  work_unchanged = c.match_held.ensures.work_unchanged;
-}
+pub unreachable-in-Refused : goal.unreachable-in-Refused
+unreachable-in-Refused c = never-refused _ _ _ _ (c.match_held.ensures.finds c.requires.tree c.requires.stands) _ c.in-Refused.is

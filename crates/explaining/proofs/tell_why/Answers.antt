@@ -20,7 +20,7 @@ unfolding work_area_need work_per_step
 slice_bounds-find_failures-end-3 c = sym (length-take-le (work_area_need c.args.budget) c.args.work.now c.requires.held.work_fits)
 
 pub slice_bounds-find_failures-end-5 : goal.slice_bounds-find_failures-end-5
-slice_bounds-find_failures-end-5 c = sym (length-take-le c.markable-many.result c.args.marks.now (omega (arith, c.markable-many.ensures)))
+slice_bounds-find_failures-end-5 c = sym (length-take-le c.min-many.result c.args.marks.now (omega (arith, c.min-many.ensures)))
 
 pub find_failures-best-requires : goal.find_failures-best-requires
 unfolding unset registers work_area_need work_per_step subject_limit rule_area_need budget_limit
@@ -34,7 +34,7 @@ find_failures-best-requires c = let h = c.requires.held in
 
 pub returns : goal.returns
 unfolding work_area_need work_per_step
-returns c = let k = c.markable-many in
+returns c = let k = c.min-many in
     let m = c.find_failures-best in record {
       explains = λ x st.
           (let f = m.ensures x st in

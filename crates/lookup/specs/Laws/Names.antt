@@ -1,5 +1,5 @@
 -- The search through a name index, one entry after another.
-use Rattle.std.specs.Prelude.{◌≡◌, List, ◌∷◌, ◌++◌, Bool, length, get_or, take, drop, if◌then◌else◌}
+use Rattle.std.specs.Prelude.{◌≡◌, List, ◌∷◌, ◌++◌, Bool, Some, None, length, get_or, take, drop, if◌then◌else◌}
 use Rattle.std.proofs.Math.Path.{refl, sym, ap}
 use Rattle.std.proofs.Common.{◌∙◌, eq-eqb, ne_eqb, le-leb, length-append}
 use Rattle.std.proofs.Math.Logic.{inl, inr}
@@ -12,7 +12,7 @@ use Rattle.syntax.specs.Limits.{group_limit, name_limit, name_entry}
 use Rattle.syntax.specs.Sets.{same_bytes}
 use Rattle.semantics.proofs.Laws.Cases.{clash, bool, same_or}
 use Rattle.index.specs.Laws.Known.{same_self, same-equal}
-use Rattle.lookup.specs.Names.{entry_of, is_whole, name_length, name_in, is_of, first_named, group_named}
+use Rattle.lookup.specs.Names.{entry_of, is_whole, name_length, name_in, is_of, first_named, group_named, group_at}
 
 -- a comparison that says of two byte strings whether they are equal
 pub same-told : (told : Bool) (a b : List ℕ) → (told ≡ true → a ≡ b) → (a ≡ b → told ≡ true) → told ≡ same_bytes a b
@@ -76,6 +76,26 @@ module _ (name names : List ℕ) where
   pub named-within : group_named name names ≤ group_limit
   unfolding group_named
   named-within = omega (arith, named-below group_limit 1 (omega arith))
+
+-- As the code answers it ---------------------------------------------------------
+
+pub at_none : {n : ℕ} → 0 ≡ n → None ≡ group_at n
+unfolding group_at
+at_none e = rw (sym e) refl
+
+pub at_some : {passed n : ℕ} → suc passed ≡ n → Some (suc passed) ≡ group_at n
+unfolding group_at
+at_some e = rw (sym e) refl
+
+pub is_none : (n : ℕ) → None ≡ group_at n → n ≡ 0
+unfolding group_at
+is_none zero e = refl
+is_none (suc n) e = absurd (clash (cc e))
+
+pub is_some : (n group : ℕ) → Some group ≡ group_at n → (group ≡ n) × (group ≡ 0 → ⊥)
+unfolding group_at
+is_some zero group e = absurd (clash (cc e))
+is_some (suc n) group e = let same : group ≡ suc n = cc e in (same, λ z. omega (arith, same, z))
 
 -- What is found ----------------------------------------------------------------
 

@@ -13,35 +13,35 @@ pub slice_bounds-match_held-end : goal.slice_bounds-match_held-end
 unfolding rule_area_need row_length
 slice_bounds-match_held-end c = let a = c.args in
     let p = c.prepare.ensures row_length a.subject.now a.results.now refl refl in
-    rule_area-long (is-ready p _ _ c.in-Ready.is)
+    rule_area-long (is-ready p _ c.in-Ok.is)
 
-pub slice_bounds-match_held-end-in-Ready : goal.slice_bounds-match_held-end-in-Ready
+pub slice_bounds-match_held-end-in-Ok : goal.slice_bounds-match_held-end-in-Ok
 unfolding rule_area_need row_length
-slice_bounds-match_held-end-in-Ready c = let a = c.args in
+slice_bounds-match_held-end-in-Ok c = let a = c.args in
     let p = c.prepare.ensures row_length a.subject.now a.results.now refl refl in
-    sym (readied-held (is-ready p _ _ c.in-Ready.is)).code_size
+    sym (readied-held (is-ready p _ c.in-Ok.is)).code_size
 
 pub match_held-told-requires : goal.match_held-told-requires
 unfolding rule_area_need row_length
 match_held-told-requires c = let a = c.args in
-    let p = is-ready (c.prepare.ensures row_length a.subject.now a.results.now refl refl) _ _ c.in-Ready.is in
+    let p = is-ready (c.prepare.ensures row_length a.subject.now a.results.now refl refl) _ c.in-Ok.is in
     (readied-held p, results-long p)
 
 pub finish-requires : goal.finish-requires
 unfolding row_length work_area_need work_per_step
 finish-requires c = let a = c.args in
-    let p = is-ready (c.prepare.ensures row_length a.subject.now a.results.now refl refl) _ _ c.in-Ready.is in
+    let p = is-ready (c.prepare.ensures row_length a.subject.now a.results.now refl refl) _ c.in-Ok.is in
     (rule_area-long p, omega (arith, work_area-long p, c.match_held-told.auto.work))
 
-pub returns-in-Refused : goal.returns-in-Refused
+pub returns-in-Err : goal.returns-in-Err
 unfolding row_length match_call outcome_of
-returns-in-Refused c = let a = c.args in
+returns-in-Err c = let a = c.args in
     let p = c.prepare.ensures row_length a.subject.now a.results.now refl refl in
-    denied-returns match_refused row_length match_rule (is-denied p _ c.in-Refused.is)
+    denied-returns match_refused row_length match_rule (is-denied p _ c.in-Err.is)
 
-pub returns-in-Ready : goal.returns-in-Ready
+pub returns-in-Ok : goal.returns-in-Ok
 unfolding rule_area_need row_length match_call
-returns-in-Ready c = let a = c.args in
+returns-in-Ok c = let a = c.args in
     let d = call_of a.rule.now a.flags a.subject.now a.budget a.rule_area.now a.work_area.now a.results.now a.names.now in
-    let p = is-ready (c.prepare.ensures row_length a.subject.now a.results.now refl refl) _ _ c.in-Ready.is in
+    let p = is-ready (c.prepare.ensures row_length a.subject.now a.results.now refl refl) _ c.in-Ok.is in
     readied-returns match_refused row_length match_rule (match-clears d) p _ c.match_held-told.ensures.work_unchanged (reports-told d p.tree _ _ (c.match_held-told.ensures.finds p.tree p.stands)) c.finish.ensures.rule_area_after c.finish.ensures.work_area_after

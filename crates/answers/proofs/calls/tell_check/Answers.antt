@@ -4,7 +4,7 @@ use Rattle.answers.specs.Laws.{of-a-reading, of-no-reading, of-overdrawn, of-unc
 use Rattle.answers.proofs.calls.tell_check.Goals as goal
 
 pub tell_refusal-requires : goal.tell_refusal-requires
-tell_refusal-requires c = check-place _ _ c.in-Refused.is c.requires
+tell_refusal-requires c = check-place _ _ c.in-Err.is c.requires
 
 pub returns-in-Reading : goal.returns-in-Reading
 returns-in-Reading c = c.tell.ensures ∙ of-a-reading _ _ c.in-Reading.is
@@ -15,5 +15,5 @@ returns-in-Nothing c = c.tell-in-Nothing.ensures ∙ of-no-reading _ _ c.in-Noth
 pub returns-in-Exhausted : goal.returns-in-Exhausted
 returns-in-Exhausted c = c.tell-in-Exhausted.ensures ∙ of-overdrawn _ _ _ c.in-Exhausted.is
 
-pub returns-in-Refused : goal.returns-in-Refused
-returns-in-Refused c = c.tell_refusal.ensures ∙ of-unchecked _ _ c.in-Refused.is
+pub returns-in-Err : goal.returns-in-Err
+returns-in-Err c = c.tell_refusal.ensures ∙ of-unchecked _ _ c.in-Err.is

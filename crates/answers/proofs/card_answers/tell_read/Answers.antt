@@ -4,12 +4,12 @@ use Rattle.syntax.specs.Limits.{rule_limit}
 use Rattle.answers.specs.CardLaws.{read-place, of-held, of-unread}
 use Rattle.answers.proofs.card_answers.tell_read.Goals as goal
 
-pub overflow_cast-place : goal.overflow_cast-place
+pub overflow_cast-f : goal.overflow_cast-f
 unfolding rule_limit
-overflow_cast-place c = omega (arith, read-place _ _ c.in-Refused.is c.requires)
+overflow_cast-f c = omega (arith, read-place _ _ c.in-Err.is c.requires)
 
-pub returns-in-Holds : goal.returns-in-Holds
-returns-in-Holds c = of-held _ _ _ _ _ _ c.in-Holds.is c.low_half-length.ensures
+pub returns-in-Ok : goal.returns-in-Ok
+returns-in-Ok c = of-held _ _ _ c.in-Ok.is c.low_half-length.ensures
 
-pub returns-in-Refused : goal.returns-in-Refused
-returns-in-Refused c = of-unread _ _ _ c.in-Refused.is c.number-number.ensures
+pub returns-in-Err : goal.returns-in-Err
+returns-in-Err c = of-unread _ _ _ c.in-Err.is c.from-number.ensures

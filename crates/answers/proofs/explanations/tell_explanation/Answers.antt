@@ -7,7 +7,7 @@ use Rattle.answers.proofs.explanations.tell_explanation.Goals as goal
 
 pub overflow_cast-f : goal.overflow_cast-f
 unfolding rule_limit
-overflow_cast-f c = omega (arith, explain-place _ _ c.in-Refused.is c.requires)
+overflow_cast-f c = omega (arith, explain-place _ _ c.in-Err.is c.requires)
 
 pub returns-in-Matched : goal.returns-in-Matched
 returns-in-Matched c = c.tell_no_failure.ensures ∙ of-fitting _ _ c.in-Matched.is
@@ -18,5 +18,5 @@ returns-in-NotMatched c = c.tell_failures.ensures ∙ of-unfitting _ _ _ _ c.in-
 pub returns-in-Exhausted : goal.returns-in-Exhausted
 returns-in-Exhausted c = c.tell_no_failure-in-Exhausted.ensures ∙ of-ended _ _ _ c.in-Exhausted.is
 
-pub returns-in-Refused : goal.returns-in-Refused
-returns-in-Refused c = c.tell_no_failure-in-Refused.ensures ∙ of-declined _ _ _ c.in-Refused.is c.number-number.ensures
+pub returns-in-Err : goal.returns-in-Err
+returns-in-Err c = c.tell_no_failure-in-Err.ensures ∙ of-declined _ _ _ c.in-Err.is c.from-number.ensures

@@ -16,7 +16,7 @@ unfolding subject_limit outcome_of
 returns-then-to-from-gt-SUBJECT_LIMIT c = let a = c.args in
     let size = between-length a.buffer.now a.from a.to c.requires.2 c.requires.3 in
     record {
-      answers = λ x st. long-told x (between a.buffer.now a.from a.to) a.budget a.row.now (omega (arith, c.if-to-from-gt-SUBJECT_LIMIT.true));
+      answers = λ x st. rw c.at.ensures (long-told x (between a.buffer.now a.from a.to) a.budget a.row.now (omega (arith, c.if-to-from-gt-SUBJECT_LIMIT.true)));
       work_unchanged = refl;
       keeps = λ x st p few. c.requires.6;
     }

@@ -36,4 +36,4 @@ pub returns-in-Exhausted : goal.returns-in-Exhausted
 returns-in-Exhausted c = c.put-in-Exhausted.ensures ∙ of-exhausted _ _ _ c.in-Exhausted.is
 
 pub returns-in-Refused : goal.returns-in-Refused
-returns-in-Refused c = c.put-in-Refused.ensures ∙ of-refused _ _ _ c.in-Refused.is c.number.ensures
+returns-in-Refused c = c.put-in-Refused.ensures ∙ of-refused _ _ _ c.in-Refused.is c.from.ensures

@@ -18,8 +18,8 @@ pub overflow_add-total : goal.overflow_add-total
 unfolding rule_limit text_end pieces_for
 overflow_add-total c = omega (arith, c.requires.0.rule_fits)
 
-pub card_byte-b-requires : goal.card_byte-b-requires
-card_byte-b-requires c = let a = c.args in
+pub card_byte-requires : goal.card_byte-requires
+card_byte-requires c = let a = c.args in
     (c.requires.0, omega (arith, c.text_end-total.ensures, written-long (card_of a.rule.now a.flags a.budget a.groups)))
 
 pub bounds-area-i : goal.bounds-area-i
@@ -27,17 +27,13 @@ bounds-area-i c = let a = c.args in
     let k = card_of a.rule.now a.flags a.budget a.groups in
     omega (arith, c.text_end-total.ensures, written-long k, written-fits k c.requires.0.rule_fits, c.requires.1, c.loop-i.invariant.1)
 
-pub overflow_add-i : goal.overflow_add-i
-unfolding rule_limit text_end pieces_for
-overflow_add-i c = omega (arith, c.requires.0.rule_fits)
-
 pub loop-i-preserved : goal.loop-i-preserved
 loop-i-preserved c = let a = c.args in
     let k = card_of a.rule.now a.flags a.budget a.groups in
     let l = c.loop-i in (
       omega arith,
       simp length-set l.invariant.1,
-      filled_more (written k) a.area.now l.area l.i _ (omega (arith, c.text_end-total.ensures, written-long k)) (omega (arith, written-fits k c.requires.0.rule_fits, c.requires.1)) l.invariant.2 c.card_byte-b.ensures,
+      filled_more (written k) a.area.now l.area l.i _ (omega (arith, c.text_end-total.ensures, written-long k)) (omega (arith, written-fits k c.requires.0.rule_fits, c.requires.1)) l.invariant.2 c.card_byte.ensures,
     )
 
 pub shape_of-area : goal.shape_of-area

@@ -1,5 +1,5 @@
 use mathlib.Core.Path.{◌≡◌}
-use Prim.Native.Nat.{◌-◌, ◌≤◌}
+use Prim.Native.Nat.{◌≤◌}
 use lib.ListN.{length}
 use Rattle.card_format.specs.Cards.{Card, written}
 use Rattle.card_format.proofs.Laws.Filling.{filled}
@@ -7,6 +7,3 @@ use Rattle.cards.proofs.reading.gather.Given as goal
 
 abbrev pub invariant-loop-i : goal.invariant-loop-i
 invariant-loop-i l = (l.i ≤ l.size) × (length l.area ≡ length l.initial.area) × ((k : Card) → l.card ≡ written k → length k.rule ≡ l.size → l.area ≡ filled k.rule l.initial.area l.i)
-
-abbrev pub decreases-loop-i : goal.decreases-loop-i
-decreases-loop-i l = l.size - l.i

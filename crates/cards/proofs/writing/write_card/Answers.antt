@@ -8,14 +8,14 @@ use Rattle.cards.proofs.writing.write_card.Goals as goal
 pub returns-then-area-lt-CARD_NEED : goal.returns-then-area-lt-CARD_NEED
 unfolding written_of card_need pieces_for rule_limit
 returns-then-area-lt-CARD_NEED c = let a = c.args in
-    write_short a.rule.now a.flags a.budget a.rule_area.now a.area.now c.if-area-lt-CARD_NEED.true
+    rw c.at.ensures (write_short a.rule.now a.flags a.budget a.rule_area.now a.area.now c.if-area-lt-CARD_NEED.true)
 
 pub write_fitting-requires : goal.write_fitting-requires
 unfolding card_need pieces_for rule_limit
 write_fitting-requires c = let a = c.args in
-    (is-fit a.rule.now a.flags a.budget a.rule_area.now _ c.unfit.ensures c.in-Fits.is, c.if-area-lt-CARD_NEED.false)
+    (is-fit a.rule.now a.flags a.budget a.rule_area.now _ c.unfit.ensures _ c.in-Ok.is, c.if-area-lt-CARD_NEED.false)
 
-pub returns-in-Unfit : goal.returns-in-Unfit
+pub returns-in-Err : goal.returns-in-Err
 unfolding written_of card_need pieces_for rule_limit
-returns-in-Unfit c = let a = c.args in
-    write-unfit a.rule.now a.flags a.budget a.rule_area.now a.area.now c.if-area-lt-CARD_NEED.false _ (is-unfit _ _ c.unfit.ensures _ c.in-Unfit.is)
+returns-in-Err c = let a = c.args in
+    rw c.at-in-Err.ensures (write-unfit a.rule.now a.flags a.budget a.rule_area.now a.area.now c.if-area-lt-CARD_NEED.false _ (is-unfit _ _ c.unfit.ensures _ c.in-Err.is))

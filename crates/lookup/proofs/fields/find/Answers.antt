@@ -6,7 +6,7 @@ use lib.ListN.{take, length-take}
 use lib.Seq.{length-take-le}
 use Rattle.syntax.specs.Limits.{group_limit, row_length}
 use Rattle.lookup.specs.Lookup.{of_group}
-use Rattle.lookup.specs.Laws.Names.{named-within}
+use Rattle.lookup.specs.Laws.Names.{named-within, is_none, is_some}
 use Rattle.lookup.specs.Laws.Lookup.{not-matched, short_row, no_row, by-group, unknown, span-found}
 use Rattle.lookup.proofs.fields.find.Goals as goal
 
@@ -27,45 +27,45 @@ unfolding row_length
 returns-then-not-is_row c = let a = c.args in
     sym (no_row a.name.now a.names.now a.line.now a.kind a.row.now c.if-kind-ne0.false (sym c.is_row.ensures ∙ c.if-not-is_row.true))
 
-pub returns-then-group-eq0 : goal.returns-then-group-eq0
+pub returns-in-None : goal.returns-in-None
 unfolding row_length
-returns-then-group-eq0 c = let a = c.args in
+returns-in-None c = let a = c.args in
     let row = take row_length a.row.now in
-    sym (by-group a.name.now a.names.now a.line.now a.kind a.row.now c.if-kind-ne0.false (sym c.is_row.ensures ∙ c.if-not-is_row.false) ∙ unknown _ row (sym c.group_named-group.ensures ∙ c.if-group-eq0.true))
+    sym (by-group a.name.now a.names.now a.line.now a.kind a.row.now c.if-kind-ne0.false (sym c.is_row.ensures ∙ c.if-not-is_row.false) ∙ unknown _ row (is_none _ (sym c.in-None.is ∙ c.group_named.ensures)))
 
 pub overflow_mul-group : goal.overflow_mul-group
 unfolding group_limit
-overflow_mul-group c = omega (arith, named-within c.args.name.now c.args.names.now, c.group_named-group.ensures)
+overflow_mul-group c = omega (arith, named-within c.args.name.now c.args.names.now, (is_some _ _ (sym c.in-Some.is ∙ c.group_named.ensures)).0)
 
 pub offset_bounds-numbers-group : goal.offset_bounds-numbers-group
 unfolding group_limit
-offset_bounds-numbers-group c = omega (arith, named-within c.args.name.now c.args.names.now, c.group_named-group.ensures)
+offset_bounds-numbers-group c = omega (arith, named-within c.args.name.now c.args.names.now, (is_some _ _ (sym c.in-Some.is ∙ c.group_named.ensures)).0)
 
 pub bounds-numbers-group : goal.bounds-numbers-group
 unfolding group_limit row_length
 bounds-numbers-group c = let a = c.args in
-    omega (arith, named-within a.name.now a.names.now, c.group_named-group.ensures, length-take-le row_length a.row.now c.if-row-lt-ROW_LENGTH.false)
+    omega (arith, named-within a.name.now a.names.now, (is_some _ _ (sym c.in-Some.is ∙ c.group_named.ensures)).0, length-take-le row_length a.row.now c.if-row-lt-ROW_LENGTH.false)
 
 pub overflow_mul-group-2 : goal.overflow_mul-group-2
 unfolding group_limit
-overflow_mul-group-2 c = omega (arith, named-within c.args.name.now c.args.names.now, c.group_named-group.ensures)
+overflow_mul-group-2 c = omega (arith, named-within c.args.name.now c.args.names.now, (is_some _ _ (sym c.in-Some.is ∙ c.group_named.ensures)).0)
 
 pub overflow_add-group : goal.overflow_add-group
 unfolding group_limit
-overflow_add-group c = omega (arith, named-within c.args.name.now c.args.names.now, c.group_named-group.ensures)
+overflow_add-group c = omega (arith, named-within c.args.name.now c.args.names.now, (is_some _ _ (sym c.in-Some.is ∙ c.group_named.ensures)).0)
 
 pub offset_bounds-numbers-group-2 : goal.offset_bounds-numbers-group-2
 unfolding group_limit
-offset_bounds-numbers-group-2 c = omega (arith, named-within c.args.name.now c.args.names.now, c.group_named-group.ensures)
+offset_bounds-numbers-group-2 c = omega (arith, named-within c.args.name.now c.args.names.now, (is_some _ _ (sym c.in-Some.is ∙ c.group_named.ensures)).0)
 
 pub bounds-numbers-group-2 : goal.bounds-numbers-group-2
 unfolding group_limit row_length
 bounds-numbers-group-2 c = let a = c.args in
-    omega (arith, named-within a.name.now a.names.now, c.group_named-group.ensures, length-take-le row_length a.row.now c.if-row-lt-ROW_LENGTH.false)
+    omega (arith, named-within a.name.now a.names.now, (is_some _ _ (sym c.in-Some.is ∙ c.group_named.ensures)).0, length-take-le row_length a.row.now c.if-row-lt-ROW_LENGTH.false)
 
-pub returns : goal.returns
+pub returns-in-Some : goal.returns-in-Some
 unfolding row_length
-returns c = let a = c.args in
+returns-in-Some c = let a = c.args in
     let row = take row_length a.row.now in
-    let group = c.group_named-group.ensures in
-    c.of_span.ensures ∙ sym (by-group a.name.now a.names.now a.line.now a.kind a.row.now c.if-kind-ne0.false (sym c.is_row.ensures ∙ c.if-not-is_row.false) ∙ ap (λ (g : ℕ). of_group g row) (sym group) ∙ span-found _ row c.if-group-eq0.false)
+    let group = (is_some _ _ (sym c.in-Some.is ∙ c.group_named.ensures)).0 in
+    c.of_span.ensures ∙ sym (by-group a.name.now a.names.now a.line.now a.kind a.row.now c.if-kind-ne0.false (sym c.is_row.ensures ∙ c.if-not-is_row.false) ∙ ap (λ (g : ℕ). of_group g row) (sym group) ∙ span-found _ row (is_some _ _ (sym c.in-Some.is ∙ c.group_named.ensures)).1)

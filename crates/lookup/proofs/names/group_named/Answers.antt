@@ -6,7 +6,7 @@ use native.Mathlib.Numerals.{add-one}
 use lib.ListN.{length}
 use Rattle.syntax.specs.Limits.{group_limit, name_limit, name_entry}
 use Rattle.lookup.specs.Names.{group_named}
-use Rattle.lookup.specs.Laws.Names.{entry-told, named_here, named-on, named_none, named-all}
+use Rattle.lookup.specs.Laws.Names.{entry-told, named_here, named-on, named_none, named-all, at_none, at_some}
 use Rattle.lookup.proofs.names.group_named.Goals as goal
 
 pub loop-passed-init : goal.loop-passed-init
@@ -17,13 +17,13 @@ pub returns-then-names-to : goal.returns-then-names-to
 unfolding name_entry name_limit
 returns-then-names-to c = let a = c.args in
     let short : length a.names.now < name_entry * suc c.loop-passed.passed = omega arith in
-    sym (c.loop-passed.invariant.1 ∙ named_none a.name.now a.names.now (group_limit - c.loop-passed.passed) (suc c.loop-passed.passed) (omega arith) short)
+    at_none (sym (c.loop-passed.invariant.1 ∙ named_none a.name.now a.names.now (group_limit - c.loop-passed.passed) (suc c.loop-passed.passed) (omega arith) short))
 
 pub returns-then-is_of : goal.returns-then-is_of
 unfolding group_limit name_entry name_limit
 returns-then-is_of c = let a = c.args in
     let known = entry-told a.name.now a.names.now c.loop-passed.passed _ c.is_of.ensures ∙ c.if-is_of.true in
-    rw (add-one c.loop-passed.passed) (sym (c.loop-passed.invariant.1 ∙ named_here a.name.now a.names.now group_limit c.loop-passed.passed (omega arith) known))
+    rw (add-one c.loop-passed.passed) (at_some (sym (c.loop-passed.invariant.1 ∙ named_here a.name.now a.names.now group_limit c.loop-passed.passed (omega arith) known)))
 
 pub loop-passed-smaller : goal.loop-passed-smaller
 unfolding group_limit
@@ -38,4 +38,4 @@ loop-passed-preserved c = let a = c.args in
 pub returns : goal.returns
 unfolding group_limit
 returns c = let a = c.args in
-    sym (c.loop-passed.invariant.1 ∙ named-all a.name.now a.names.now group_limit c.loop-passed.passed (omega arith))
+    at_none (sym (c.loop-passed.invariant.1 ∙ named-all a.name.now a.names.now group_limit c.loop-passed.passed (omega arith)))

@@ -6,6 +6,3 @@ use Rattle.lookup.proofs.names.group_named.Given as goal
 
 abbrev pub invariant-loop-passed : goal.invariant-loop-passed
 invariant-loop-passed l = (l.passed ≤ group_limit) × (group_named l.name l.names ≡ first_named (group_limit - l.passed) l.name l.names (suc l.passed))
-
-abbrev pub decreases-loop-passed : goal.decreases-loop-passed
-decreases-loop-passed l = group_limit - l.passed

@@ -48,10 +48,6 @@ returns-then-not-span_holds c = let row = c.args.row.now in
     let known = span-told _ row c.loop-passed.passed _ c.span_holds.ensures ∙ c.if-not-span_holds.true in
     sym (c.loop-passed.invariant.1 ∙ spans-broken _ row group_limit c.loop-passed.passed (omega arith) known)
 
-pub overflow_add-passed : goal.overflow_add-passed
-unfolding group_limit
-overflow_add-passed c = omega arith
-
 pub loop-passed-smaller : goal.loop-passed-smaller
 unfolding group_limit
 loop-passed-smaller c = omega arith

@@ -6,6 +6,3 @@ use Rattle.lookup.proofs.rows.spans_hold.Given as goal
 
 abbrev pub invariant-loop-passed : goal.invariant-loop-passed
 invariant-loop-passed l = (l.passed ≤ group_limit) × (spans_hold group_limit l.line l.row 1 ≡ spans_hold (group_limit - l.passed) l.line l.row (suc l.passed))
-
-abbrev pub decreases-loop-passed : goal.decreases-loop-passed
-decreases-loop-passed l = group_limit - l.passed
