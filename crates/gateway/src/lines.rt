@@ -104,7 +104,16 @@ pub(crate) fn answer_input<R: Read>(
     let mut have: usize = 0;
     for _ in 0..u64::MAX {
         let Some(n) = hear(rt, input, piece) else {
-            return end_input(rt, code, entry, groups, &line[..have], work_area, results, out);
+            return end_input(
+                rt,
+                code,
+                entry,
+                groups,
+                &line[..have],
+                work_area,
+                results,
+                out,
+            );
         };
         have = answer_piece(
             rt,

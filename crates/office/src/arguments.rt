@@ -1,4 +1,5 @@
 // What the program is started with. An argument need not be UTF-8.
+ghost use Rattle.std.specs.Prelude.{◌≤◌, IfSome};
 ghost use Rattle.io.specs.Counts.{IsPrefixLen};
 
 use std::env::{Env, FillError};
@@ -22,7 +23,9 @@ pub fn arg(rt: &HostRuntime, i: usize, buffer: &mut [u8]) -> usize
 }
 
 // The decimal number that a text is, if it is one and at most a limit.
-pub fn decimal(text: &[u8], limit: u32) -> Option<u32> {
+pub fn decimal(text: &[u8], limit: u32) -> Option<u32>
+    ensures { IfSome result (λ n. n ≤ limit) }
+{
     if text.is_empty() {
         return None;
     }
@@ -78,7 +81,9 @@ pub fn flags_at(rt: &HostRuntime, argument: usize) -> Option<u32> {
 }
 
 // The budget that an argument stands for; where it is missing, the largest.
-pub fn budget_at(rt: &HostRuntime, argument: usize, largest: u32) -> Option<u32> {
+pub fn budget_at(rt: &HostRuntime, argument: usize, largest: u32) -> Option<u32>
+    ensures { IfSome result (λ n. n ≤ largest) }
+{
     let mut text = io::buffer();
     match rt.arg(argument, &mut text) {
         Ok(n) => decimal(&text[..n], largest),

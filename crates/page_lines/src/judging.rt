@@ -10,7 +10,11 @@ use listing::{Listing, list_held};
 
 // The program that writes the page.
 pub(crate) fn program(table: Option<Table<'_>>) -> &'static str {
-    if table.is_some() { "fields" } else { "readings" }
+    if table.is_some() {
+        "fields"
+    } else {
+        "readings"
+    }
 }
 
 // The word for a line by the listing of all its readings, as the report has it.
@@ -68,13 +72,7 @@ pub(crate) fn judge<'a>(
         return word_by_fields(job, table, line, work, results);
     }
     let listing = list_held(
-        job.area,
-        job.entry,
-        job.groups,
-        line,
-        job.budget,
-        work,
-        results,
+        job.area, job.entry, job.groups, line, job.budget, work, results,
     );
     word_of(listing)
 }

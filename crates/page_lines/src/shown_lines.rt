@@ -68,13 +68,7 @@ fn show_read(
     requires line_len_bound { length line.now ≤ 65535 }
 {
     let listing = list_held(
-        job.area,
-        job.entry,
-        job.groups,
-        line,
-        job.budget,
-        work,
-        results,
+        job.area, job.entry, job.groups, line, job.budget, work, results,
     );
     show_listing(rt, out, at, job.names, line, results, listing)
 }

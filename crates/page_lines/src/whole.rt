@@ -11,7 +11,12 @@ use std::fs::File;
 use std::io::Error;
 
 // By which columns lines are judged, if they are.
-fn put_judged(rt: &HostRuntime, out: &mut [u8; ROOM], at: usize, table: Option<Table<'_>>) -> usize {
+fn put_judged(
+    rt: &HostRuntime,
+    out: &mut [u8; ROOM],
+    at: usize,
+    table: Option<Table<'_>>,
+) -> usize {
     match table {
         Some(table) => put_columns(rt, out, at, table.columns, table.count),
         None => at,
