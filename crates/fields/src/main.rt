@@ -12,7 +12,7 @@ ghost use Rattle.std.specs.Prelude.{◌≤◌, ◌<◌, length};
 ghost use Rattle.page_lines.specs.Rules.{Holds};
 
 use columns::{COLUMNS, collect};
-use frame::{NAME_INDEX_NEED, Preparation, prepare};
+use frame::{Compiled, NAME_INDEX_NEED, prepare};
 use office::{Lines, arg, arg_count, fail, flush, open, read_rule, say, say_refusal};
 use options::Options;
 use page_lines::{Job, RESULT_AREA, RULE_AREA, Table, WORK_AREA, write_page};
@@ -115,8 +115,8 @@ fn run(
     match prepare(
         rule, o.flags, false, 0, o.budget, area, work, false, &mut names,
     ) {
-        Preparation::Refused(f) => say_refusal(rt, "fields", f, rule),
-        Preparation::Ready(entry, groups) => {
+        Err(f) => say_refusal(rt, "fields", f, rule),
+        Ok(Compiled { entry, groups }) => {
             let job = Job {
                 rule,
                 area,

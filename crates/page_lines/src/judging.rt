@@ -25,8 +25,6 @@ fn word_of(listing: Listing) -> Word {
         Listing::Complete(_, _) => Word::Ambiguous,
         Listing::Full(_, _) => Word::Ambiguous,
         Listing::Exhausted(_, _, _) => Word::Exhausted,
-        // the rule was accepted before, and the line is short enough
-        Listing::Refused(_) => Word::NotMatched,
     }
 }
 

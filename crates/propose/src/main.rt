@@ -7,7 +7,7 @@ mod messages;
 ghost use Rattle.std.specs.Prelude.{◌≤◌, length};
 ghost use Rattle.propose.specs.Rules.{Holds};
 
-use frame::{BUDGET_LIMIT, NAME_INDEX_NEED, Preparation, RULE_LIMIT, prepare};
+use frame::{BUDGET_LIMIT, NAME_INDEX_NEED, RULE_LIMIT, prepare};
 use lines::{CHOICES, RULE_AREA, Setting, WORK_AREA};
 use office::{
     Lines, ROOM, arg_count, budget_at, fail, flags_at, flush, open, read_rule, say, say_refusal,
@@ -68,11 +68,14 @@ fn run(
 {
     let mut names = [0u8; NAME_INDEX_NEED];
     match prepare(rule, flags, true, 0, budget, area, work, false, &mut names) {
-        Preparation::Refused(f) => say_refusal(rt, "propose", f, rule),
-        Preparation::Ready(entry, _groups) => {
+        Err(f) => say_refusal(rt, "propose", f, rule),
+        Ok(compiled) => {
             if let Some(file) = open(rt, "propose", LINES_FILE) {
                 let mut lines = Lines::new(file);
-                let setting = Setting { entry, budget };
+                let setting = Setting {
+                    entry: compiled.entry,
+                    budget,
+                };
                 propose_lines(rt, &mut lines, area, setting, work, ways, proposal);
             }
         }

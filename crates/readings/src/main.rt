@@ -10,7 +10,7 @@ mod telling;
 ghost use Rattle.std.specs.Prelude.{◌≤◌, length};
 ghost use Rattle.page_lines.specs.Rules.{Holds};
 
-use frame::{BUDGET_LIMIT, NAME_INDEX_NEED, Preparation, prepare};
+use frame::{BUDGET_LIMIT, Compiled, NAME_INDEX_NEED, prepare};
 use office::{
     Counts, Lines, arg_count, asks_for_page, budget_at, fail, flags_at, open, put, read_rule,
     say_refusal,
@@ -91,8 +91,8 @@ fn run(
 {
     let mut names = [0u8; NAME_INDEX_NEED];
     match prepare(rule, flags, false, 0, budget, area, work, false, &mut names) {
-        Preparation::Refused(f) => say_refusal(rt, "readings", f, rule),
-        Preparation::Ready(entry, groups) => {
+        Err(f) => say_refusal(rt, "readings", f, rule),
+        Ok(Compiled { entry, groups }) => {
             let Some(file) = open(rt, "readings", LINES_FILE + shift) else {
                 return;
             };

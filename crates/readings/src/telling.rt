@@ -110,7 +110,5 @@ pub(crate) fn tell(
             let q = put_readings(rt, out, p, b"", rows, b" until then\n");
             show(rt, out, q, margin, names, line, results, rows, counts)
         }
-        // the rule was accepted before, and the line is short enough
-        Listing::Refused(_) => put(rt, out, at, b"refused\n"),
     }
 }

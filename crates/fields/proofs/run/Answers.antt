@@ -9,4 +9,4 @@ use Rattle.fields.proofs.run.Goals as goal
 
 pub look_on-requires : goal.look_on-requires
 unfolding rule_area_need
-look_on-requires c = (readied-holds (is-ready (c.prepare.ensures 0 [] [] refl refl) _ _ c.in-Ready.is) (omega arith), c.requires.1)
+look_on-requires c = (readied-holds (is-ready (c.prepare.ensures 0 [] [] refl refl) _ c.in-Ok.is) (omega arith), c.requires.1)

@@ -9,8 +9,8 @@ use Rattle.readings.proofs.run.Goals as goal
 
 pub report_as_page-requires : goal.report_as_page-requires
 unfolding rule_area_need
-report_as_page-requires c = readied-holds (is-ready (c.prepare.ensures 0 [] [] refl refl) _ _ c.in-Ready.is) (omega arith)
+report_as_page-requires c = readied-holds (is-ready (c.prepare.ensures 0 [] [] refl refl) _ c.in-Ok.is) (omega arith)
 
 pub report_lines-requires : goal.report_lines-requires
 unfolding rule_area_need
-report_lines-requires c = readied-holds (is-ready (c.prepare.ensures 0 [] [] refl refl) _ _ c.in-Ready.is) (omega arith)
+report_lines-requires c = readied-holds (is-ready (c.prepare.ensures 0 [] [] refl refl) _ c.in-Ok.is) (omega arith)
