@@ -31,6 +31,7 @@ fn put_fields<'a>(
     out: &mut [u8; ROOM],
     at: usize,
 ) -> usize {
+    let columns = table.columns;
     let mut p = Place {
         column: 0,
         taken: 0,
@@ -47,7 +48,7 @@ fn put_fields<'a>(
             put,
         };
         p = write_part(
-            table.columns,
+            columns,
             table.count,
             names,
             line,
