@@ -3,7 +3,7 @@ ghost use Rattle.std.specs.Prelude.{◌≤◌};
 ghost use Rattle.syntax.specs.Limits.{group_limit};
 
 use crate::columns::COLUMNS;
-use fields_row::{OPENING_ROOM, PART_ROOM, Place, Word, kind, open_row, write_part};
+use fields_row::{OPENING_ROOM, PART_ROOM, Place, Word, open_row, write_part};
 use frame::NAME_INDEX_NEED;
 use index::ROW_LENGTH;
 use office::{CLOSED, ROOM, flush, put};
@@ -84,7 +84,7 @@ pub(crate) fn put_row<'a>(
         names,
         line,
         standing,
-        kind(word),
+        word.kind(),
         row,
         out,
         opened,
