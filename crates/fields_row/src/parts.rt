@@ -51,7 +51,11 @@ pub fn write_part<'a>(
     ensures onward { Onward count p result }
     ensures spoken { Spoken (fields_from columns.now count names.now line.now standing.now kind row.now) out.old p out.new result }
 {
-    let Place { column: at, taken, put } = p;
+    let Place {
+        column: at,
+        taken,
+        put,
+    } = p;
     let tab = write_tab(taken, out, put);
     let text = field(column(columns, at), names, line, kind, row, standing);
     if text.len() <= taken {

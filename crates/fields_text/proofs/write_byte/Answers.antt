@@ -21,6 +21,6 @@ returns-in-32-to-126 c = wrote_few 4 (escape-plain c.args.byte (λ e. omega arit
 
 pub returns-in_default : goal.returns-in_default
 returns-in_default c = elim c.in_default.branch [
-  in_default-via-then-byte-lt32 w ↦ wrote_as (escape-low c.args.byte (λ e. omega arith) (λ e. omega arith) (λ e. omega arith) (λ e. omega arith) (omega arith)) c.write_hex.ensures
+  | in_default-via-then-byte-lt32 w ↦ wrote_as (escape-low c.args.byte (λ e. omega arith) (λ e. omega arith) (λ e. omega arith) (λ e. omega arith) (omega arith)) c.write_hex.ensures
   | in_default-via-else-byte-lt32+else-byte-lt127 w ↦ wrote_as (escape-high c.args.byte (λ e. omega arith) (λ e. omega arith) (λ e. omega arith) (λ e. omega arith) (omega arith) (omega arith)) c.write_hex.ensures
 ]

@@ -22,12 +22,12 @@ returns-in-39 c = wrote_few 16 (show-single c.args.byte (λ e. omega arith) (λ 
 
 pub returns-in-32-to-126 : goal.returns-in-32-to-126
 returns-in-32-to-126 c = elim c.in-32-to-126-1.branch [
-  in-61-1 w ↦ wrote_few 16 (show-plain c.args.byte (λ e. omega arith) (λ e. omega arith) (λ e. omega arith) (λ e. omega arith) (λ e. omega arith) (omega arith) (omega arith)) (omega arith) c.append_byte.ensures
+  | in-61-1 w ↦ wrote_few 16 (show-plain c.args.byte (λ e. omega arith) (λ e. omega arith) (λ e. omega arith) (λ e. omega arith) (λ e. omega arith) (omega arith) (omega arith)) (omega arith) c.append_byte.ensures
   | in_default+else-byte-lt32+then-byte-lt127 w ↦ wrote_few 16 (show-plain c.args.byte (λ e. omega arith) (λ e. omega arith) (λ e. omega arith) (λ e. omega arith) (λ e. omega arith) (omega arith) (omega arith)) (omega arith) c.append_byte.ensures
 ]
 
 pub returns-in_default : goal.returns-in_default
 returns-in_default c = elim c.in_default.branch [
-  in_default-via-then-byte-lt32 w ↦ wrote_as (show-low c.args.byte (λ e. omega arith) (λ e. omega arith) (λ e. omega arith) (λ e. omega arith) (λ e. omega arith) (omega arith)) c.write_numbered.ensures
+  | in_default-via-then-byte-lt32 w ↦ wrote_as (show-low c.args.byte (λ e. omega arith) (λ e. omega arith) (λ e. omega arith) (λ e. omega arith) (λ e. omega arith) (omega arith)) c.write_numbered.ensures
   | in_default-via-else-byte-lt32+else-byte-lt127 w ↦ wrote_as (show-high c.args.byte (λ e. omega arith) (λ e. omega arith) (λ e. omega arith) (λ e. omega arith) (λ e. omega arith) (omega arith) (omega arith)) c.write_numbered.ensures
 ]
