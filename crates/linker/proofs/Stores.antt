@@ -1,4 +1,5 @@
 -- The numbers that the small functions write, and those that they leave.
+use Rattle.std.specs.Prelude.{Option, Some}
 use mathlib.Core.Path.{◌≡◌, refl, sym, subst, ◌∙◌}
 use mathlib.Core.Bool.{false}
 use mathlib.Core.List.{List}
@@ -96,7 +97,7 @@ group-answers : (groups place n : ℕ) → (n ≡ 0 → ⊥) → n ≤ groups �
 unfolding dangling
 group-answers groups place n e h = rw (ne_eqb n 0 e, le-leb n groups h)
 
-dangles : (groups : ℕ) (a : List ℕ) (p next sofar : ℕ) → dangling groups (get_or a (p + 2) 0) (reference false (get_or a (p + 3) 0)) ≡ some (get_or a (p + 2) 0) → Referred groups a a p next sofar (get_or a (p + 2) 0 + 1)
+dangles : (groups : ℕ) (a : List ℕ) (p next : ℕ) (sofar : Option ℕ) → dangling groups (get_or a (p + 2) 0) (reference false (get_or a (p + 3) 0)) ≡ some (get_or a (p + 2) 0) → Referred groups a a p next sofar (Some (get_or a (p + 2) 0))
 unfolding noted
 dangles groups a p next sofar e =
     let never : dangling groups (get_or a (p + 2) 0) (reference false (get_or a (p + 3) 0)) ≡ none → ⊥ = λ n. let z : ◌≡◌ {A = ℕ} 0 1 = cc in omega arith in
@@ -110,11 +111,11 @@ dangles groups a p next sofar e =
       first = rw e;
     }
 
-module _ (groups : ℕ) (a : List ℕ) (p next sofar : ℕ) where
-  pub none-zero : (place n : ℕ) → place ≡ get_or a (p + 2) 0 → n ≡ get_or a (p + 3) 0 → n ≡ 0 → Referred groups a a p next sofar (place + 1)
+module _ (groups : ℕ) (a : List ℕ) (p next : ℕ) (sofar : Option ℕ) where
+  pub none-zero : (place n : ℕ) → place ≡ get_or a (p + 2) 0 → n ≡ get_or a (p + 3) 0 → n ≡ 0 → Referred groups a a p next sofar (Some place)
   none-zero place n e f z = rw e (dangles groups a p next sofar (zero-dangles groups (get_or a (p + 2) 0) (get_or a (p + 3) 0) (sym f ∙ z)))
 
-  pub none-beyond : (place n : ℕ) → place ≡ get_or a (p + 2) 0 → n ≡ get_or a (p + 3) 0 → (n ≡ 0 → ⊥) → groups < n → Referred groups a a p next sofar (place + 1)
+  pub none-beyond : (place n : ℕ) → place ≡ get_or a (p + 2) 0 → n ≡ get_or a (p + 3) 0 → (n ≡ 0 → ⊥) → groups < n → Referred groups a a p next sofar (Some place)
   none-beyond place n e f z h = rw e (dangles groups a p next sofar (beyond-dangles groups (get_or a (p + 2) 0) (get_or a (p + 3) 0) (λ w. z (f ∙ w)) (omega arith)))
 
   pub referred : (b c : List ℕ) (n : ℕ) → n ≡ get_or a (p + 3) 0 → (n ≡ 0 → ⊥) → n ≤ groups → Put a b (p + 1) next → Put b c (p + 3) (2 * (n - 1)) → Referred groups a c p next sofar sofar

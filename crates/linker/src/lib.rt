@@ -10,48 +10,16 @@ ghost use Rattle.linker.specs.Linking.{Stands, StandAll, Linkable, Links, LinksA
 ghost use Rattle.linker.specs.Stores.{Put, PutTwo, Bracketed, PutAfter, GroupClosed, IsOneByte, EntryKind, RepeatClosed, Referred, Numbered, NameLinked};
 
 use name_table::{group_called, word};
-use syntax::SPANS_LENGTH;
+use syntax::node::{
+    AHEAD, BYTE, CLOSE, HELD, LAST, NAMED, NOT_AHEAD, PLAIN, REFERENCE, REPEAT, RUN,
+};
+use syntax::{Greed, Reason, Refusal, SPANS_LENGTH};
 
-// The kinds of nodes, as specs/Nodes.antt lists them. What is of none of these is an item, and goes on alike.
-const GROUP: usize = 4;
-
-const LAST: usize = 6;
-
-const REPEAT: usize = 7;
-
-const PLAIN: usize = 10;
-
-const REFERENCE: usize = 11;
-
-const NAMED: usize = 2;
-
-const HELD: usize = 14;
-
-const AHEAD: usize = 15;
-
-const NOT_AHEAD: usize = 17;
-
-// The kinds of a byte item and of a compiled run, and the number of a greedy repeat's greed.
-const BYTE: usize = 0;
-
-const RUN: usize = 10;
-
-const GREEDY: usize = 0;
-
-// What a rule is linked to.
-#[derive(Drop)]
-pub enum Linkage {
-    // where the rule begins
-    Entry(usize),
-    // the place of the first reference to no group
-    NoGroup(usize),
-}
-
-// Where a part is entered, and the first reference to no group so far: one more than its place, or 0 for none.
-#[derive(Drop)]
+// Where a part is entered, and the place of the first reference to no group so far.
+#[derive(Clone, Copy, Debug, PartialEq, Eq)]
 struct Linked {
     pc: usize,
-    dangling: usize,
+    dangling: Option<usize>,
 }
 
 // Writes a number.
@@ -76,7 +44,7 @@ pub fn before_of(area: &[u32], p: usize) -> usize
     requires { (p + 3 ≤ length area.now) × (get_or area.now p 0 ≡ 7 → p + 8 ≤ length area.now) }
     ensures { result ≡ before_of area.now p }
 {
-    if word(area, p) == REPEAT {
+    if area[p] == REPEAT {
         return word(area, p + 7);
     }
     word(area, p + 1)
@@ -86,16 +54,7 @@ pub fn before_of(area: &[u32], p: usize) -> usize
 pub fn is_bracketed(kind: usize) -> bool
     ensures { (result ≡ true → Bracketed kind) × (result ≡ false → Bracketed kind → ⊥) }
 {
-    if kind == GROUP {
-        return true;
-    }
-    if kind == HELD {
-        return true;
-    }
-    if kind == AHEAD {
-        return true;
-    }
-    kind == NOT_AHEAD
+    matches!(u32::try_from(kind), Ok(CLOSE | HELD | AHEAD | NOT_AHEAD))
 }
 
 // What follows negative looking ahead stands behind its opening too.
@@ -103,7 +62,7 @@ fn put_after(area: &mut [u32], p: usize, next: usize)
     requires { (p < length area.old) × (next ≤ rule_area_need) × (get_or area.old p 0 ≡ 17 → p + 8 ≤ length area.old) }
     ensures { PutAfter area.old area.new p next }
 {
-    if word(area, p) == NOT_AHEAD {
+    if area[p] == NOT_AHEAD {
         put(area, p + 7, next);
     }
 }
@@ -123,7 +82,7 @@ fn is_one_byte(area: &[u32], p: usize) -> bool
     requires { (p + 3 ≤ length area.now) × (get_or area.now p 0 ≡ 10 → get_or area.now (p + 2) 0 < p) }
     ensures { result ≡ true → IsOneByte area.now p }
 {
-    let kind = word(area, p);
+    let kind = area[p];
     if kind == BYTE {
         return true;
     }
@@ -131,51 +90,44 @@ fn is_one_byte(area: &[u32], p: usize) -> bool
         return false;
     }
     let inside = word(area, p + 2);
-    if inside == 0 {
-        return false;
-    }
-    if word(area, inside) != BYTE {
-        return false;
-    }
-    word(area, inside + 1) == 0
+    inside != 0 && area[inside] == BYTE && area[inside + 1] == 0
 }
 
 // The number at which a repeat is entered: a greedy repeat of one byte item is a run.
-fn entry_kind(area: &[u32], p: usize, body: usize) -> usize
+fn entry_kind(area: &[u32], p: usize, body: usize) -> u32
     requires { (p + 8 ≤ length area.now) × (body < p) × (get_or area.now body 0 ≡ 10 → get_or area.now (body + 2) 0 < body) }
     ensures { EntryKind area.now p body result }
 {
-    if word(area, p + 4) != GREEDY {
-        return REPEAT;
-    }
-    if is_one_byte(area, body) {
+    if area[p + 4] == u32::from(Greed::Greedy) && is_one_byte(area, body) {
         return RUN;
     }
     REPEAT
 }
 
 // A repeat whose body is linked: its kind, its register, where its body begins, and what follows it.
-fn close_repeat(area: &mut [u32], p: usize, kind: usize, next: usize, r: usize, entry: usize)
+fn close_repeat(area: &mut [u32], p: usize, kind: u32, next: usize, r: usize, entry: usize)
     requires { (p + 8 ≤ length area.old) × (kind ≤ 10) × (next ≤ rule_area_need) × (r ≤ registers) × (entry ≤ rule_area_need) }
     ensures { RepeatClosed area.old area.new p kind next r entry }
 {
-    put(area, p, kind);
+    area[p] = kind;
     put_two(area, p + 5, r, entry);
     put(area, p + 7, next);
 }
 
 // A reference: its number becomes the slot of its group's span, if there is such a group. Whether it is folded stays as it was read.
-fn link_reference(area: &mut [u32], p: usize, next: usize, groups: usize, dangling: usize) -> usize
+fn link_reference(
+    area: &mut [u32],
+    p: usize,
+    next: usize,
+    groups: usize,
+    dangling: Option<usize>,
+) -> Option<usize>
     requires { (p + 4 ≤ length area.old) × (next ≤ rule_area_need) × (groups ≤ group_limit) }
     ensures { Referred groups area.old area.new p next dangling result }
 {
-    let place = word(area, p + 2);
     let number = word(area, p + 3);
-    if number == 0 {
-        return place + 1;
-    }
-    if groups < number {
-        return place + 1;
+    if number == 0 || groups < number {
+        return Some(word(area, p + 2));
     }
     put(area, p + 1, next);
     put(area, p + 3, 2 * (number - 1));
@@ -189,8 +141,8 @@ fn number_reference(area: &mut [u32], p: usize, groups: usize, rule: &[u8], tabl
 {
     let from = word(area, p + 3);
     let len = word(area, p + 5);
-    let number = group_called(rule, table, groups, from, len);
-    put(area, p, REFERENCE);
+    let number = group_called(rule, table, groups, from, len).unwrap_or(0);
+    area[p] = REFERENCE;
     put(area, p + 3, number);
 }
 
@@ -200,7 +152,7 @@ fn link_named(
     p: usize,
     next: usize,
     groups: usize,
-    dangling: usize,
+    dangling: Option<usize>,
     rule: &[u8],
     table: &[u32],
 ) -> Linked
@@ -208,11 +160,8 @@ fn link_named(
     ensures { NameLinked rule.now (names_in rule.now table.now groups) groups area.old area.new p next dangling result.pc result.dangling }
 {
     number_reference(area, p, groups, rule, table);
-    let found = link_reference(area, p, next, groups, dangling);
-    Linked {
-        pc: p,
-        dangling: found,
-    }
+    let dangling = link_reference(area, p, next, groups, dangling);
+    Linked { pc: p, dangling }
 }
 
 // The part at p, which goes on at `next` and uses the registers from r on.
@@ -223,37 +172,29 @@ fn link_part(
     next: usize,
     r: usize,
     groups: usize,
-    dangling: usize,
+    dangling: Option<usize>,
     rule: &[u8],
     table: &[u32],
 ) -> Linked
     requires { Stands (Part rule.now (names_in rule.now table.now groups) area.old) groups r area.old p × (next ≤ rule_area_need) × NamesFit rule.now table.now groups }
     ensures { Links (Part rule.now (names_in rule.now table.now groups) area.old) groups r area.old area.new p next dangling result.pc result.dangling }
 {
-    let kind = word(area, p);
-    if is_bracketed(kind) {
+    let kind = area[p];
+    if is_bracketed(kind as usize) {
         return link_group(area, p, next, r, groups, dangling, rule, table);
     }
-    if kind == REPEAT {
-        return link_repeat(area, p, next, r, groups, dangling, rule, table);
-    }
-    if kind == PLAIN {
-        return link_plain(area, p, next, r, groups, dangling, rule, table);
-    }
-    if kind == REFERENCE {
-        let found = link_reference(area, p, next, groups, dangling);
-        return Linked {
-            pc: p,
-            dangling: found,
-        };
-    }
-    if kind == NAMED {
-        return link_named(area, p, next, groups, dangling, rule, table);
-    }
-    put(area, p + 1, next);
-    Linked {
-        pc: p,
-        dangling: dangling,
+    match kind {
+        REPEAT => link_repeat(area, p, next, r, groups, dangling, rule, table),
+        PLAIN => link_plain(area, p, next, r, groups, dangling, rule, table),
+        REFERENCE => {
+            let dangling = link_reference(area, p, next, groups, dangling);
+            Linked { pc: p, dangling }
+        }
+        NAMED => link_named(area, p, next, groups, dangling, rule, table),
+        _ => {
+            put(area, p + 1, next);
+            Linked { pc: p, dangling }
+        }
     }
 }
 
@@ -265,7 +206,7 @@ fn link_group(
     next: usize,
     r: usize,
     groups: usize,
-    dangling: usize,
+    dangling: Option<usize>,
     rule: &[u8],
     table: &[u32],
 ) -> Linked
@@ -274,13 +215,10 @@ fn link_group(
 {
     let inside = word(area, p + 5);
     let l = link_inside(area, inside, p, r + 2, groups, dangling, rule, table);
-    let entry = l.pc;
-    let found = l.dangling;
-    close_group(area, p, next, r, entry);
-    let opening = p + 4;
+    close_group(area, p, next, r, l.pc);
     Linked {
-        pc: opening,
-        dangling: found,
+        pc: p + 4,
+        dangling: l.dangling,
     }
 }
 
@@ -292,7 +230,7 @@ fn link_repeat(
     next: usize,
     r: usize,
     groups: usize,
-    dangling: usize,
+    dangling: Option<usize>,
     rule: &[u8],
     table: &[u32],
 ) -> Linked
@@ -302,12 +240,10 @@ fn link_repeat(
     let body = word(area, p + 6);
     let kind = entry_kind(area, p, body);
     let l = link_part(area, body, p + 1, r + 2, groups, dangling, rule, table);
-    let entry = l.pc;
-    let found = l.dangling;
-    close_repeat(area, p, kind, next, r, entry);
+    close_repeat(area, p, kind, next, r, l.pc);
     Linked {
         pc: p,
-        dangling: found,
+        dangling: l.dangling,
     }
 }
 
@@ -319,7 +255,7 @@ fn link_plain(
     next: usize,
     r: usize,
     groups: usize,
-    dangling: usize,
+    dangling: Option<usize>,
     rule: &[u8],
     table: &[u32],
 ) -> Linked
@@ -338,7 +274,7 @@ fn link_inside(
     next: usize,
     r: usize,
     groups: usize,
-    dangling: usize,
+    dangling: Option<usize>,
     rule: &[u8],
     table: &[u32],
 ) -> Linked
@@ -346,13 +282,9 @@ fn link_inside(
     ensures { Links (Inside rule.now (names_in rule.now table.now groups) area.old) groups r area.old area.new p next dangling result.pc result.dangling }
 {
     if p == 0 {
-        return Linked {
-            pc: next,
-            dangling: dangling,
-        };
+        return Linked { pc: next, dangling };
     }
-    let kind = word(area, p);
-    if kind == LAST {
+    if area[p] == LAST {
         return link_alternation(area, p, next, r, groups, dangling, rule, table);
     }
     link_chain(area, p, next, r, groups, dangling, rule, table)
@@ -366,7 +298,7 @@ fn link_chain(
     next: usize,
     r: usize,
     groups: usize,
-    dangling: usize,
+    dangling: Option<usize>,
     rule: &[u8],
     table: &[u32],
 ) -> Linked
@@ -374,19 +306,13 @@ fn link_chain(
     ensures { Links (Chain rule.now (names_in rule.now table.now groups) area.old) groups r area.old area.new last next dangling result.pc result.dangling }
 {
     let mut p = last;
-    let mut pc = next;
-    let mut found = dangling;
+    let mut l = Linked { pc: next, dangling };
     while p != 0 {
         let before = before_of(area, p);
-        let l = link_part(area, p, pc, r, groups, found, rule, table);
-        pc = l.pc;
-        found = l.dangling;
+        l = link_part(area, p, l.pc, r, groups, l.dangling, rule, table);
         p = before;
     }
-    Linked {
-        pc: pc,
-        dangling: found,
-    }
+    l
 }
 
 // An alternation, whose last branch stands at p.
@@ -397,7 +323,7 @@ fn link_alternation(
     next: usize,
     r: usize,
     groups: usize,
-    dangling: usize,
+    dangling: Option<usize>,
     rule: &[u8],
     table: &[u32],
 ) -> Linked
@@ -407,10 +333,8 @@ fn link_alternation(
     let inside = word(area, p + 1);
     let before = word(area, p + 2);
     let l = link_chain(area, inside, next, r, groups, dangling, rule, table);
-    let entry = l.pc;
-    let found = l.dangling;
-    put_two(area, p + 1, entry, 0);
-    link_branches(area, before, p, next, r, groups, found, rule, table)
+    put_two(area, p + 1, l.pc, 0);
+    link_branches(area, before, p, next, r, groups, l.dangling, rule, table)
 }
 
 // Branches, from the latest to the first: each falls back on the one after it, the latest on the branch at `other`.
@@ -422,7 +346,7 @@ fn link_branches(
     next: usize,
     r: usize,
     groups: usize,
-    dangling: usize,
+    dangling: Option<usize>,
     rule: &[u8],
     table: &[u32],
 ) -> Linked
@@ -436,8 +360,7 @@ fn link_branches(
         let inside = word(area, p + 1);
         let before = word(area, p + 2);
         let l = link_chain(area, inside, next, r, groups, found, rule, table);
-        let entry = l.pc;
-        put_two(area, p + 1, entry, after);
+        put_two(area, p + 1, l.pc, after);
         found = l.dangling;
         after = p;
         p = before;
@@ -448,8 +371,15 @@ fn link_branches(
     }
 }
 
-// A whole rule, whose inside the first pass left: the end stands at position 0. The registers of groups and repeats begin behind the captures. The table has the names of its groups.
-pub fn link(rule: &[u8], area: &mut [u32], inside: usize, groups: u32, table: &[u32]) -> Linkage
+// A whole rule, whose inside the first pass left: the end stands at position 0. The registers of groups and repeats begin behind the captures. The
+// table has the names of its groups. What is answered is where the rule begins, or the first reference to no group.
+pub fn link(
+    rule: &[u8],
+    area: &mut [u32],
+    inside: usize,
+    groups: u32,
+    table: &[u32],
+) -> Result<u32, Refusal>
     requires { Linkable rule.now groups table.now area.old inside }
     ensures { LinksWhole rule.now groups table.now area.old area.new inside result }
 {
@@ -459,15 +389,12 @@ pub fn link(rule: &[u8], area: &mut [u32], inside: usize, groups: u32, table: &[
         0,
         SPANS_LENGTH,
         groups as usize,
-        0,
+        None,
         rule,
         table,
     );
-    let pc = l.pc;
-    let dangling = l.dangling;
-    if dangling == 0 {
-        return Linkage::Entry(pc);
+    match l.dangling {
+        Some(place) => Err(Refusal::at(place, Reason::NoSuchGroup)),
+        None => Ok(l.pc as u32),
     }
-    let place = dangling - 1;
-    Linkage::NoGroup(place)
 }

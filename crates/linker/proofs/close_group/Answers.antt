@@ -1,4 +1,4 @@
--- `close_group` meets its contract: two pairs of numbers, the first below the second, and maybe one more behind them.
+-- `close_group` meets its contract: the bounds of the numbers that are written.
 use native.Mathlib.Omega.{arith}
 use mathlib.Core.Path.{sym, ◌∙◌}
 use Rattle.syntax.specs.Limits.{rule_area_need, registers, spans_length, group_limit, height_limit, nesting_limit}
