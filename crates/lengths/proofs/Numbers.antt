@@ -52,10 +52,6 @@ mutual
 
 -- Places ------------------------------------------------------------------------------
 
-pub none-later : (a : Option ℕ) → option_or a None ≡ a
-none-later None = refl
-none-later (Some place) = refl
-
 pub noted-first : (x y : maybe.Option ℕ) (s : Option ℕ) → noted (first_some x y) s ≡ noted x (noted y s)
 unfolding noted first_some
 noted-first none y s = refl

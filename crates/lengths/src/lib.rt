@@ -1,6 +1,7 @@
-// What the depot profile bars of a rule, and the least lengths that it asks for; and what a check cannot follow. A recursion over the rule's groups and repeats, one inside another, in
-// which the levels that are left fall at each part. It goes over the nodes as the first pass left them in the rule area, and looks at each once. It has
-// to come before linking, since the linked rule does not tell where an alternation ends, and a repeat's place there gives way to its register.
+// What the depot profile bars of a rule, and the least lengths that it asks for; and what a check cannot follow. A recursion over the rule's groups and
+// repeats, one inside another, in which the levels that are left fall at each part. It goes over the nodes as the first pass left them in the rule
+// area, and looks at each once. It has to come before linking, since the linked rule does not tell where an alternation ends, and a repeat's place there
+// gives way to its register.
 #![tactic(auto)]
 
 ghost use Rattle.std.specs.Prelude.{◌≡◌, true, MatchOption, Ok, Err, ◌+◌, ◌≤◌, ltb, length, if◌then◌else◌};
@@ -166,7 +167,8 @@ fn part(area: &[u32], p: usize, depth: u32) -> Measured
     }
 }
 
-// A sequence, from its last part to its first. Its parts stand one level deeper.
+// A sequence, from its last part to its first. Its parts stand one level deeper. Nodes name those before them in two ways, here and in `branches`: an
+// iterator for each would be longer than the two loops.
 #[cycle(branches_chain_inside_part)]
 fn chain(area: &[u32], last: usize, depth: u32) -> Measured
     requires { Deep Chain area.now last depth }
@@ -230,7 +232,8 @@ fn refuse_at(found: Option<usize>, reason: Reason) -> Result<(), Refusal>
     }
 }
 
-// Judges a whole rule, whose inside the first pass left: whether it keeps to the profile.
+// Judges a whole rule, whose inside the first pass left: whether it keeps to the profile. `judge` and `checkable` promise different things of one walk;
+// all that they do alike is in `refuse_at`, and one function for both, with fields and reasons passed to it, would be no plainer.
 pub fn judge(area: &[u32], p: usize) -> Result<(), Refusal>
     requires { Deep Inside area.now p level_limit }
     ensures { Judges true area.now p result }

@@ -1,15 +1,22 @@
 // Turns the nodes that the first pass left in the rule area into the compiled rule, in place, from the last part to the first. Only here does a
 // reference by name get its group's number: the group may stand behind it, so that the first pass cannot tell.
+//
+// The nodes stay in the area of numbers that the caller lends, since there is no heap: their kinds are numbers of it, and a node names others by their
+// positions, where 0, no node's position, stands for none. A position is a bare number too, whose bound is asked for where it is used: a type that
+// holds the bound would be taken apart at each use, and be no plainer.
 #![tactic(auto)]
 
 ghost use Rattle.std.specs.Prelude.{◌≡◌, true, false, ◌+◌, ◌≤◌, ◌<◌, get_or, length};
 ghost use Rattle.syntax.specs.Limits.{group_limit, rule_area_need, registers};
-ghost use Rattle.name_table.specs.Table.{names_in, NamesFit};
+ghost use Rattle.linker.specs.Known.{known_in};
 ghost use Rattle.linker.specs.Nodes.{before_of, Part, Chain, Inside};
 ghost use Rattle.linker.specs.Linking.{Stands, StandAll, Linkable, Links, LinksAll, LinksWhole};
 ghost use Rattle.linker.specs.Stores.{Put, PutTwo, Bracketed, PutAfter, GroupClosed, IsOneByte, EntryKind, RepeatClosed, Referred, Numbered, NameLinked};
 
-use name_table::{group_called, word};
+mod names;
+
+use name_table::word;
+use names::NameTable;
 use syntax::node::{
     AHEAD, BYTE, CLOSE, HELD, LAST, NAMED, NOT_AHEAD, PLAIN, REFERENCE, REPEAT, RUN,
 };
@@ -135,13 +142,13 @@ fn link_reference(
 }
 
 // A reference by name becomes one by number.
-fn number_reference(area: &mut [u32], p: usize, groups: usize, rule: &[u8], table: &[u32])
-    requires { (p + 6 ≤ length area.old) × (groups ≤ group_limit) × NamesFit rule.now table.now groups × (get_or area.old (p + 3) 0 + get_or area.old (p + 5) 0 ≤ length rule.now) }
-    ensures { Numbered rule.now (names_in rule.now table.now groups) area.old area.new p }
+fn number_reference(area: &mut [u32], p: usize, names: &NameTable<'_>)
+    requires { (p + 6 ≤ length area.old) × (names.now.groups ≤ group_limit) × (get_or area.old (p + 3) 0 + get_or area.old (p + 5) 0 ≤ length names.now.rule.now) }
+    ensures { Numbered names.now.rule.now (known_in names.now) area.old area.new p }
 {
     let from = word(area, p + 3);
     let len = word(area, p + 5);
-    let number = group_called(rule, table, groups, from, len).unwrap_or(0);
+    let number = names.called(from, len).unwrap_or(0);
     area[p] = REFERENCE;
     put(area, p + 3, number);
 }
@@ -151,16 +158,14 @@ fn link_named(
     area: &mut [u32],
     p: usize,
     next: usize,
-    groups: usize,
+    names: &NameTable<'_>,
     dangling: Option<usize>,
-    rule: &[u8],
-    table: &[u32],
 ) -> Linked
-    requires { (p + 6 ≤ length area.old) × (groups ≤ group_limit) × NamesFit rule.now table.now groups × (get_or area.old (p + 3) 0 + get_or area.old (p + 5) 0 ≤ length rule.now) × (next ≤ rule_area_need) }
-    ensures { NameLinked rule.now (names_in rule.now table.now groups) groups area.old area.new p next dangling result.pc result.dangling }
+    requires { (p + 6 ≤ length area.old) × (names.now.groups ≤ group_limit) × (get_or area.old (p + 3) 0 + get_or area.old (p + 5) 0 ≤ length names.now.rule.now) × (next ≤ rule_area_need) }
+    ensures { NameLinked names.now.rule.now (known_in names.now) names.now.groups area.old area.new p next dangling result.pc result.dangling }
 {
-    number_reference(area, p, groups, rule, table);
-    let dangling = link_reference(area, p, next, groups, dangling);
+    number_reference(area, p, names);
+    let dangling = link_reference(area, p, next, names.groups, dangling);
     Linked { pc: p, dangling }
 }
 
@@ -171,26 +176,24 @@ fn link_part(
     p: usize,
     next: usize,
     r: usize,
-    groups: usize,
+    names: &NameTable<'_>,
     dangling: Option<usize>,
-    rule: &[u8],
-    table: &[u32],
 ) -> Linked
-    requires { Stands (Part rule.now (names_in rule.now table.now groups) area.old) groups r area.old p × (next ≤ rule_area_need) × NamesFit rule.now table.now groups }
-    ensures { Links (Part rule.now (names_in rule.now table.now groups) area.old) groups r area.old area.new p next dangling result.pc result.dangling }
+    requires { Stands (Part names.now.rule.now (known_in names.now) area.old) names.now.groups r area.old p × (next ≤ rule_area_need) }
+    ensures { Links (Part names.now.rule.now (known_in names.now) area.old) names.now.groups r area.old area.new p next dangling result.pc result.dangling }
 {
     let kind = area[p];
     if is_bracketed(kind as usize) {
-        return link_group(area, p, next, r, groups, dangling, rule, table);
+        return link_group(area, p, next, r, names, dangling);
     }
     match kind {
-        REPEAT => link_repeat(area, p, next, r, groups, dangling, rule, table),
-        PLAIN => link_plain(area, p, next, r, groups, dangling, rule, table),
+        REPEAT => link_repeat(area, p, next, r, names, dangling),
+        PLAIN => link_plain(area, p, next, r, names, dangling),
         REFERENCE => {
-            let dangling = link_reference(area, p, next, groups, dangling);
+            let dangling = link_reference(area, p, next, names.groups, dangling);
             Linked { pc: p, dangling }
         }
-        NAMED => link_named(area, p, next, groups, dangling, rule, table),
+        NAMED => link_named(area, p, next, names, dangling),
         _ => {
             put(area, p + 1, next);
             Linked { pc: p, dangling }
@@ -205,16 +208,14 @@ fn link_group(
     p: usize,
     next: usize,
     r: usize,
-    groups: usize,
+    names: &NameTable<'_>,
     dangling: Option<usize>,
-    rule: &[u8],
-    table: &[u32],
 ) -> Linked
-    requires { Stands (Part rule.now (names_in rule.now table.now groups) area.old) groups r area.old p × (next ≤ rule_area_need) × Bracketed (get_or area.old p 0) × NamesFit rule.now table.now groups }
-    ensures { Links (Part rule.now (names_in rule.now table.now groups) area.old) groups r area.old area.new p next dangling result.pc result.dangling }
+    requires { Stands (Part names.now.rule.now (known_in names.now) area.old) names.now.groups r area.old p × (next ≤ rule_area_need) × Bracketed (get_or area.old p 0) }
+    ensures { Links (Part names.now.rule.now (known_in names.now) area.old) names.now.groups r area.old area.new p next dangling result.pc result.dangling }
 {
     let inside = word(area, p + 5);
-    let l = link_inside(area, inside, p, r + 2, groups, dangling, rule, table);
+    let l = link_inside(area, inside, p, r + 2, names, dangling);
     close_group(area, p, next, r, l.pc);
     Linked {
         pc: p + 4,
@@ -229,17 +230,15 @@ fn link_repeat(
     p: usize,
     next: usize,
     r: usize,
-    groups: usize,
+    names: &NameTable<'_>,
     dangling: Option<usize>,
-    rule: &[u8],
-    table: &[u32],
 ) -> Linked
-    requires { Stands (Part rule.now (names_in rule.now table.now groups) area.old) groups r area.old p × (next ≤ rule_area_need) × (get_or area.old p 0 ≡ 7) × NamesFit rule.now table.now groups }
-    ensures { Links (Part rule.now (names_in rule.now table.now groups) area.old) groups r area.old area.new p next dangling result.pc result.dangling }
+    requires { Stands (Part names.now.rule.now (known_in names.now) area.old) names.now.groups r area.old p × (next ≤ rule_area_need) × (get_or area.old p 0 ≡ 7) }
+    ensures { Links (Part names.now.rule.now (known_in names.now) area.old) names.now.groups r area.old area.new p next dangling result.pc result.dangling }
 {
     let body = word(area, p + 6);
     let kind = entry_kind(area, p, body);
-    let l = link_part(area, body, p + 1, r + 2, groups, dangling, rule, table);
+    let l = link_part(area, body, p + 1, r + 2, names, dangling);
     close_repeat(area, p, kind, next, r, l.pc);
     Linked {
         pc: p,
@@ -254,16 +253,14 @@ fn link_plain(
     p: usize,
     next: usize,
     r: usize,
-    groups: usize,
+    names: &NameTable<'_>,
     dangling: Option<usize>,
-    rule: &[u8],
-    table: &[u32],
 ) -> Linked
-    requires { Stands (Part rule.now (names_in rule.now table.now groups) area.old) groups r area.old p × (next ≤ rule_area_need) × (get_or area.old p 0 ≡ 10) × NamesFit rule.now table.now groups }
-    ensures { Links (Part rule.now (names_in rule.now table.now groups) area.old) groups r area.old area.new p next dangling result.pc result.dangling }
+    requires { Stands (Part names.now.rule.now (known_in names.now) area.old) names.now.groups r area.old p × (next ≤ rule_area_need) × (get_or area.old p 0 ≡ 10) }
+    ensures { Links (Part names.now.rule.now (known_in names.now) area.old) names.now.groups r area.old area.new p next dangling result.pc result.dangling }
 {
     let inside = word(area, p + 2);
-    link_inside(area, inside, next, r, groups, dangling, rule, table)
+    link_inside(area, inside, next, r, names, dangling)
 }
 
 // What stands in a group, its last part or branch at p.
@@ -273,43 +270,40 @@ fn link_inside(
     p: usize,
     next: usize,
     r: usize,
-    groups: usize,
+    names: &NameTable<'_>,
     dangling: Option<usize>,
-    rule: &[u8],
-    table: &[u32],
 ) -> Linked
-    requires { Stands (Inside rule.now (names_in rule.now table.now groups) area.old) groups r area.old p × (next ≤ rule_area_need) × NamesFit rule.now table.now groups }
-    ensures { Links (Inside rule.now (names_in rule.now table.now groups) area.old) groups r area.old area.new p next dangling result.pc result.dangling }
+    requires { Stands (Inside names.now.rule.now (known_in names.now) area.old) names.now.groups r area.old p × (next ≤ rule_area_need) }
+    ensures { Links (Inside names.now.rule.now (known_in names.now) area.old) names.now.groups r area.old area.new p next dangling result.pc result.dangling }
 {
     if p == 0 {
         return Linked { pc: next, dangling };
     }
     if area[p] == LAST {
-        return link_alternation(area, p, next, r, groups, dangling, rule, table);
+        return link_alternation(area, p, next, r, names, dangling);
     }
-    link_chain(area, p, next, r, groups, dangling, rule, table)
+    link_chain(area, p, next, r, names, dangling)
 }
 
-// A sequence, from its last part to its first: each part goes on at the one after it.
+// A sequence, from its last part to its first: each part goes on at the one after it. The loop is no iterator over the parts: that would hold the
+// area, which is written to meanwhile.
 #[cycle(link_alternation_link_branches_link_chain_link_group_link_inside_link_part_link_plain_link_repeat)]
 fn link_chain(
     area: &mut [u32],
     last: usize,
     next: usize,
     r: usize,
-    groups: usize,
+    names: &NameTable<'_>,
     dangling: Option<usize>,
-    rule: &[u8],
-    table: &[u32],
 ) -> Linked
-    requires { Stands (Chain rule.now (names_in rule.now table.now groups) area.old) groups r area.old last × (next ≤ rule_area_need) × NamesFit rule.now table.now groups }
-    ensures { Links (Chain rule.now (names_in rule.now table.now groups) area.old) groups r area.old area.new last next dangling result.pc result.dangling }
+    requires { Stands (Chain names.now.rule.now (known_in names.now) area.old) names.now.groups r area.old last × (next ≤ rule_area_need) }
+    ensures { Links (Chain names.now.rule.now (known_in names.now) area.old) names.now.groups r area.old area.new last next dangling result.pc result.dangling }
 {
     let mut p = last;
     let mut l = Linked { pc: next, dangling };
     while p != 0 {
         let before = before_of(area, p);
-        l = link_part(area, p, l.pc, r, groups, l.dangling, rule, table);
+        l = link_part(area, p, l.pc, r, names, l.dangling);
         p = before;
     }
     l
@@ -322,22 +316,20 @@ fn link_alternation(
     p: usize,
     next: usize,
     r: usize,
-    groups: usize,
+    names: &NameTable<'_>,
     dangling: Option<usize>,
-    rule: &[u8],
-    table: &[u32],
 ) -> Linked
-    requires { Stands (Inside rule.now (names_in rule.now table.now groups) area.old) groups r area.old p × (next ≤ rule_area_need) × (1 ≤ p) × (get_or area.old p 0 ≡ 6) × NamesFit rule.now table.now groups }
-    ensures { Links (Inside rule.now (names_in rule.now table.now groups) area.old) groups r area.old area.new p next dangling result.pc result.dangling }
+    requires { Stands (Inside names.now.rule.now (known_in names.now) area.old) names.now.groups r area.old p × (next ≤ rule_area_need) × (1 ≤ p) × (get_or area.old p 0 ≡ 6) }
+    ensures { Links (Inside names.now.rule.now (known_in names.now) area.old) names.now.groups r area.old area.new p next dangling result.pc result.dangling }
 {
     let inside = word(area, p + 1);
     let before = word(area, p + 2);
-    let l = link_chain(area, inside, next, r, groups, dangling, rule, table);
+    let l = link_chain(area, inside, next, r, names, dangling);
     put_two(area, p + 1, l.pc, 0);
-    link_branches(area, before, p, next, r, groups, l.dangling, rule, table)
+    link_branches(area, before, p, next, r, names, l.dangling)
 }
 
-// Branches, from the latest to the first: each falls back on the one after it, the latest on the branch at `other`.
+// Branches, from the latest to the first: each falls back on the one after it, the latest on the branch at `other`. The area is written to here too.
 #[cycle(link_alternation_link_branches_link_chain_link_group_link_inside_link_part_link_plain_link_repeat)]
 fn link_branches(
     area: &mut [u32],
@@ -345,30 +337,29 @@ fn link_branches(
     other: usize,
     next: usize,
     r: usize,
-    groups: usize,
+    names: &NameTable<'_>,
     dangling: Option<usize>,
-    rule: &[u8],
-    table: &[u32],
 ) -> Linked
-    requires { StandAll rule.now (names_in rule.now table.now groups) groups r area.old last × (other ≤ rule_area_need) × (next ≤ rule_area_need) × NamesFit rule.now table.now groups }
-    ensures { LinksAll rule.now (names_in rule.now table.now groups) groups r area.old area.new last other next dangling result.pc result.dangling }
+    requires { StandAll names.now.rule.now (known_in names.now) names.now.groups r area.old last × (other ≤ rule_area_need) × (next ≤ rule_area_need) }
+    ensures { LinksAll names.now.rule.now (known_in names.now) names.now.groups r area.old area.new last other next dangling result.pc result.dangling }
 {
     let mut p = last;
-    let mut after = other;
-    let mut found = dangling;
+    let mut after = Linked {
+        pc: other,
+        dangling,
+    };
     while p != 0 {
         let inside = word(area, p + 1);
         let before = word(area, p + 2);
-        let l = link_chain(area, inside, next, r, groups, found, rule, table);
-        put_two(area, p + 1, l.pc, after);
-        found = l.dangling;
-        after = p;
+        let l = link_chain(area, inside, next, r, names, after.dangling);
+        put_two(area, p + 1, l.pc, after.pc);
+        after = Linked {
+            pc: p,
+            dangling: l.dangling,
+        };
         p = before;
     }
-    Linked {
-        pc: after,
-        dangling: found,
-    }
+    after
 }
 
 // A whole rule, whose inside the first pass left: the end stands at position 0. The registers of groups and repeats begin behind the captures. The
@@ -383,16 +374,12 @@ pub fn link(
     requires { Linkable rule.now groups table.now area.old inside }
     ensures { LinksWhole rule.now groups table.now area.old area.new inside result }
 {
-    let l = link_inside(
-        area,
-        inside,
-        0,
-        SPANS_LENGTH,
-        groups as usize,
-        None,
+    let names = NameTable {
         rule,
         table,
-    );
+        groups: groups as usize,
+    };
+    let l = link_inside(area, inside, 0, SPANS_LENGTH, &names, None);
     match l.dangling {
         Some(place) => Err(Refusal::at(place, Reason::NoSuchGroup)),
         None => Ok(l.pc as u32),

@@ -1,4 +1,4 @@
-// The table of names that the reading of a rule leaves: the names of two groups compared, and the group that has a name.
+// The table of names that the reading of a rule leaves, and the group that has a name.
 //
 // The first pass looks there for a name that is used twice, and the second for the group of a reference by name.
 #![tactic(auto)]

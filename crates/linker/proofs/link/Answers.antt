@@ -5,9 +5,12 @@ use Rattle.linker.proofs.Made.{links-near}
 use Rattle.linker.proofs.Insides.{whole-stands, whole-fit, whole-entry, whole-none}
 use Rattle.linker.proofs.link.Goals as goal
 
+pub invariant_of-names : goal.invariant_of-names
+invariant_of-names c = record { fit = whole-fit _ _ _ _ _ c.requires }
+
 pub link_inside-l-requires : goal.link_inside-l-requires
 unfolding spans_length group_limit
-link_inside-l-requires c = (whole-stands _ _ _ _ _ c.requires, omega arith, whole-fit _ _ _ _ _ c.requires)
+link_inside-l-requires c = (whole-stands _ _ _ _ _ c.requires, omega arith)
 
 pub overflow_cast-result : goal.overflow_cast-result
 unfolding spans_length group_limit rule_area_need

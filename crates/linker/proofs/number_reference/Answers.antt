@@ -12,4 +12,4 @@ few (Some g) groups h = h.1
 
 pub put-requires : goal.put-requires
 unfolding group_limit
-put-requires c = let l = few _ _ c.group_called.ensures.1 in (simp length-set (omega arith), omega (arith, l, c.unwrap_or-number.ensures))
+put-requires c = let l = few _ _ c.called.ensures.1 in (simp length-set (omega arith), omega (arith, l, c.unwrap_or-number.ensures))
