@@ -13,17 +13,15 @@ use Rattle.charset.specs.Laws.Cases.{not-folded, folding-same}
 use Rattle.syntax.specs.declared.Reason.TheVariants.{UnclosedClass}
 use Rattle.syntax.specs.declared.Refusal.{Refusal}
 use Rattle.syntax.specs.Read.{byte, is_end, is, sound, refused, and_then}
-use Rattle.syntax.specs.Sets.{Member, is_any, in_class}
+use Rattle.syntax.specs.Sets.{Member, is_member, is_any, in_class}
 use Rattle.syntax.specs.Classes.{element, member, members, class}
 use Rattle.syntax.specs.Laws.Forward.{Given, Past, member-on}
 use Rattle.syntax.specs.Laws.Fuel.{byte_past, members-turn}
-use Rattle.escapes.specs.declared.MemberRead.{MemberRead}
-use Rattle.escapes.specs.declared.MemberRead.TheVariants.{Bad}
-use Rattle.classes.specs.declared.ClassEnd.{ClassEnd}
-use Rattle.classes.specs.declared.ClassEnd.TheVariants.{Closed, BadClass}
+use Rattle.std.specs.Prelude.{Result, Ok, Err}
+use Rattle.syntax.specs.declared.Parsed.{Parsed}
+use Rattle.escapes.specs.declared.Member.{Member as Told}
 use Rattle.escapes.specs.Says.{member_of}
-use Rattle.classes.specs.Says.{next_of, is_read, HoldsMembers, MembersIn, ClassIn}
-use Rattle.classes.proofs.MemberCases.{NotBad, Sound, sounds}
+use Rattle.classes.specs.Says.{HoldsMembers, SaysMembers, SaysClass}
 
 -- The bytes of a member ---------------------------------------------------------------
 
@@ -40,7 +38,7 @@ pub folded-holds : (words both : List ℕ) (these : ℕ → Bool) → Holds word
 folded-holds words both these e f x h = f x h ∙ folding-same true (has words) these e x h
 
 -- a member that is folded, joined to what there is
-pub joins-folded : (folded : Bool) → folded ≡ true → (m : MemberRead) (words own more : List ℕ) → Holds own (λ x. is_read true x m) → Holds more (λ x. has own x || has words x) → Holds more (λ x. is_read folded x m || has words x)
+pub joins-folded : (folded : Bool) → folded ≡ true → (m : Member) (words own more : List ℕ) → Holds own (λ x. is_member true x m) → Holds more (λ x. has own x || has words x) → Holds more (λ x. is_member folded x m || has words x)
 joins-folded folded t m words own more o a x h = a x h ∙ rw (o x h, t)
 
 -- bytes that are not folded, and those that a set lacks, added to what there is
@@ -53,16 +51,15 @@ module _ (folded : Bool) (f : folded ≡ false) (words more : List ℕ) (these :
 
 -- The loop -----------------------------------------------------------------------------
 
--- m was read at a position, behind the members that the words hold
-pub record Collected (folded strict : Bool) (s : List ℕ) (from start : ℕ) (words : List ℕ) (at : ℕ) (m : MemberRead) : Type 0 where
+-- the words hold the members that a loop has passed, which goes on at a position
+pub record Collected (folded strict : Bool) (s : List ℕ) (from start : ℕ) (words : List ℕ) (at : ℕ) : Type 0 where
   pub ms : List Member
-  pub read : member_of m ≡ member s strict from at
   pub same : members (length s) s strict from true [] start ≡ and_then (member s strict from at) (λ x next. members (length s) s strict from false (x ∷ ms) next)
   pub holds : HoldsMembers folded words ms
 
-pub collected-none : (folded strict : Bool) (s : List ℕ) (from start : ℕ) (words : List ℕ) (m : MemberRead) → ((x : ℕ) → x < 256 → has words x ≡ false) → member_of m ≡ member s strict from start → Collected folded strict s from start words start m
+pub collected-none : (folded strict : Bool) (s : List ℕ) (from start : ℕ) (words : List ℕ) → ((x : ℕ) → x < 256 → has words x ≡ false) → Collected folded strict s from start words start
 unfolding is_any
-collected-none folded strict s from start words m h r = record { ms = []; read = r; same = members-turn s strict from true [] start ∙ rw (and-false (is "]" (byte s start))); holds = h }
+collected-none folded strict s from start words h = record { ms = []; same = members-turn s strict from true [] start ∙ rw (and-false (is "]" (byte s start))); holds = h }
 
 past_by : (strict : Bool) (s : List ℕ) (from at : ℕ) (x : Member) (n : ℕ) → member s strict from at ≡ sound x n → Dec (at < length s) → at < length s
 unfolding member element is_end
@@ -72,48 +69,46 @@ past_by strict s from at x n e (no h) =
     let z : ◌≡◌ {A = ℕ} 0 1 = cc in
     absurd (omega arith)
 
-module _ (folded strict : Bool) (s : List ℕ) (from start : ℕ) (words : List ℕ) (at : ℕ) (m : MemberRead) (c : Collected folded strict s from start words at m) where
-  pub collected-bad : (f : Refusal) → m ≡ Bad f → members (length s) s strict from true [] start ≡ refused f.place f.reason
-  collected-bad f k = c.same ∙ rw (← c.read, k)
+module _ (folded strict : Bool) (s : List ℕ) (from start : ℕ) (words : List ℕ) (at : ℕ) (c : Collected folded strict s from start words at) where
+  pub collected-bad : (f : Refusal) → refused f.place f.reason ≡ member s strict from at → members (length s) s strict from true [] start ≡ refused f.place f.reason
+  collected-bad f k = c.same ∙ rw (← k)
 
-  module _ (l : NotBad m) (n : ℕ) (q : n ≡ next_of m) where
-    abbrev S : Sound m
-    S = sounds m l
-
-    there : member s strict from at ≡ sound S.member n
-    there = sym c.read ∙ S.is ∙ ap (sound S.member) (sym S.behind ∙ sym q)
-
+  module _ (p : Parsed Told) (r : sound (member_of p.value) p.next ≡ member s strict from at) where
     -- the loop goes forward, within the rule
-    pub collected-less : length s - n < length s - at
+    pub collected-less : length s - p.next < length s - at
     collected-less =
-        let g : Given (sound S.member n) (Past (at + 1)) = rw there at (member-on s strict from at) in
-        let h : at < length s = past_by strict s from at S.member n there (dec_lt at (length s)) in
+        let g : Given (sound (member_of p.value) p.next) (Past (at + 1)) = rw (sym r) at (member-on s strict from at) in
+        let h : at < length s = past_by strict s from at (member_of p.value) p.next (sym r) (dec_lt at (length s)) in
         omega arith
 
-    module _ (more : List ℕ) (a : (x : ℕ) → x < 256 → has more x ≡ (is_read folded x m || has words x)) where
-      holds_more : HoldsMembers folded more (S.member ∷ c.ms)
+    module _ (more : List ℕ) (a : (x : ℕ) → x < 256 → has more x ≡ (is_member folded x (member_of p.value) || has words x)) where
+      holds_more : HoldsMembers folded more (member_of p.value ∷ c.ms)
       unfolding is_any
-      holds_more x h = a x h ∙ rw (S.has folded x, c.holds x h)
+      holds_more x h = a x h ∙ rw (c.holds x h)
 
-      goes_on : members (length s) s strict from true [] start ≡ members (length s) s strict from false (S.member ∷ c.ms) n
-      goes_on = c.same ∙ rw there
+      goes_on : members (length s) s strict from true [] start ≡ members (length s) s strict from false (member_of p.value ∷ c.ms) p.next
+      goes_on = c.same ∙ rw (← r)
 
-      module _ (b : ℕ) (p : b ≡ byte s n) where
-        pub collected-closed : b ≡ 93 → MembersIn folded (members (length s) s strict from true [] start) more (Closed (n + 1))
-        collected-closed e = (S.member ∷ c.ms, goes_on ∙ members-turn s strict from false (S.member ∷ c.ms) n ∙ rw (← p, e), holds_more)
+      module _ (b : ℕ) (q : b ≡ byte s p.next) where
+        pub collected-closed : b ≡ 93 → SaysMembers folded (members (length s) s strict from true [] start) (Ok (record { value = more; next = p.next + 1 }))
+        collected-closed e = (member_of p.value ∷ c.ms, goes_on ∙ members-turn s strict from false (member_of p.value ∷ c.ms) p.next ∙ rw (← q, e), holds_more)
 
-        pub collected-more : (b ≡ 93 → ⊥) → (k : MemberRead) → member_of k ≡ member s strict from n → Collected folded strict s from start more n k
-        collected-more d k r = record { ms = S.member ∷ c.ms; read = r; same = goes_on ∙ members-turn s strict from false (S.member ∷ c.ms) n ∙ rw (← p) (simp (ne_eqb b 93 d)); holds = holds_more }
+        pub collected-more : (b ≡ 93 → ⊥) → Collected folded strict s from start more p.next
+        collected-more d = record { ms = member_of p.value ∷ c.ms; same = goes_on ∙ members-turn s strict from false (member_of p.value ∷ c.ms) p.next ∙ rw (← q) (simp (ne_eqb b 93 d)); holds = holds_more }
 
 -- The class ----------------------------------------------------------------------------
 
-module _ (folded strict : Bool) (s : List ℕ) (from b : ℕ) (p : b ≡ byte s (from + 1)) (words : List ℕ) where
-  pub class-plain : (b ≡ 94 → ⊥) → (e : ClassEnd) → MembersIn folded (members (length s) s strict from true [] (from + 1)) words e → ClassIn folded (class s strict from) words e
+module _ (folded strict : Bool) (s : List ℕ) (from b : ℕ) (p : b ≡ byte s (from + 1)) where
+  pub class-plain : (b ≡ 94 → ⊥) → (r : Result (Parsed (List ℕ)) Refusal) → SaysMembers folded (members (length s) s strict from true [] (from + 1)) r → SaysClass folded (class s strict from) r
   unfolding class in_class
-  class-plain n (Closed next) r = (record { negated = false; members = r.0 }, rw (← p) (simp (ne_eqb b 94 n) (rw r.1)), r.2)
-  class-plain n (BadClass f) r = rw (← p) (simp (ne_eqb b 94 n) (rw r))
+  class-plain n (Ok w) r = (record { negated = false; members = r.0 }, rw (← p) (simp (ne_eqb b 94 n) (rw r.1)), r.2)
+  class-plain n (Err f) r = rw (← p) (simp (ne_eqb b 94 n) (rw r))
 
-  pub class-negated : b ≡ 94 → (others : List ℕ) → ((x : ℕ) → x < 256 → has others x ≡ not (has words x)) → (e : ClassEnd) → MembersIn folded (members (length s) s strict from true [] (from + 2)) words e → ClassIn folded (class s strict from) others e
-  unfolding class in_class
-  class-negated t others o (Closed next) r = (record { negated = true; members = r.0 }, rw (← p, t, r.1), λ x h. o x h ∙ ap not (r.2 x h))
-  class-negated t others o (BadClass f) r = rw (← p, t, r)
+  module _ (t : b ≡ 94) where
+    pub class-negated : (w : Parsed (List ℕ)) (others : List ℕ) → ((x : ℕ) → x < 256 → has others x ≡ not (has w.value x)) → SaysMembers folded (members (length s) s strict from true [] (from + 2)) (Ok w) → SaysClass folded (class s strict from) (Ok (record { value = others; next = w.next }))
+    unfolding class in_class
+    class-negated w others o r = (record { negated = true; members = r.0 }, rw (← p, t, r.1), λ x h. o x h ∙ ap not (r.2 x h))
+
+    pub class-bad : (f : Refusal) → members (length s) s strict from true [] (from + 2) ≡ refused f.place f.reason → class s strict from ≡ refused f.place f.reason
+    unfolding class in_class
+    class-bad f r = rw (← p, t, r)

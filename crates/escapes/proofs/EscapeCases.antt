@@ -17,7 +17,7 @@ use Rattle.charset.specs.Named.{in_named}
 use Rattle.syntax.specs.Sets.{single}
 use Rattle.syntax.specs.Numbers.{digit_value, digits, value_from, value}
 use Rattle.syntax.specs.Escapes.{Meaning, ◌means◌, meanings, byte_of, braced, hex, braced_octal, octal, flip64, control, letter, common, class_escape}
-use Rattle.lexemes.specs.declared.Number.{Number}
+use Rattle.syntax.specs.declared.Parsed.{Parsed}
 use Rattle.lexemes.specs.Says.{capped, Counts}
 use Rattle.lexemes.proofs.Capped.{capped-if}
 use Rattle.lexemes.proofs.Digits.{inside, outside, digit-in, digits-stop, digits-on, counted_none, counted-some}
@@ -39,7 +39,7 @@ byte_of-capped at v next = capped-if 255 (omega arith) v (λ n. sound (single n)
 byte_of-same : (at v w m n : ℕ) → v ≡ w → m ≡ n → byte_of at v m ≡ byte_of at w n
 byte_of-same at v w m n e f = cc
 
-module _ (base : ℕ) (s : List ℕ) (at start : ℕ) (r : Number) (c : Counts base s start r) where
+module _ (base : ℕ) (s : List ℕ) (at start : ℕ) (r : Parsed ℕ) (c : Counts base s start r) where
   pub braced-none : r.next ≡ start → refused at MalformedEscape ≡ braced base s at start
   unfolding braced
   braced-none e = simp (counted_none base s start r c e)
@@ -55,32 +55,29 @@ module _ (base : ℕ) (s : List ℕ) (at start : ℕ) (r : Number) (c : Counts b
 
 -- a digit stands before those behind it
 digit-more : (base : ℕ) (s : List ℕ) (i j d : ℕ) → base ≤ 16 → j ≡ i + 1 → d ≡ digit_value (byte s i) → d < base → digits base s i ≡ byte s i ∷ digits base s j
-digit-more base s i j d l e q h = rw e (digits-on base s i (digit-in s i d q (omega arith)) (omega arith))
-
-digit-none : (base : ℕ) (s : List ℕ) (i d : ℕ) → d ≡ digit_value (byte s i) → base ≤ d → digits base s i ≡ []
-digit-none base s i d q h = digits-stop base s i (omega arith)
+digit-more base s i j d l e q h = rw e (digits-on base s i (digit-in base s i l (omega arith)) (omega arith))
 
 module _ (s : List ℕ) (at b : ℕ) (p : b ≡ byte s (at + 2)) where
   pub hex-braced : b ≡ 123 → braced 16 s at (at + 3) ≡ hex s at
   unfolding hex
   hex-braced e = rw (← p, e)
 
-  module _ (n : b ≡ 123 → ⊥) (h : ℕ) (q : h ≡ digit_value (byte s (at + 2))) where
-    pub hex-none : 15 < h → refused at MalformedEscape ≡ hex s at
+  module _ (n : b ≡ 123 → ⊥) where
+    pub hex-none : 16 ≤ digit_value (byte s (at + 2)) → refused at MalformedEscape ≡ hex s at
     unfolding hex
-    hex-none l = rw (← p, digit-none 16 s (at + 2) h q l) (simp (ne_eqb b 123 n))
+    hex-none l = rw (← p, digits-stop 16 s (at + 2) l) (simp (ne_eqb b 123 n))
 
-    module _ (k : h ≤ 15) (l : ℕ) (r : l ≡ digit_value (byte s (at + 3))) where
+    module _ (h : ℕ) (k : (h ≡ digit_value (byte s (at + 2))) × (h < 16)) where
       first : digits 16 s (at + 2) ≡ byte s (at + 2) ∷ digits 16 s (at + 3)
-      first = digit-more 16 s (at + 2) (at + 3) h (omega arith) (omega arith) q (omega arith)
+      first = digit-more 16 s (at + 2) (at + 3) h (omega arith) (omega arith) k.0 k.1
 
-      pub hex-one : 15 < l → refused at MalformedEscape ≡ hex s at
+      pub hex-one : 16 ≤ digit_value (byte s (at + 3)) → refused at MalformedEscape ≡ hex s at
       unfolding hex
-      hex-one m = rw (first, digit-none 16 s (at + 3) l r m, ← p) (simp (ne_eqb b 123 n))
+      hex-one m = rw (first, digits-stop 16 s (at + 3) m, ← p) (simp (ne_eqb b 123 n))
 
-      pub hex-two : l ≤ 15 → byte_of at (h * 16 + l) (at + 4) ≡ hex s at
+      pub hex-two : (l : ℕ) → (l ≡ digit_value (byte s (at + 3))) × (l < 16) → byte_of at (h * 16 + l) (at + 4) ≡ hex s at
       unfolding hex value value_from
-      hex-two m = rw (first, digit-more 16 s (at + 3) (at + 4) l (omega arith) (omega arith) r (omega arith), q, r, ← p) (simp (ne_eqb b 123 n) (byte_of-same at _ _ _ _ (omega arith) refl))
+      hex-two l m = rw (first, digit-more 16 s (at + 3) (at + 4) l (omega arith) (omega arith) m.0 m.1, k.0, m.0, ← p) (simp (ne_eqb b 123 n) (byte_of-same at _ _ _ _ (omega arith) refl))
 
 pub octal-braced : (s : List ℕ) (at b : ℕ) → b ≡ byte s (at + 2) → b ≡ 123 → braced 8 s at (at + 3) ≡ braced_octal s at
 unfolding braced_octal
@@ -91,30 +88,30 @@ unfolding braced_octal
 octal-bare s at b p n = rw (← p) (simp (ne_eqb b 123 n))
 
 -- up to three octal digits
-module _ (s : List ℕ) (at h : ℕ) (p : h ≡ digit_value (byte s (at + 1))) where
-  pub octal-none : 7 < h → byte_of at 0 (at + 1) ≡ octal s at
+module _ (s : List ℕ) (at : ℕ) where
+  pub octal-none : 8 ≤ digit_value (byte s (at + 1)) → byte_of at 0 (at + 1) ≡ octal s at
   unfolding octal value value_from
-  octal-none l = rw (digit-none 8 s (at + 1) h p l) (byte_of-same at _ _ _ _ (omega arith) (omega arith))
+  octal-none l = rw (digits-stop 8 s (at + 1) l) (byte_of-same at _ _ _ _ (omega arith) (omega arith))
 
-  module _ (k : h ≤ 7) (m : ℕ) (q : m ≡ digit_value (byte s (at + 2))) where
+  module _ (h : ℕ) (k : (h ≡ digit_value (byte s (at + 1))) × (h < 8)) where
     one_more : digits 8 s (at + 1) ≡ byte s (at + 1) ∷ digits 8 s (at + 2)
-    one_more = digit-more 8 s (at + 1) (at + 2) h (omega arith) (omega arith) p (omega arith)
+    one_more = digit-more 8 s (at + 1) (at + 2) h (omega arith) (omega arith) k.0 k.1
 
-    pub octal-one : 7 < m → byte_of at h (at + 2) ≡ octal s at
+    pub octal-one : 8 ≤ digit_value (byte s (at + 2)) → byte_of at h (at + 2) ≡ octal s at
     unfolding octal value value_from
-    octal-one l = rw (one_more, digit-none 8 s (at + 2) m q l) (byte_of-same at _ _ _ _ (omega arith) (omega arith))
+    octal-one l = rw (one_more, digits-stop 8 s (at + 2) l) (byte_of-same at _ _ _ _ (omega (arith, k.0)) (omega arith))
 
-    module _ (j : m ≤ 7) (l : ℕ) (r : l ≡ digit_value (byte s (at + 3))) where
+    module _ (m : ℕ) (j : (m ≡ digit_value (byte s (at + 2))) × (m < 8)) where
       two-more : digits 8 s (at + 2) ≡ byte s (at + 2) ∷ digits 8 s (at + 3)
-      two-more = digit-more 8 s (at + 2) (at + 3) m (omega arith) (omega arith) q (omega arith)
+      two-more = digit-more 8 s (at + 2) (at + 3) m (omega arith) (omega arith) j.0 j.1
 
-      pub octal-two : 7 < l → byte_of at (h * 8 + m) (at + 3) ≡ octal s at
+      pub octal-two : 8 ≤ digit_value (byte s (at + 3)) → byte_of at (h * 8 + m) (at + 3) ≡ octal s at
       unfolding octal value value_from
-      octal-two o = rw (one_more, two-more, digit-none 8 s (at + 3) l r o) (byte_of-same at _ _ _ _ (omega arith) (omega arith))
+      octal-two o = rw (one_more, two-more, digits-stop 8 s (at + 3) o) (byte_of-same at _ _ _ _ (omega (arith, k.0, j.0)) (omega arith))
 
-      pub octal-three : l ≤ 7 → byte_of at ((h * 8 + m) * 8 + l) (at + 4) ≡ octal s at
+      pub octal-three : (l : ℕ) → (l ≡ digit_value (byte s (at + 3))) × (l < 8) → byte_of at ((h * 8 + m) * 8 + l) (at + 4) ≡ octal s at
       unfolding octal value value_from
-      octal-three o = rw (one_more, two-more, digit-more 8 s (at + 3) (at + 4) l (omega arith) (omega arith) r (omega arith)) (byte_of-same at _ _ _ _ (omega arith) (omega arith))
+      octal-three l o = rw (one_more, two-more, digit-more 8 s (at + 3) (at + 4) l (omega arith) (omega arith) o.0 o.1) (byte_of-same at _ _ _ _ (omega (arith, k.0, j.0, o.0)) (omega arith))
 
 -- Control characters --------------------------------------------------------------
 

@@ -14,8 +14,7 @@ use Rattle.syntax.specs.Read.{byte, between, bytes, sound, refused}
 use Rattle.syntax.specs.Sets.{Naming, ◌names◌, same_bytes, lookup, set_named, single, named, not_named}
 use Rattle.syntax.specs.Classes.{letters, posix_member, posix_name, posix}
 use Rattle.syntax.specs.Laws.Forward.{and_left, and_right}
-use Rattle.escapes.specs.declared.SetRead.{SetRead}
-use Rattle.escapes.specs.declared.SetRead.TheVariants.{Known, Unknown}
+use Rattle.std.specs.Prelude.{Option as Maybe, None, Some}
 use Rattle.escapes.specs.Says.{set_of}
 use Rattle.lexemes.proofs.Runs.{run-taken}
 
@@ -59,15 +58,15 @@ letters-taken = run-taken (between "a" "z")
 
 -- Named sets ----------------------------------------------------------------------------
 
-pub posix-unknown : (at : ℕ) (negated : Bool) (t : SetRead) (next : ℕ) → t ≡ Unknown → refused at UnknownSet ≡ posix_member at negated (set_of t) next
+pub posix-unknown : (at : ℕ) (negated : Bool) (t : Maybe Named) (next : ℕ) → t ≡ None → refused at UnknownSet ≡ posix_member at negated (set_of t) next
 unfolding posix_member
 posix-unknown at negated t next e = rw e
 
-pub posix-not : (at : ℕ) (t : SetRead) (set : Named) (next : ℕ) (negated : Bool) → t ≡ Known set → negated ≡ true → sound (not_named set) next ≡ posix_member at negated (set_of t) next
+pub posix-not : (at : ℕ) (t : Maybe Named) (set : Named) (next : ℕ) (negated : Bool) → t ≡ Some set → negated ≡ true → sound (not_named set) next ≡ posix_member at negated (set_of t) next
 unfolding posix_member
 posix-not at t set next negated e n = rw (e, n)
 
-pub posix-is : (at : ℕ) (t : SetRead) (set : Named) (next : ℕ) (negated : Bool) → t ≡ Known set → negated ≡ false → sound (named set) next ≡ posix_member at negated (set_of t) next
+pub posix-is : (at : ℕ) (t : Maybe Named) (set : Named) (next : ℕ) (negated : Bool) → t ≡ Some set → negated ≡ false → sound (named set) next ≡ posix_member at negated (set_of t) next
 unfolding posix_member
 posix-is at t set next negated e n = rw (e, n)
 

@@ -1,23 +1,20 @@
 -- What the readers of escapes and named sets promise: their answers are those of the definitions in `syntax`.
 -- docs/REFERENCE.md, 7
 use Rattle.std.proofs.Math.Option.{Option, none, some}
+use Rattle.std.specs.Prelude.{Option as Maybe, None, Some}
 use Rattle.charset.specs.declared.Named.{Named}
-use Rattle.syntax.specs.Read.{Read, sound, refused}
 use Rattle.syntax.specs.Sets.{Member, single, range, named, not_named}
-use Rattle.escapes.specs.declared.MemberRead.{MemberRead}
-use Rattle.escapes.specs.declared.MemberRead.TheVariants.{Single, Range, Set, NotSet, Bad}
-use Rattle.escapes.specs.declared.SetRead.{SetRead}
-use Rattle.escapes.specs.declared.SetRead.TheVariants.{Known, Unknown}
+use Rattle.escapes.specs.declared.Member.{Member as Told}
+use Rattle.escapes.specs.declared.Member.TheVariants.{Single, Range, Set, NotSet}
 
--- what a reader of a class's member says
-abbrev pub member_of : MemberRead → Read Member
-member_of (Single b next) = sound (single b) next
-member_of (Range low high next) = sound (range low high) next
-member_of (Set set next) = sound (named set) next
-member_of (NotSet set next) = sound (not_named set) next
-member_of (Bad f) = refused f.place f.reason
+-- what the member that a reader tells stands for
+abbrev pub member_of : Told → Member
+member_of (Single b) = single b
+member_of (Range low high) = range low high
+member_of (Set set) = named set
+member_of (NotSet set) = not_named set
 
 -- what a reader of a set's name says
-abbrev pub set_of : SetRead → Option Named
-set_of (Known set) = some set
-set_of Unknown = none
+abbrev pub set_of : Maybe Named → Option Named
+set_of (Some set) = some set
+set_of None = none

@@ -2,7 +2,6 @@
 #![tactic(auto)]
 
 use charset::Named;
-use syntax::Refusal;
 
 mod escapes;
 mod names;
@@ -10,19 +9,11 @@ mod names;
 pub use escapes::{class_escape_at, common_at, octal_at};
 pub use names::posix_at;
 
-// A member of a class, or one end of a range, and the position behind it.
-#[derive(Clone, Copy)]
-pub enum MemberRead {
-    Single(u8, usize),
-    Range(u8, u8, usize),
-    Set(Named, usize),
-    NotSet(Named, usize),
-    Bad(Refusal),
-}
-
-// The set that a name stands for.
-#[derive(Drop)]
-pub enum SetRead {
-    Known(Named),
-    Unknown,
+// A member of a class, or one end of a range.
+#[derive(Clone, Copy, Debug, PartialEq, Eq)]
+pub enum Member {
+    Single(u8),
+    Range(u8, u8),
+    Set(Named),
+    NotSet(Named),
 }

@@ -26,22 +26,24 @@ fn tell_line<'a>(
     requires { Holds job.area.now job.entry job.budget }
 {
     say_progress(rt, "fields", number, "");
+    let Job { area, names, .. } = job;
+    let columns = table.columns;
     let mut row = [0u32; ROW_LENGTH];
     let word = ask(
-        job.area,
+        area,
         job.entry,
         job.groups,
         job.budget,
-        table.columns,
+        columns,
         table.count,
-        job.names,
+        names,
         line,
         table.standing,
         work,
         &mut row,
         results,
     );
-    put_row(rt, number, word, table, job.names, line, &row, out, at)
+    put_row(rt, number, word, table, names, line, &row, out, at)
 }
 
 // The file could not be read: what was told comes before the message that says so, and of no line nothing is written, not even the head.
@@ -68,7 +70,8 @@ pub(crate) fn tell_lines(
     requires { Holds job.area.now job.entry job.budget }
 {
     let mut line = [0u8; LINE];
-    let mut at = write_head(table.columns, table.count, out, 0);
+    let columns = table.columns;
+    let mut at = write_head(columns, table.count, out, 0);
     // nothing says that a file ends: the lines are counted
     for number in 1..u64::MAX {
         match lines.next(&mut line) {

@@ -1,7 +1,7 @@
 // A row of the table, put into the buffer.
 ghost use Rattle.std.specs.Prelude.{◌≤◌};
 
-use fields_row::{OPENING_ROOM, PART_ROOM, Place, Word, kind, open_row, write_part};
+use fields_row::{OPENING_ROOM, PART_ROOM, Place, Word, open_row, write_part};
 use frame::NAME_INDEX_NEED;
 use index::ROW_LENGTH;
 use office::{CLOSED, ROOM, flush, put};
@@ -31,6 +31,7 @@ fn put_fields<'a>(
     out: &mut [u8; ROOM],
     at: usize,
 ) -> usize {
+    let columns = table.columns;
     let mut p = Place {
         column: 0,
         taken: 0,
@@ -47,7 +48,7 @@ fn put_fields<'a>(
             put,
         };
         p = write_part(
-            table.columns,
+            columns,
             table.count,
             names,
             line,
@@ -78,6 +79,7 @@ pub(crate) fn put_row<'a>(
         return CLOSED;
     }
     let opened = open_row(number, word, out, put_at);
-    let filled = put_fields(rt, table, names, line, kind(word), row, out, opened);
+    let kind = word.kind();
+    let filled = put_fields(rt, table, names, line, kind, row, out, opened);
     put(rt, out, filled, b"\n")
 }

@@ -7,7 +7,6 @@ ghost use Rattle.greatest.specs.Best.{failure_of, kept, Blank, Keeps};
 ghost use Rattle.greatest.specs.Leading.{kept_of, listed};
 
 use crate::leading::Kept;
-use nodes::span_length;
 
 // An item that failed: the start of the attempt, where in the subject it was tried, and its place in the rule.
 #[derive(Clone, Copy)]
@@ -50,7 +49,7 @@ pub fn blank() -> Best
 fn reach_of(x: Failed) -> u32
     ensures { result ≡ reach (failure_of x) }
 {
-    span_length(x.start, x.at)
+    x.at.saturating_sub(x.start)
 }
 
 // The greater of the best so far, if there is one, and the next failure, by their measures.

@@ -1,6 +1,7 @@
 -- A sequence's loop: at every turn some parts are left, which stand no deeper, and what was found so far is found of the parts behind them.
 use mathlib.Core.Path.{◌≡◌, sym, ap, ◌∙◌}
 use mathlib.Core.List.{List}
+use Rattle.std.specs.Prelude.{None}
 use Prim.Native.Nat.{ℕ, ◌+◌, ◌-◌, ◌≤◌, ◌<◌}
 use native.Mathlib.Omega.{arith}
 use Rattle.syntax.specs.Limits.{length_limit}
@@ -9,14 +10,14 @@ use Rattle.syntax.specs.Tree.{Rule, seq}
 use Rattle.syntax.specs.Lengths.{capped, least_length}
 use Rattle.syntax.specs.Reading.{unresolved, idle}
 use Rattle.syntax.specs.Checkable.{unfollowed, crowded}
-use Rattle.syntax.specs.Compiled.{marked}
 use Rattle.syntax.specs.WellFormed.{Proper, levels}
 use Rattle.linker.specs.Nodes.{before_of, Sequence, Part, Chain}
 use Rattle.linker.proofs.Regions.{part-here, chain-below}
 use Rattle.linker.proofs.Chains.{for_some, for-none}
+use Rattle.linker.specs.Linking.{noted}
 use Rattle.lengths.specs.declared.Measured.{Measured}
-use Rattle.lengths.specs.Measures.{sooner, Standing, IsNothing, Joined, Deep, Of, Finds}
-use Rattle.lengths.proofs.Numbers.{capped-within, capped-both, capped-bounded, least-bounded, sooner-none, sooner-both, marked-first}
+use Rattle.lengths.specs.Measures.{Standing, IsNothing, Joined, Deep, Of, Finds}
+use Rattle.lengths.proofs.Numbers.{capped-within, capped-both, capped-bounded, least-bounded, noted-joined}
 
 -- what is found is capped
 pub found-bounded : (Stands : Standing) (a : List ℕ) (p depth : ℕ) (m : Measured) → Deep Stands a p depth → Finds Stands a p m → m.least ≤ length_limit
@@ -64,10 +65,10 @@ module _ (a : List ℕ) where
     stands : Chain rule known a rest lo mid p
     proper : Proper groups rest
     least : least_length t ≡ capped (least_length rest + m.least)
-    first : marked (unresolved 0 t) ≡ sooner (marked (unresolved 0 rest)) m.reference
-    second : marked (idle t) ≡ sooner (marked (idle rest)) m.idle
-    third : marked (unfollowed t) ≡ sooner (marked (unfollowed rest)) m.form
-    fourth : marked (crowded t) ≡ sooner (marked (crowded rest)) m.crowd
+    first : noted (unresolved 0 t) None ≡ noted (unresolved 0 rest) m.reference
+    second : noted (idle t) None ≡ noted (idle rest) m.idle
+    third : noted (unfollowed t) None ≡ noted (unfollowed rest) m.form
+    fourth : noted (crowded t) None ≡ noted (crowded rest) m.crowd
 
   -- of whatever tree the loop began with
   pub Going : (last p : ℕ) (m : Measured) → Type 0
@@ -82,17 +83,17 @@ module _ (a : List ℕ) where
         stands = h;
         proper = q;
         least = rw n.least (sym (ap capped (add_none (least_length t)) ∙ capped-within (least_length t) (least-bounded t)));
-        first = rw n.reference (sym (sooner-none (marked (unresolved 0 t))));
-        second = rw n.idle (sym (sooner-none (marked (idle t))));
-        third = rw n.form (sym (sooner-none (marked (unfollowed t))));
-        fourth = rw n.crowd (sym (sooner-none (marked (crowded t))));
+        first = ap (noted (unresolved 0 t)) (sym n.reference);
+        second = ap (noted (idle t)) (sym n.idle);
+        third = ap (noted (unfollowed t)) (sym n.form);
+        fourth = ap (noted (crowded t)) (sym n.crowd);
       }
 
   pub going_step : (last p before : ℕ) (m found more : Measured) → 1 ≤ p → before ≡ before_of a p → Finds Part a p found → Joined found m more → Going last p m → Going last before more
   unfolding Going Finds
   going_step last p before m found more l is f w g rule known groups t lo top q h =
       let k = g rule known groups t lo top q h in
-      for_some rule known a lo k.mid p (λ x. Proper groups x → least_length t ≡ capped (least_length x + m.least) → marked (unresolved 0 t) ≡ sooner (marked (unresolved 0 x)) m.reference → marked (idle t) ≡ sooner (marked (idle x)) m.idle → marked (unfollowed t) ≡ sooner (marked (unfollowed x)) m.form → marked (crowded t) ≡ sooner (marked (crowded x)) m.crowd → Left rule known groups t lo before more)
+      for_some rule known a lo k.mid p (λ x. Proper groups x → least_length t ≡ capped (least_length x + m.least) → noted (unresolved 0 t) None ≡ noted (unresolved 0 x) m.reference → noted (idle t) None ≡ noted (idle x) m.idle → noted (unfollowed t) None ≡ noted (unfollowed x) m.form → noted (crowded t) None ≡ noted (crowded x) m.crowd → Left rule known groups t lo before more)
       (λ x y h q c₁ c₂ c₃ c₄ c₅. let o = f rule known groups y h.mid k.mid q.1 h.right in
       record {
         rest = x;
@@ -100,15 +101,15 @@ module _ (a : List ℕ) where
         stands = rw (is ∙ h.link) h.left;
         proper = q.0;
         least = c₁ ∙ unfold least_length in capped-both (least_length x) (least_length y) m.least ∙ rw (w.least, o.least);
-        first = c₂ ∙ unfold unresolved in ap (λ (n : ℕ). sooner n m.reference) (marked-first (unresolved 0 x) (unresolved 0 y)) ∙ sooner-both (marked (unresolved 0 x)) (marked (unresolved 0 y)) m.reference ∙ rw (w.reference, o.reference);
-        second = c₃ ∙ unfold idle in ap (λ (n : ℕ). sooner n m.idle) (marked-first (idle x) (idle y)) ∙ sooner-both (marked (idle x)) (marked (idle y)) m.idle ∙ rw (w.idle, o.idle);
-        third = c₄ ∙ unfold unfollowed in ap (λ (n : ℕ). sooner n m.form) (marked-first (unfollowed x) (unfollowed y)) ∙ sooner-both (marked (unfollowed x)) (marked (unfollowed y)) m.form ∙ rw (w.form, o.form);
-        fourth = c₅ ∙ unfold crowded in ap (λ (n : ℕ). sooner n m.crowd) (marked-first (crowded x) (crowded y)) ∙ sooner-both (marked (crowded x)) (marked (crowded y)) m.crowd ∙ rw (w.crowd, o.crowd);
+        first = c₂ ∙ unfold unresolved in noted-joined (unresolved 0 x) (unresolved 0 y) m.reference ∙ rw (w.reference, o.reference);
+        second = c₃ ∙ unfold idle in noted-joined (idle x) (idle y) m.idle ∙ rw (w.idle, o.idle);
+        third = c₄ ∙ unfold unfollowed in noted-joined (unfollowed x) (unfollowed y) m.form ∙ rw (w.form, o.form);
+        fourth = c₅ ∙ unfold crowded in noted-joined (crowded x) (crowded y) m.crowd ∙ rw (w.crowd, o.crowd);
       }) l k.rest k.stands k.proper k.least k.first k.second k.third k.fourth
 
   pub going_end : (last p : ℕ) (m : Measured) → p ≡ 0 → m.least ≤ length_limit → Going last p m → Finds Chain a last m
   unfolding Going Finds
   going_end last p m e l g rule known groups t lo top q h =
       let k = g rule known groups t lo top q h in
-      for-none rule known a lo k.mid p (λ x. least_length t ≡ capped (least_length x + m.least) → marked (unresolved 0 t) ≡ sooner (marked (unresolved 0 x)) m.reference → marked (idle t) ≡ sooner (marked (idle x)) m.idle → marked (unfollowed t) ≡ sooner (marked (unfollowed x)) m.form → marked (crowded t) ≡ sooner (marked (crowded x)) m.crowd → Of t m)
-      (λ c₁ c₂ c₃ c₄ c₅. unfold least_length unresolved idle unfollowed crowded marked sooner in record { least = sym (c₁ ∙ ap capped (none-add m.least) ∙ capped-within m.least l); reference = sym c₂; idle = sym c₃; form = sym c₄; crowd = sym c₅ }) e k.rest k.stands k.least k.first k.second k.third k.fourth
+      for-none rule known a lo k.mid p (λ x. least_length t ≡ capped (least_length x + m.least) → noted (unresolved 0 t) None ≡ noted (unresolved 0 x) m.reference → noted (idle t) None ≡ noted (idle x) m.idle → noted (unfollowed t) None ≡ noted (unfollowed x) m.form → noted (crowded t) None ≡ noted (crowded x) m.crowd → Of t m)
+      (λ c₁ c₂ c₃ c₄ c₅. unfold least_length unresolved idle unfollowed crowded noted in record { least = sym (c₁ ∙ ap capped (none-add m.least) ∙ capped-within m.least l); reference = sym c₂; idle = sym c₃; form = sym c₄; crowd = sym c₅ }) e k.rest k.stands k.least k.first k.second k.third k.fourth

@@ -1,10 +1,12 @@
 -- The numbers that are found: lengths that are capped, and places.
 use mathlib.Core.Path.{◌≡◌, refl, ap, ◌∙◌}
-use mathlib.Core.Bool.{Bool, false}
-use mathlib.Core.Option.{Option, none, some}
-use Prim.Native.Nat.{ℕ, zero, suc, min, ◌+◌, ◌*◌, ◌≤◌}
+use mathlib.Core.Bool.{Bool}
+use mathlib.Core.Option as maybe
+use mathlib.Core.Option.{none, some}
+use Rattle.std.specs.Prelude.{Option, None, Some, SomeIff, unwrap_or}
+use Rattle.std.specs.Option.{option_or}
+use Prim.Native.Nat.{ℕ, zero, suc, min, ◌+◌, ◌-◌, ◌*◌, ◌≤◌}
 use native.Mathlib.Omega.{arith}
-use lib.Dec.{eqb}
 use borrow.Author.Tests.{ne_eqb, lt-leb}
 use Rattle.syntax.specs.Limits.{length_limit}
 use Rattle.syntax.specs.Tree.{Item, byte_in, assert, reference, Rule, empty, item, seq, alt, group, repeat, held, look}
@@ -12,7 +14,7 @@ use Rattle.syntax.specs.Lengths.{capped, item_length, least_length, shortest}
 use Rattle.syntax.specs.Reading.{first_some, dangling}
 use Rattle.syntax.specs.Checkable.{lowest}
 use Rattle.syntax.specs.Compiled.{marked}
-use Rattle.lengths.specs.Measures.{sooner, lower}
+use Rattle.linker.specs.Linking.{noted}
 
 -- Lengths ---------------------------------------------------------------------------
 
@@ -50,43 +52,39 @@ mutual
 
 -- Places ------------------------------------------------------------------------------
 
--- a place that was found is no 0
-some-place : (a : ℕ) → eqb (suc a) 0 ≡ false
-some-place a = ne_eqb (suc a) 0 (λ e. omega arith)
+pub noted-first : (x y : maybe.Option ℕ) (s : Option ℕ) → noted (first_some x y) s ≡ noted x (noted y s)
+unfolding noted first_some
+noted-first none y s = refl
+noted-first (some place) y s = refl
 
-pub sooner-none : (a : ℕ) → sooner a 0 ≡ a
-unfolding sooner
-sooner-none zero = refl
-sooner-none (suc a) = rw (some-place a)
+pub noted-three : (x y z : maybe.Option ℕ) (s : Option ℕ) → noted (first_some x (first_some y z)) s ≡ noted x (noted y (noted z s))
+noted-three x y z s = noted-first x (first_some y z) s ∙ ap (noted x) (noted-first y z s)
 
-pub sooner-both : (a b c : ℕ) → sooner (sooner a b) c ≡ sooner a (sooner b c)
-unfolding sooner
-sooner-both zero b c = refl
-sooner-both (suc a) b c = rw (some-place a, some-place a)
+-- what was noted alone, and what comes after it
+pub noted-alone : (x : maybe.Option ℕ) (s : Option ℕ) → noted x s ≡ option_or (noted x None) s
+unfolding noted
+noted-alone none s = refl
+noted-alone (some place) s = refl
 
-sooner-some : (a b : ℕ) → a + 1 ≡ sooner (a + 1) b
-unfolding sooner
-sooner-some a b = let e : a + 1 ≡ suc a = omega arith in rw (e, some-place a)
-
-pub marked-first : (x y : Option ℕ) → marked (first_some x y) ≡ sooner (marked x) (marked y)
-unfolding marked first_some
-marked-first none y = unfold sooner in refl
-marked-first (some p) y = sooner-some p (marked y)
-
-pub marked-three : (x y z : Option ℕ) → marked (first_some x (first_some y z)) ≡ sooner (marked x) (sooner (marked y) (marked z))
-marked-three x y z = marked-first x (first_some y z) ∙ ap (sooner (marked x)) (marked-first y z)
+pub noted-joined : (x y : maybe.Option ℕ) (s : Option ℕ) → noted (first_some x y) s ≡ noted x (option_or (noted y None) s)
+noted-joined x y s = noted-first x y s ∙ ap (noted x) (noted-alone y s)
 
 -- the lower of a form's own place and of what was found in it
-min-both : (a b : ℕ) → min (a + 1) (b + 1) ≡ min a b + 1
-min-both a b = omega arith
+pub noted-lowest : (place : ℕ) (o : maybe.Option ℕ) → Some (min place (unwrap_or (noted o None) place)) ≡ noted (some (lowest place o)) None
+unfolding noted lowest
+noted-lowest place none = let e : min place place ≡ place = omega arith in ap Some e
+noted-lowest place (some q) = refl
 
-pub marked-lowest : (place : ℕ) (o : Option ℕ) → lower (place + 1) (marked o) ≡ marked (some (lowest place o))
-unfolding lower marked lowest
-marked-lowest place none = refl
-marked-lowest place (some q) = rw (ne_eqb (q + 1) 0 (λ e. omega arith)) (min-both place q)
+-- the number of a bar, and the bar
+pub bar-noted : (o : maybe.Option ℕ) (bar : Option ℕ) → SomeIff bar (1 ≤ marked o) (marked o - 1) → bar ≡ noted o None
+unfolding marked noted
+bar-noted none None h = refl
+bar-noted none (Some place) h = absurd (omega (arith, h.0))
+bar-noted (some q) None h = absurd (h (omega arith))
+bar-noted (some q) (Some place) h = let e : place ≡ q = omega (arith, h.1) in ap Some e
 
 -- with no groups every reference is to none
 pub dangles : (at : ℕ) (folded : Bool) (n : ℕ) → dangling 0 at (reference folded n) ≡ some at
 unfolding dangling
 dangles at folded zero = refl
-dangles at folded (suc n) = rw (some-place n, lt-leb (suc n) 0 (omega arith))
+dangles at folded (suc n) = rw (ne_eqb (suc n) 0 (λ e. omega arith), lt-leb (suc n) 0 (omega arith))

@@ -1,10 +1,12 @@
 -- A part, by its kind: where what it holds stands, that this is no deeper, and what is found of the part from what was found of that.
-use Rattle.std.specs.Prelude.{if◌then◌else◌}
-use mathlib.Core.Path.{◌≡◌, refl, sym, ◌∙◌}
+use Rattle.std.specs.Prelude.{None, Some, if◌then◌else◌}
+use Rattle.std.specs.Option.{option_or}
+use mathlib.Core.Path.{◌≡◌, refl, ◌∙◌}
 use mathlib.Core.Bool.{Bool, true, false, ◌&&◌}
 use mathlib.Core.List.{List}
 use mathlib.Core.Logic.{inl, inr}
-use mathlib.Core.Option.{Option, none, some}
+use mathlib.Core.Option as maybe
+use mathlib.Core.Option.{none, some}
 use Prim.Native.Nat.{ℕ, ◌+◌, ◌-◌, ◌≤◌}
 use native.Mathlib.Omega.{arith}
 use lib.Dec.{eqb}
@@ -15,7 +17,7 @@ use Rattle.syntax.specs.declared.Most.{Most}
 use Rattle.syntax.specs.declared.Most.TheVariants.{AtMost, Unlimited}
 use Rattle.syntax.specs.Limits.{unset, bound_limit, byte_limit, length_limit, branch_limit}
 use Rattle.syntax.specs.Tree.{Item, byte_in, assert, reference, Rule, item, repeat, held, branch_count, line_break}
-use Rattle.syntax.specs.Compiled.{marked, most_word}
+use Rattle.syntax.specs.Compiled.{most_word}
 use Rattle.syntax.specs.Lengths.{capped, item_length, least_length, shortest, unbounded}
 use Rattle.syntax.specs.Reading.{first_some, dangling, unresolved, unresolved_in, idle, idle_in}
 use Rattle.syntax.specs.Checkable.{lowest, unfollowed, unfollowed_in, crowded_at, crowded, crowded_in}
@@ -24,9 +26,10 @@ use Rattle.linker.specs.Nodes.{Breaking, Part, Inside}
 use Rattle.linker.specs.Stores.{Bracketed}
 use Rattle.linker.proofs.Regions.{part-here}
 use Rattle.linker.proofs.Trees.{ItemKind, for-bracketed, for-repeat, for-plain, for-item}
+use Rattle.linker.specs.Linking.{noted}
 use Rattle.lengths.specs.declared.Measured.{Measured}
-use Rattle.lengths.specs.Measures.{sooner, idle_at, Repeated, Enclosed, form_at, Singled, Deep, Of, Finds}
-use Rattle.lengths.proofs.Numbers.{marked-first, marked-lowest, dangles}
+use Rattle.lengths.specs.Measures.{idle_at, Repeated, Enclosed, form_at, Singled, Deep, Of, Finds}
+use Rattle.lengths.proofs.Numbers.{noted-lowest, dangles}
 
 -- whether a repeat has an upper bound is told by its maximum's number
 most-told : (least : ℕ) (most : Most) → BoundsFit least most → eqb (most_word most) unset ≡ unbounded most
@@ -35,10 +38,11 @@ most-told least (AtMost m) b = ne_eqb m 4294967295 (λ e. omega (arith, b.1))
 most-told least Unlimited b = refl
 
 -- a repeat's own place comes behind those in its body
-own-found : (place : ℕ) (inner : Option ℕ) (b : Bool) → sooner (marked inner) (if b then place + 1 else 0) ≡ marked (first_some inner (if b then some place else none))
-unfolding marked
-own-found place inner true = sym (marked-first inner (some place))
-own-found place inner false = sym (marked-first inner none)
+own-found : (place : ℕ) (inner : maybe.Option ℕ) (b : Bool) → option_or (noted inner None) (if b then Some place else None) ≡ noted (first_some inner (if b then some place else none)) None
+unfolding noted first_some
+own-found place none true = refl
+own-found place none false = refl
+own-found place (some q) b = refl
 
 module _ (a : List ℕ) (p : ℕ) where
   -- its first numbers
@@ -68,9 +72,9 @@ module _ (a : List ℕ) (p : ℕ) where
   unfolding Finds Part least_length unresolved idle unfollowed crowded
   bracket-found within m e f w rule known groups t lo top proper h = for-bracketed rule known a lo top p (λ t. Proper groups t → Of t m)
       (λ n t h q. let o = f rule known groups t lo p q.2 (rw h.is h.holds) in record { least = w.least ∙ rw h.node.is o.least; reference = w.reference ∙ o.reference; idle = w.idle ∙ o.idle; form = w.form ∙ rw h.node.is o.form; crowd = w.crowd ∙ o.crowd })
-      (λ place t h q. let o = f rule known groups t lo p q (rw h.is h.holds) in record { least = w.least ∙ rw h.node.is o.least; reference = w.reference ∙ o.reference; idle = w.idle ∙ o.idle; form = w.form ∙ rw (h.node.is, h.origin, o.form) (marked-lowest place (unfollowed t)); crowd = w.crowd ∙ o.crowd })
-      (λ place t h q. let o = f rule known groups t lo p q (rw h.is h.holds) in record { least = w.least ∙ rw h.node.is refl; reference = w.reference ∙ o.reference; idle = w.idle ∙ o.idle; form = w.form ∙ rw (h.node.is, h.origin, o.form) (marked-lowest place (unfollowed t)); crowd = w.crowd ∙ o.crowd })
-      (λ place t h q. let o = f rule known groups t lo p q (rw h.is h.holds) in record { least = w.least ∙ rw h.node.is refl; reference = w.reference ∙ o.reference; idle = w.idle ∙ o.idle; form = w.form ∙ rw (h.node.is, h.origin, o.form) (marked-lowest place (unfollowed t)); crowd = w.crowd ∙ o.crowd }) e t h proper
+      (λ place t h q. let o = f rule known groups t lo p q (rw h.is h.holds) in record { least = w.least ∙ rw h.node.is o.least; reference = w.reference ∙ o.reference; idle = w.idle ∙ o.idle; form = w.form ∙ rw (h.node.is, h.origin, o.form) (noted-lowest place (unfollowed t)); crowd = w.crowd ∙ o.crowd })
+      (λ place t h q. let o = f rule known groups t lo p q (rw h.is h.holds) in record { least = w.least ∙ rw h.node.is refl; reference = w.reference ∙ o.reference; idle = w.idle ∙ o.idle; form = w.form ∙ rw (h.node.is, h.origin, o.form) (noted-lowest place (unfollowed t)); crowd = w.crowd ∙ o.crowd })
+      (λ place t h q. let o = f rule known groups t lo p q (rw h.is h.holds) in record { least = w.least ∙ rw h.node.is refl; reference = w.reference ∙ o.reference; idle = w.idle ∙ o.idle; form = w.form ∙ rw (h.node.is, h.origin, o.form) (noted-lowest place (unfollowed t)); crowd = w.crowd ∙ o.crowd }) e t h proper
 
   -- Groups that do not ------------------------------------------------------------------
 
@@ -123,7 +127,7 @@ module _ (a : List ℕ) (p : ℕ) where
   -- Items ---------------------------------------------------------------------------------
 
   pub item-found : (m : Measured) → (Bracketed (get_or a p 0) → ⊥) → (get_or a p 0 ≡ 7 → ⊥) → (get_or a p 0 ≡ 10 → ⊥) → Singled a p (get_or a p 0) m → Finds Part a p m
-  unfolding Finds Part line_break least_length item_length shortest capped length_limit unresolved unresolved_in first_some dangling idle idle_in lowest unfollowed unfollowed_in crowded_at crowded crowded_in branch_count branch_limit byte_limit form_at marked
+  unfolding Finds Part line_break least_length item_length shortest capped length_limit unresolved unresolved_in first_some dangling idle idle_in lowest unfollowed unfollowed_in crowded_at crowded crowded_in branch_count branch_limit byte_limit form_at noted
   item-found m b e₇ e₁₀ w rule known groups t lo top proper h = for-item rule known a lo top p (λ t. Of t m) go broken b e₇ e₁₀ t h
     where
       go : (place : ℕ) (i : Item) → ItemKind i (get_or a p 0) → Part rule known a (item place i) lo top p → Of (item place i) m

@@ -1,38 +1,18 @@
-// What the depot profile bars of a rule, and the least lengths that it asks for; and what a check cannot follow. A recursion over the rule's groups and repeats, one inside another, in
-// which the levels that are left fall at each part. It goes over the nodes as the first pass left them in the rule area, and looks at each once. It has
-// to come before linking, since the linked rule does not tell where an alternation ends, and a repeat's place there gives way to its register.
+// What the depot profile bars of a rule, and the least lengths that it asks for; and what a check cannot follow. A recursion over the rule's groups and
+// repeats, one inside another, in which the levels that are left fall at each part. It goes over the nodes as the first pass left them in the rule
+// area, and looks at each once. It has to come before linking, since the linked rule does not tell where an alternation ends, and a repeat's place there
+// gives way to its register.
 #![tactic(auto)]
 
-ghost use Rattle.std.specs.Prelude.{◌≡◌, true, min, ◌+◌, ◌≤◌, ltb, length, if◌then◌else◌};
+ghost use Rattle.std.specs.Prelude.{◌≡◌, true, MatchOption, Ok, Err, ◌+◌, ◌≤◌, ltb, length, if◌then◌else◌};
 ghost use Rattle.syntax.specs.Limits.{length_limit, level_limit};
 ghost use Rattle.linker.specs.Nodes.{Part, Chain, Inside};
-ghost use Rattle.lengths.specs.Measures.{sooner, lower, IsNothing, Joined, Shorter, idle_at, Repeated, Enclosed, takes_bytes, refers_back, form_at, Singled, Deep, DeepBranches, Finds, FindsBranches, Judges, Follows};
+ghost use Rattle.lengths.specs.Measures.{IsNothing, Joined, Shorter, idle_at, Repeated, Enclosed, Singled, Deep, DeepBranches, Finds, FindsBranches, Judges, Follows};
 
 use linker::{before_of, is_bracketed};
 use name_table::word;
+use syntax::node::{AHEAD, BREAK, BYTE, CLOSE, LAST, NAMED, PLAIN, REFERENCE, REPEAT, UNLIMITED};
 use syntax::{Reason, Refusal};
-
-// The kinds of nodes, as the linker's specs/Nodes.antt lists them.
-const BYTE: usize = 0;
-
-const NAMED: usize = 2;
-
-const CLOSE: usize = 4;
-
-const LAST: usize = 6;
-
-const REPEAT: usize = 7;
-
-const PLAIN: usize = 10;
-
-const REFERENCE: usize = 11;
-
-const BREAK: usize = 12;
-
-const AHEAD: usize = 15;
-
-// The maximum of a repeat that has none.
-const UNLIMITED: usize = 4294967295;
 
 // Where least lengths are held.
 const LENGTH_LIMIT: usize = 65536;
@@ -40,51 +20,15 @@ const LENGTH_LIMIT: usize = 65536;
 // How many levels of sequences and repeats a rule can have, one inside another.
 const LEVEL_LIMIT: u32 = 150;
 
-// Whether a rule keeps to the profile, or can be followed by a check, or why it does not.
-#[derive(Drop)]
-pub enum Judgement {
-    Passes,
-    Barred(Refusal),
-}
-
-// What was found of a part: its least length, and one more than the places of its first reference and of its first repeat without upper bound whose body
-// has the least length 0, of its first held part or looking ahead, and of its first bar before a 257th branch; 0 for none.
-#[derive(Drop)]
+// What was found of a part: its least length, and the places of its first reference and of its first repeat without upper bound whose body has the
+// least length 0, of its first held part or looking ahead, and of its first bar before a 257th branch.
+#[derive(Clone, Copy, Debug, PartialEq, Eq)]
 struct Measured {
     least: usize,
-    reference: usize,
-    idle: usize,
-    form: usize,
-    crowd: usize,
-}
-
-// Of two places that were found, the one further left. 0 is none.
-fn first(a: usize, b: usize) -> usize
-    ensures { result ≡ sooner a b }
-{
-    if a == 0 {
-        return b;
-    }
-    a
-}
-
-fn smaller(a: usize, b: usize) -> usize
-    ensures { result ≡ min a b }
-{
-    if a < b {
-        return a;
-    }
-    b
-}
-
-// The lower of a place and one that may have been found.
-fn lower_of(own: usize, other: usize) -> usize
-    ensures { result ≡ lower own other }
-{
-    if other == 0 {
-        return own;
-    }
-    smaller(own, other)
+    reference: Option<usize>,
+    idle: Option<usize>,
+    form: Option<usize>,
+    crowd: Option<usize>,
 }
 
 // Nothing: it takes no bytes, and nothing is found in it.
@@ -93,10 +37,10 @@ fn nothing() -> Measured
 {
     Measured {
         least: 0,
-        reference: 0,
-        idle: 0,
-        form: 0,
-        crowd: 0,
+        reference: None,
+        idle: None,
+        form: None,
+        crowd: None,
     }
 }
 
@@ -105,60 +49,37 @@ fn follow(a: Measured, b: Measured) -> Measured
     requires { (a.least ≤ length_limit) × (b.least ≤ length_limit) }
     ensures { Joined a b result }
 {
-    let sum = a.least + b.least;
-    let x = a.reference;
-    let y = b.reference;
-    let i = a.idle;
-    let j = b.idle;
-    let f = a.form;
-    let g = b.form;
-    let c = a.crowd;
-    let d = b.crowd;
     Measured {
-        least: smaller(sum, LENGTH_LIMIT),
-        reference: first(x, y),
-        idle: first(i, j),
-        form: first(f, g),
-        crowd: first(c, d),
+        least: (a.least + b.least).min(LENGTH_LIMIT),
+        reference: a.reference.or(b.reference),
+        idle: a.idle.or(b.idle),
+        form: a.form.or(b.form),
+        crowd: a.crowd.or(b.crowd),
     }
 }
 
-// Branches of which one is taken, with what tells of the bar between them.
-fn either(a: Measured, bar: usize, b: Measured) -> Measured
+// Branches of which one is taken, with the bar between them if it stands before a 257th.
+fn either(a: Measured, bar: Option<usize>, b: Measured) -> Measured
     ensures { Shorter a bar b result }
 {
-    let k = a.least;
-    let l = b.least;
-    let x = a.reference;
-    let y = b.reference;
-    let i = a.idle;
-    let j = b.idle;
-    let f = a.form;
-    let g = b.form;
-    let c = a.crowd;
-    let d = b.crowd;
-    let behind = first(bar, d);
     Measured {
-        least: smaller(k, l),
-        reference: first(x, y),
-        idle: first(i, j),
-        form: first(f, g),
-        crowd: first(c, behind),
+        least: a.least.min(b.least),
+        reference: a.reference.or(b.reference),
+        idle: a.idle.or(b.idle),
+        form: a.form.or(b.form),
+        crowd: a.crowd.or(bar.or(b.crowd)),
     }
 }
 
 // The place of the repeat at p, if it has no upper bound and its body's least length is 0.
-fn own_idle(area: &[u32], p: usize, body: usize) -> usize
+fn own_idle(area: &[u32], p: usize, body: usize) -> Option<usize>
     requires { p + 8 ≤ length area.now }
     ensures { result ≡ idle_at area.now p body }
 {
-    if word(area, p + 3) != UNLIMITED {
-        return 0;
+    if area[p + 3] == UNLIMITED && body == 0 {
+        return Some(word(area, p + 5));
     }
-    if body != 0 {
-        return 0;
-    }
-    word(area, p + 5) + 1
+    None
 }
 
 // The repeat at p, of whose body this was found.
@@ -166,24 +87,16 @@ fn repeated(area: &[u32], p: usize, body: Measured) -> Measured
     requires { (p + 8 ≤ length area.now) × (body.least ≤ length_limit) }
     ensures { Repeated area.now p body result }
 {
-    let length = body.least;
-    let reference = body.reference;
-    let inner = body.idle;
-    let form = body.form;
-    let crowd = body.crowd;
     let least = word(area, p + 2);
-    let own = own_idle(area, p, length);
     Measured {
-        least: smaller(least * length, LENGTH_LIMIT),
-        reference,
-        idle: first(inner, own),
-        form,
-        crowd,
+        least: (least * body.least).min(LENGTH_LIMIT),
+        idle: body.idle.or(own_idle(area, p, body.least)),
+        ..body
     }
 }
 
 // How many bytes a held part or looking ahead takes, whose inside takes so many: looking ahead takes none.
-fn taken(kind: usize, within: usize) -> usize
+fn taken(kind: u32, within: usize) -> usize
     ensures { result ≡ (if ltb kind 15 then within else 0) }
 {
     if kind < AHEAD {
@@ -193,90 +106,43 @@ fn taken(kind: usize, within: usize) -> usize
 }
 
 // The group that captures, held part or looking ahead at p, of whose inside this was found. A possessive's place is behind those in its body.
-fn enclosed(area: &[u32], p: usize, kind: usize, within: Measured) -> Measured
+fn enclosed(area: &[u32], p: usize, kind: u32, within: Measured) -> Measured
     requires { p + 7 ≤ length area.now }
     ensures { Enclosed area.now p kind within result }
 {
     if kind == CLOSE {
         return within;
     }
-    let reference = within.reference;
-    let idle = within.idle;
-    let inner = within.form;
-    let crowd = within.crowd;
-    let length = within.least;
     let place = word(area, p + 3);
+    let form = place.min(within.form.unwrap_or(place));
     Measured {
-        least: taken(kind, length),
-        reference,
-        idle,
-        form: lower_of(place + 1, inner),
-        crowd,
+        least: taken(kind, within.least),
+        form: Some(form),
+        ..within
     }
-}
-
-// Whether an item of a kind takes a byte, or more.
-fn takes(kind: usize) -> bool
-    ensures { result ≡ takes_bytes kind }
-{
-    if kind == BYTE {
-        return true;
-    }
-    kind == BREAK
-}
-
-// Whether an item of a kind is a reference, by number or by name.
-fn refers(kind: usize) -> bool
-    ensures { result ≡ refers_back kind }
-{
-    if kind == REFERENCE {
-        return true;
-    }
-    kind == NAMED
-}
-
-// The place of `\R` at p, if it is one.
-fn own_form(area: &[u32], p: usize, kind: usize) -> usize
-    requires { p + 3 ≤ length area.now }
-    ensures { result ≡ form_at area.now p kind }
-{
-    if kind != BREAK {
-        return 0;
-    }
-    word(area, p + 2) + 1
 }
 
 // The item at p, of a kind, or `\R`.
-fn single(area: &[u32], p: usize, kind: usize) -> Measured
+fn single(area: &[u32], p: usize, kind: u32) -> Measured
     requires { p + 3 ≤ length area.now }
     ensures { Singled area.now p kind result }
 {
-    let form = own_form(area, p, kind);
-    if takes(kind) {
-        return Measured {
+    let place = word(area, p + 2);
+    match kind {
+        BYTE => Measured {
             least: 1,
-            reference: 0,
-            idle: 0,
-            form,
-            crowd: 0,
-        };
-    }
-    if refers(kind) {
-        let reference = word(area, p + 2) + 1;
-        return Measured {
-            least: 0,
-            reference,
-            idle: 0,
-            form,
-            crowd: 0,
-        };
-    }
-    Measured {
-        least: 0,
-        reference: 0,
-        idle: 0,
-        form,
-        crowd: 0,
+            ..nothing()
+        },
+        BREAK => Measured {
+            least: 1,
+            form: Some(place),
+            ..nothing()
+        },
+        REFERENCE | NAMED => Measured {
+            reference: Some(place),
+            ..nothing()
+        },
+        _ => nothing(),
     }
 }
 
@@ -286,22 +152,23 @@ fn part(area: &[u32], p: usize, depth: u32) -> Measured
     requires { Deep Part area.now p depth }
     ensures { Finds Part area.now p result }
 {
-    let kind = word(area, p);
-    if is_bracketed(kind) {
+    let kind = area[p];
+    if is_bracketed(kind as usize) {
         let within = inside(area, word(area, p + 5), depth);
         return enclosed(area, p, kind, within);
     }
-    if kind == PLAIN {
-        return inside(area, word(area, p + 2), depth);
+    match kind {
+        PLAIN => inside(area, word(area, p + 2), depth),
+        REPEAT => {
+            let body = part(area, word(area, p + 6), depth - 1);
+            repeated(area, p, body)
+        }
+        _ => single(area, p, kind),
     }
-    if kind == REPEAT {
-        let body = part(area, word(area, p + 6), depth - 1);
-        return repeated(area, p, body);
-    }
-    single(area, p, kind)
 }
 
-// A sequence, from its last part to its first. Its parts stand one level deeper.
+// A sequence, from its last part to its first. Its parts stand one level deeper. Nodes name those before them in two ways, here and in `branches`: an
+// iterator for each would be longer than the two loops.
 #[cycle(branches_chain_inside_part)]
 fn chain(area: &[u32], last: usize, depth: u32) -> Measured
     requires { Deep Chain area.now last depth }
@@ -329,7 +196,7 @@ fn branches(area: &[u32], last: usize, behind: Measured, depth: u32) -> Measured
     while p != 0 {
         let held = word(area, p + 1);
         let before = word(area, p + 2);
-        let bar = word(area, p + 3);
+        let bar = word(area, p + 3).checked_sub(1);
         let one = chain(area, held, depth);
         m = either(one, bar, m);
         p = before;
@@ -346,7 +213,7 @@ fn inside(area: &[u32], p: usize, depth: u32) -> Measured
     if p == 0 {
         return nothing();
     }
-    if word(area, p) == LAST {
+    if area[p] == LAST {
         let held = word(area, p + 1);
         let before = word(area, p + 2);
         let last = chain(area, held, depth);
@@ -355,48 +222,33 @@ fn inside(area: &[u32], p: usize, depth: u32) -> Measured
     chain(area, p, depth)
 }
 
-// Judges a whole rule, whose inside the first pass left.
-pub fn judge(area: &[u32], p: usize) -> Judgement
+// Refuses a rule at the place that was found, if one was.
+fn refuse_at(found: Option<usize>, reason: Reason) -> Result<(), Refusal>
+    ensures { MatchOption found (result ≡ Ok tt) (λ place. result ≡ Err (record { place = place; reason = reason })) }
+{
+    match found {
+        Some(place) => Err(Refusal::at(place, reason)),
+        None => Ok(()),
+    }
+}
+
+// Judges a whole rule, whose inside the first pass left: whether it keeps to the profile. `judge` and `checkable` promise different things of one walk;
+// all that they do alike is in `refuse_at`, and one function for both, with fields and reasons passed to it, would be no plainer.
+pub fn judge(area: &[u32], p: usize) -> Result<(), Refusal>
     requires { Deep Inside area.now p level_limit }
     ensures { Judges true area.now p result }
 {
     let m = inside(area, p, LEVEL_LIMIT);
-    let reference = m.reference;
-    let idle = m.idle;
-    if reference != 0 {
-        return Judgement::Barred(Refusal {
-            place: reference - 1,
-            reason: Reason::BarredReference,
-        });
-    }
-    if idle != 0 {
-        return Judgement::Barred(Refusal {
-            place: idle - 1,
-            reason: Reason::IdleRepeat,
-        });
-    }
-    Judgement::Passes
+    refuse_at(m.reference, Reason::BarredReference)?;
+    refuse_at(m.idle, Reason::IdleRepeat)
 }
 
 // Whether a check can follow a whole rule, whose inside the first pass left.
-pub fn checkable(area: &[u32], p: usize) -> Judgement
+pub fn checkable(area: &[u32], p: usize) -> Result<(), Refusal>
     requires { Deep Inside area.now p level_limit }
     ensures { Follows true area.now p result }
 {
     let m = inside(area, p, LEVEL_LIMIT);
-    let form = m.form;
-    let crowd = m.crowd;
-    if form != 0 {
-        return Judgement::Barred(Refusal {
-            place: form - 1,
-            reason: Reason::HeldOrLook,
-        });
-    }
-    if crowd != 0 {
-        return Judgement::Barred(Refusal {
-            place: crowd - 1,
-            reason: Reason::TooManyBranches,
-        });
-    }
-    Judgement::Passes
+    refuse_at(m.form, Reason::HeldOrLook)?;
+    refuse_at(m.crowd, Reason::TooManyBranches)
 }

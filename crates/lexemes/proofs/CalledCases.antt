@@ -21,12 +21,15 @@ use Rattle.syntax.specs.Names.{Name, word_at, is_name, name_up_to}
 use Rattle.syntax.specs.Escapes.{called, calls_by_name}
 use Rattle.syntax.specs.Laws.Forward.{and_left, and_right}
 use Rattle.syntax.specs.Laws.Within.{is-in}
-use Rattle.lexemes.specs.declared.NameRead.{NameRead}
+use Rattle.std.specs.Prelude.{Result}
+use Rattle.syntax.specs.declared.Parsed.{Parsed}
+use Rattle.syntax.specs.declared.Refusal.{Refusal}
+use Rattle.lexemes.specs.declared.Name.{Name as NameAt}
 use Rattle.lexemes.specs.Says.{Peeked, NameWithin, SaysName}
 use Rattle.lexemes.proofs.Runs.{run-taken, run-first}
 
 -- equal readings say the same
-pub same_name : (s : List ℕ) {a b : Read Name} (r : NameRead) → a ≡ b → SaysName s a r → SaysName s b r
+pub same_name : (s : List ℕ) {a b : Read Name} (r : Result (Parsed NameAt) Refusal) → a ≡ b → SaysName s a r → SaysName s b r
 same_name s r e h = rw e at h
 
 -- The word bytes at a position ---------------------------------------------------------

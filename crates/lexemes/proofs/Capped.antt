@@ -1,7 +1,7 @@
 -- Laws of capped numbers: below 1000 a cap changes nothing, and a test against a limit below 1000 does not see it. Assumes nothing.
 use Rattle.std.specs.Prelude.{if◌then◌else◌}
 use mathlib.Core.Path.{◌≡◌, refl, sym, ◌∙◌}
-use Prim.Native.Nat.{ℕ, ◌-◌, ◌≤◌, ◌<◌}
+use Prim.Native.Nat.{ℕ, ◌-◌, ◌≤◌, ◌<◌, min}
 use native.Mathlib.Omega.{arith}
 use native.Mathlib.Decide.{dec_lt}
 use lib.Dec.{leb, eqb}
@@ -30,6 +30,9 @@ capped-most n = capped-by (λ (c n : ℕ). c ≤ 1000) n (λ h. omega arith) (λ
 
 pub capped_same : (n : ℕ) → n ≤ 1000 → capped n ≡ n
 capped_same n l = capped-by (λ (c n : ℕ). c ≡ n) n (λ h. refl) (λ h. omega arith)
+
+pub capped-min : (n : ℕ) → min n 1000 ≡ capped n
+capped-min n = capped-by (λ (c n : ℕ). min n 1000 ≡ c) n (λ h. omega arith) (λ h. omega arith)
 
 pub capped-zero : (n : ℕ) → eqb (capped n) 0 ≡ eqb n 0
 capped-zero n = capped-by (λ (c n : ℕ). eqb c 0 ≡ eqb n 0) n (λ h. refl) (λ h. sym (ne_eqb n 0 (λ e. omega arith)))

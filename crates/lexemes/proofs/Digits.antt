@@ -12,11 +12,14 @@ use lib.ListN.{length, drop_of_length-le}
 use lib.Dec.{leb}
 use lib.Seq.{drop-cons}
 use borrow.Author.Tests.{lt-ltb, le-ltb, le-leb, lt-leb}
+use Rattle.std.specs.Prelude.{Option, None, Some, MatchOption}
+use Rattle.std.specs.Option.{SomeIff}
+use Rattle.std.specs.Char.{digit_value as std_value}
 use Rattle.syntax.specs.Read.{byte}
 use Rattle.syntax.specs.Numbers.{run, digit_value, is_digit, digits, value_from, value, is_none}
 use Rattle.syntax.specs.Laws.Fuel.{byte_past}
-use Rattle.lexemes.specs.declared.Number.{Number}
-use Rattle.lexemes.specs.Says.{capped, Counts}
+use Rattle.syntax.specs.declared.Parsed.{Parsed}
+use Rattle.lexemes.specs.Says.{IsDigitAt, capped, Counts}
 use Rattle.lexemes.proofs.Capped.{capped-over, capped-most, capped_same, capped-by}
 
 -- What a digit stands for -----------------------------------------------------
@@ -44,15 +47,57 @@ pub no_digit : (b : ℕ) → (b < 48) ⊎ (57 < b) → (b < 65) ⊎ (70 < b) →
 unfolding digit_value
 no_digit b d u l = simp (outside 48 57 b d, outside 65 70 b u, outside 97 102 b l)
 
+-- std reads letters over `f` too, and says 36 of what is no digit: below 16 it says the same
+Same : (b std : ℕ) → Type 0
+Same b std = ((std < 16) × (digit_value b ≡ std)) ⊎ ((16 ≤ std) × (digit_value b ≡ 16))
+
+same : (b : ℕ) → Same b (std_value b)
+unfolding Same
+same b = go (dec_lt b 48) (dec_lt b 58) (dec_lt b 65) (dec_lt b 71) (dec_lt b 91) (dec_lt b 97) (dec_lt b 103) (dec_lt b 123)
+  where
+    go : Dec (b < 48) → Dec (b < 58) → Dec (b < 65) → Dec (b < 71) → Dec (b < 91) → Dec (b < 97) → Dec (b < 103) → Dec (b < 123) → Same b (std_value b)
+    go (yes h) h1 h2 h3 h4 h5 h6 h7 = rw (lt-ltb b 48 h) (inr (omega arith, no_digit b (inl h) (inl (omega arith)) (inl (omega arith))))
+    go (no h) (yes h1) h2 h3 h4 h5 h6 h7 = rw (le-ltb b 48 (omega arith), lt-ltb b 58 h1) (inl (omega arith, digit-decimal b (omega arith) (omega arith)))
+    go (no h) (no h1) (yes h2) h3 h4 h5 h6 h7 = rw (le-ltb b 48 (omega arith), le-ltb b 58 (omega arith), lt-ltb b 65 h2) (inr (omega arith, no_digit b (inr (omega arith)) (inl (omega arith)) (inl (omega arith))))
+    go (no h) (no h1) (no h2) (yes h3) h4 h5 h6 h7 =
+        rw (le-ltb b 48 (omega arith), le-ltb b 58 (omega arith), le-ltb b 65 (omega arith), lt-ltb b 91 (omega arith)) (inl (omega arith, digit-upper b (omega arith) (omega arith) ∙ omega arith))
+    go (no h) (no h1) (no h2) (no h3) (yes h4) h5 h6 h7 =
+        rw (le-ltb b 48 (omega arith), le-ltb b 58 (omega arith), le-ltb b 65 (omega arith), lt-ltb b 91 h4) (inr (omega arith, no_digit b (inr (omega arith)) (inr (omega arith)) (inl (omega arith))))
+    go (no h) (no h1) (no h2) (no h3) (no h4) (yes h5) h6 h7 =
+        rw (le-ltb b 48 (omega arith), le-ltb b 58 (omega arith), le-ltb b 65 (omega arith), le-ltb b 91 (omega arith), lt-ltb b 97 h5) (inr (omega arith, no_digit b (inr (omega arith)) (inr (omega arith)) (inl (omega arith))))
+    go (no h) (no h1) (no h2) (no h3) (no h4) (no h5) (yes h6) h7 =
+        rw (le-ltb b 48 (omega arith), le-ltb b 58 (omega arith), le-ltb b 65 (omega arith), le-ltb b 91 (omega arith), le-ltb b 97 (omega arith), lt-ltb b 123 (omega arith))
+        (inl (omega arith, digit-lower b (omega arith) (omega arith) ∙ omega arith))
+    go (no h) (no h1) (no h2) (no h3) (no h4) (no h5) (no h6) (yes h7) =
+        rw (le-ltb b 48 (omega arith), le-ltb b 58 (omega arith), le-ltb b 65 (omega arith), le-ltb b 91 (omega arith), le-ltb b 97 (omega arith), lt-ltb b 123 h7)
+        (inr (omega arith, no_digit b (inr (omega arith)) (inr (omega arith)) (inr (omega arith))))
+    go (no h) (no h1) (no h2) (no h3) (no h4) (no h5) (no h6) (no h7) =
+        rw (le-ltb b 48 (omega arith), le-ltb b 58 (omega arith), le-ltb b 65 (omega arith), le-ltb b 91 (omega arith), le-ltb b 97 (omega arith), le-ltb b 123 (omega arith))
+        (inr (omega arith, no_digit b (inr (omega arith)) (inr (omega arith)) (inr (omega arith))))
+
+told-by : (base b : ℕ) → base ≤ 16 → Same b (std_value b) → (o : Option ℕ) → SomeIff o (std_value b < base) (std_value b) → MatchOption o (base ≤ digit_value b) (λ d. (d ≡ digit_value b) × (d < base))
+unfolding Same
+told-by base b h (inl s) None n = omega arith
+told-by base b h (inr s) None n = omega arith
+told-by base b h (inl s) (Some d) k = (k.1 ∙ sym s.1, omega arith)
+told-by base b h (inr s) (Some d) k = absurd (omega arith)
+
+-- what std answers of the byte at a position
+pub told-at : (base : ℕ) (s : List ℕ) (at : ℕ) → base ≤ 16 → (b : ℕ) → b ≡ byte s at → (o : Option ℕ) → SomeIff o (std_value b < base) (std_value b) → IsDigitAt base s at o
+told-at base s at h b e o k = rw (← e) (told-by base b h (same b) o k)
+
 -- The digits at a position ------------------------------------------------------
 
-in-by : (s : List ℕ) (i d : ℕ) → d ≡ digit_value (byte s i) → d < 16 → Dec (i < length s) → i < length s
-in-by s i d q h (yes l) = l
-in-by s i d q h (no l) = let e : digit_value (byte s i) ≡ 16 = rw (byte_past s i (omega arith)) (unfold digit_value in refl) in absurd (omega arith)
-
 -- no digit stands past the end
-pub digit-in : (s : List ℕ) (i d : ℕ) → d ≡ digit_value (byte s i) → d < 16 → i < length s
-digit-in s i d q h = in-by s i d q h (dec_lt i (length s))
+pub digit-past : (s : List ℕ) (i base : ℕ) → length s ≤ i → base ≤ 16 → base ≤ digit_value (byte s i)
+digit-past s i base h low = let e : digit_value (byte s i) ≡ 16 = rw (byte_past s i h) (unfold digit_value in refl) in omega arith
+
+digit-in-by : (base : ℕ) (s : List ℕ) (i : ℕ) → base ≤ 16 → digit_value (byte s i) < base → Dec (i < length s) → i < length s
+digit-in-by base s i low h (yes l) = l
+digit-in-by base s i low h (no l) = let e = digit-past s i base (omega arith) low in absurd (omega arith)
+
+pub digit-in : (base : ℕ) (s : List ℕ) (i : ℕ) → base ≤ 16 → digit_value (byte s i) < base → i < length s
+digit-in base s i low h = digit-in-by base s i low h (dec_lt i (length s))
 
 module _ (base : ℕ) (s : List ℕ) (i : ℕ) where
   stop-by : base ≤ digit_value (byte s i) → Dec (i < length s) → digits base s i ≡ []
@@ -105,16 +150,18 @@ module _ (base : ℕ) (s : List ℕ) (from : ℕ) where
   passed_none h = record { begins = omega arith; within = h; small = omega arith; number = unfold value in refl; next = refl }
 
   module _ (i v : ℕ) (p : Passed base s from i v) where
-    pub stops : (d : ℕ) → d ≡ digit_value (byte s i) → base ≤ d → Counts base s from (record { value = v; next = i })
-    stops d q h =
-        let e = digits-stop base s i (omega arith) in
+    pub stops : base ≤ digit_value (byte s i) → Counts base s from (record { value = v; next = i })
+    stops h =
+        let e = digits-stop base s i h in
         let k : from + length (digits base s from) ≡ i = p.next ∙ rw e (omega arith) in
         let n : capped (value base (digits base s from)) ≡ v = p.number ∙ rw e (unfold value_from in capped_same v p.small) in
         record { next = sym k; value = sym n; within = p.within }
 
-    pub passed-more : (d r : ℕ) → d ≡ digit_value (byte s i) → d < base → 2 ≤ base → base ≤ 16 → r ≡ capped (v * base + d) → Passed base s from (i + 1) r
-    passed-more d r q h low high e =
-        let l = digit-in s i d q (omega arith) in
+    pub stops-end : length s ≤ i → base ≤ 16 → Counts base s from (record { value = v; next = length s })
+    stops-end h low = let e : length s ≡ i = omega (arith, p.within) in rw e (stops (digit-past s i base h low))
+
+    pub passed-more : (d r : ℕ) → i < length s → d ≡ digit_value (byte s i) → d < base → 2 ≤ base → base ≤ 16 → r ≡ capped (v * base + d) → Passed base s from (i + 1) r
+    passed-more d r l q h low high e =
         let t = digits-on base s i l (omega arith) in
         let m = capped-most (v * base + d) in
         let w : value_from base v (byte s i ∷ digits base s (i + 1)) ≡ value_from base (v * base + d) (digits base s (i + 1)) = unfold value_from in rw q in
@@ -138,7 +185,7 @@ unfolding is_none
 some-if [] at h = absurd (h (omega arith))
 some-if (d ∷ ds) at h = refl
 
-module _ (base : ℕ) (s : List ℕ) (at : ℕ) (r : Number) (c : Counts base s at r) where
+module _ (base : ℕ) (s : List ℕ) (at : ℕ) (r : Parsed ℕ) (c : Counts base s at r) where
   pub counted_none : r.next ≡ at → is_none (digits base s at) ≡ true
   counted_none e = none-if (digits base s at) at (omega (arith, c.next))
 

@@ -17,7 +17,7 @@ use Rattle.syntax.specs.Read.{byte}
 use Rattle.syntax.specs.Numbers.{digits, value}
 use Rattle.syntax.specs.Quantifiers.{with_greed, at_least, from_to, upper, braces, quantifier}
 use Rattle.syntax.specs.Laws.Fuel.{if-same}
-use Rattle.lexemes.specs.declared.Number.{Number}
+use Rattle.syntax.specs.declared.Parsed.{Parsed}
 use Rattle.lexemes.specs.Says.{capped, Counts}
 use Rattle.lexemes.proofs.Capped.{capped-if}
 use Rattle.lexemes.proofs.Digits.{counted_none, counted-some}
@@ -103,7 +103,7 @@ pub upper-close : (s : List ℕ) (n at b : ℕ) → b ≡ byte s at → b ≡ 12
 unfolding upper
 upper-close s n at b p e = rw (← p, e)
 
-module _ (s : List ℕ) (at : ℕ) (r : Number) (c : Counts 10 s at r) where
+module _ (s : List ℕ) (at : ℕ) (r : Parsed ℕ) (c : Counts 10 s at r) where
   pub braces-empty : r.next ≡ at → Stray ≡ braces s at
   unfolding braces
   braces-empty e = simp (counted_none 10 s at r c e)

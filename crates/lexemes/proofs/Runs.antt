@@ -1,14 +1,19 @@
--- The bytes with a property that stand at a position: a loop over them, and the part of the rule that they are. Assumes nothing.
-use Rattle.std.specs.Prelude.{if◌then◌else◌}
-use mathlib.Core.Path.{◌≡◌, refl, ap}
+-- The bytes with a property that stand at a position: their number, and the part of the rule that they are. Assumes nothing.
+use Rattle.std.specs.Prelude.{cond, if◌then◌else◌}
+use Rattle.std.specs.List.{prefix_len}
+use Rattle.std.proofs.lemmas.List.{take_all}
+use Rattle.std.proofs.lemmas.List.Sums.{prefix_len-le-length}
+use Rattle.std.proofs.lemmas.List.Folds.{length-prefix_len}
+use mathlib.Core.Path.{◌≡◌, refl, ap, ◌∙◌}
 use mathlib.Core.List.{List, [], ◌∷◌}
 use mathlib.Core.Bool.{Bool, true, false}
-use Prim.Native.Nat.{ℕ, suc, ◌+◌, ◌≤◌, ◌<◌}
+use Prim.Native.Nat.{ℕ, ◌+◌, ◌-◌, ◌≤◌}
 use native.Mathlib.Omega.{arith}
-use native.Mathlib.Numerals.{add-one}
-use lib.ListN.{length, get_or, take, drop, drop_of_length-le}
-use lib.Seq.{drop-cons}
+use lib.ListN.{length, get_or, take, drop, length-drop}
 use Rattle.syntax.specs.Numbers.{run}
+
+pub rest-whole : (s : List ℕ) (from : ℕ) → take (length s - from) (drop from s) ≡ drop from s
+rest-whole s from = take_all (length s - from) (drop from s) (let l = length-drop from s in omega arith)
 
 module _ (p : ℕ → Bool) where
   -- A run as a part ------------------------------------------------------------------
@@ -34,39 +39,24 @@ module _ (p : ℕ → Bool) where
       by l true h = refl
       by l false h = absurd (omega arith)
 
-  -- A loop over a run ----------------------------------------------------------------
+  -- A run by its length -----------------------------------------------------------------
 
-  module _ (s : List ℕ) (i : ℕ) where
-    none-past : length s ≤ i → run p (drop i s) ≡ []
-    unfolding run
-    none-past h = rw (drop_of_length-le s h)
+  run-length : (l : List ℕ) → prefix_len p l ≡ length (run p l)
+  unfolding run
+  run-length [] = refl
+  run-length (b ∷ bs) = by (p b) (run-length bs)
+    where
+      by : (t : Bool) → prefix_len p bs ≡ length (run p bs) → cond t (1 + prefix_len p bs) 0 ≡ length (if t then b ∷ run p bs else [])
+      by true e = omega arith
+      by false e = refl
 
-    none-else : i < length s → p (get_or s i 0) ≡ false → run p (drop i s) ≡ []
-    unfolding run
-    none-else h o = rw (drop-cons s i 0 h, o)
+  run-at_most : (l : List ℕ) → length (run p l) ≤ length l
+  run-at_most l = rw (← run-length l) (prefix_len-le-length p l)
 
-    one_more : i < length s → p (get_or s i 0) ≡ true → run p (drop i s) ≡ get_or s i 0 ∷ run p (drop (i + 1) s)
-    unfolding run
-    one_more h t = rw (drop-cons s i 0 h, add-one i, t)
-
-  -- what a loop over the run from `from` on has passed at i
-  pub record Ran (s : List ℕ) (from i : ℕ) : Type 0 where
-    pub begins : from ≤ i
-    pub within : i ≤ length s
-    pub next : from + length (run p (drop from s)) ≡ i + length (run p (drop i s))
-
-  pub ran-none : (s : List ℕ) (from : ℕ) → from ≤ length s → Ran s from from
-  ran-none s from h = record { begins = omega arith; within = h; next = refl }
-
-  module _ (s : List ℕ) (from i : ℕ) (r : Ran s from i) where
-    ends : run p (drop i s) ≡ [] → (i ≡ from + length (run p (drop from s))) × (i ≤ length s)
-    ends e = let z : length (run p (drop i s)) ≡ 0 = rw e in (omega (arith, r.next), r.within)
-
-    pub ends-past : length s ≤ i → (i ≡ from + length (run p (drop from s))) × (i ≤ length s)
-    ends-past h = ends (none-past s i h)
-
-    pub ends-else : i < length s → p (get_or s i 0) ≡ false → (i ≡ from + length (run p (drop from s))) × (i ≤ length s)
-    ends-else h o = ends (none-else s i h o)
-
-    pub ran-more : i < length s → p (get_or s i 0) ≡ true → Ran s from (i + 1)
-    ran-more h t = let z : length (run p (drop i s)) ≡ suc (length (run p (drop (i + 1) s))) = rw (one_more s i h t) in record { begins = omega (arith, r.begins); within = omega arith; next = omega (arith, r.next) }
+  -- what is counted of the bytes from a position on, as long as they have the property
+  pub run-counted : (s : List ℕ) (from n : ℕ) → from ≤ length s → n ≡ length (take (prefix_len p (drop from s)) (drop from s)) → (from + n ≡ from + length (run p (drop from s))) × (from + n ≤ length s)
+  run-counted s from n h e =
+      let m : n ≡ length (run p (drop from s)) = e ∙ length-prefix_len p (drop from s) ∙ run-length (drop from s) in
+      let b = run-at_most (drop from s) in
+      let l = length-drop from s in
+      (omega arith, omega arith)

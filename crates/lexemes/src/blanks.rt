@@ -4,21 +4,13 @@ ghost use Rattle.charset.specs.declared.Named.TheVariants.{Space};
 ghost use Rattle.charset.specs.Named.{in_named};
 ghost use Rattle.syntax.specs.Grammar.{skipped, behind_blanks};
 
+use charset::{Named, in_named};
+use syntax::Flags;
+
 // A comment begins at the first, and ends at the second.
 const NUMBER_SIGN: u8 = b'#';
 
 const LINE_FEED: u8 = 0x0A;
-
-// Whether a byte is a blank: 09 to 0D and 20.
-fn is_blank(b: u8) -> bool
-    ensures { result ≡ in_named Space b }
-{
-    match b {
-        0x09..=0x0D => true,
-        0x20 => true,
-        _ => false,
-    }
-}
 
 // Whether a byte ends what is skipped. Within a comment none does.
 fn ends_blanks(comment: bool, b: u8) -> bool
@@ -27,7 +19,7 @@ fn ends_blanks(comment: bool, b: u8) -> bool
     if comment {
         return false;
     }
-    if is_blank(b) {
+    if in_named(Named::Space, b) {
         return false;
     }
     b != NUMBER_SIGN
@@ -48,23 +40,21 @@ fn skip_blanks(rule: &[u8], from: usize) -> usize
     ensures { result ≡ from + skipped false (drop from rule.now) }
 {
     let mut comment = false;
-    let mut i = from;
-    while i < rule.len() {
+    for i in from..rule.len() {
         let b = rule[i];
         if ends_blanks(comment, b) {
             return i;
         }
         comment = comment_after(comment, b);
-        i += 1;
     }
-    i
+    from.max(rule.len())
 }
 
-// The position behind what is skipped from a position on. Without `x`, which is bit 3, nothing is.
+// The position behind what is skipped from a position on. Without `x` nothing is.
 pub fn behind_blanks(rule: &[u8], flags: u32, at: usize) -> usize
     ensures { result ≡ behind_blanks rule.now flags at }
 {
-    if flags / 8 % 2 == 1 {
+    if Flags(flags).is_extended() {
         return skip_blanks(rule, at);
     }
     at

@@ -13,10 +13,8 @@ pub fn breaks_line(rule: &[u8], at: usize) -> bool
     requires { at < length rule.now }
     ensures { result ≡ breaks_line rule.now at }
 {
-    let b = peek(rule, at);
-    if b != BACKSLASH {
+    if peek(rule, at) != BACKSLASH {
         return false;
     }
-    let d = peek(rule, at + 1);
-    d == CAPITAL_R
+    peek(rule, at + 1) == CAPITAL_R
 }

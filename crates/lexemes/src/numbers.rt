@@ -1,9 +1,8 @@
 // The byte at a position, and the number whose digits stand there.
 ghost use Rattle.std.specs.Prelude.{◌≡◌, ◌+◌, ◌*◌, ◌≤◌, ◌<◌, length};
-ghost use Rattle.syntax.specs.Numbers.{digit_value};
-ghost use Rattle.lexemes.specs.Says.{Peeked, capped, Counts};
+ghost use Rattle.lexemes.specs.Says.{Peeked, IsDigitAt, capped, Counts};
 
-use crate::Number;
+use syntax::Parsed;
 
 // The byte at a position, and 256 past the end.
 pub fn peek(rule: &[u8], at: usize) -> u32
@@ -16,17 +15,13 @@ pub fn peek(rule: &[u8], at: usize) -> u32
     }
 }
 
-// What a digit stands for, in bases up to 16; 16 for a byte that is no digit.
-pub fn digit_value(b: u32) -> u32
-    ensures { result ≡ digit_value b }
+// What the byte at a position stands for as a digit of a base up to 16, if it is one.
+pub fn digit_at(rule: &[u8], base: u32, at: usize) -> Option<u32>
+    requires { (2 ≤ base) × (base ≤ 16) }
+    ensures { IsDigitAt base rule.now at result }
 {
-    match b {
-        // `0` to `9`, `A` to `F`, `a` to `f`
-        48..=57 => b - 48,
-        65..=70 => b - 65 + 10,
-        97..=102 => b - 97 + 10,
-        _ => 16,
-    }
+    let b = rule.get(at)?;
+    char::from(*b).to_digit(base)
 }
 
 // One more digit behind a number.
@@ -34,23 +29,23 @@ fn more(v: u32, base: u32, d: u32) -> u32
     requires { (v ≤ 1000) × (base ≤ 16) × (d < 16) }
     ensures { result ≡ capped (v * base + d) }
 {
-    let n = v * base + d;
-    if n < 1000 { n } else { 1000 }
+    (v * base + d).min(1000)
 }
 
-// The number whose digits in a base stand at a position, as far as they go.
-pub fn number_at(rule: &[u8], base: u32, from: usize) -> Number
+// The number whose digits in a base stand at a position, as far as they go: what it stands for, at most 1000, and the position behind it.
+pub fn number_at(rule: &[u8], base: u32, from: usize) -> Parsed<u32>
     requires { (2 ≤ base) × (base ≤ 16) × (from ≤ length rule.now) }
     ensures { Counts base rule.now from result }
 {
-    let mut i = from;
-    let mut v: u32 = 0;
-    loop {
-        let d = digit_value(peek(rule, i));
-        if base <= d {
-            return Number { value: v, next: i };
-        }
-        v = more(v, base, d);
-        i += 1;
+    let mut value = 0;
+    for next in from..rule.len() {
+        let Some(d) = digit_at(rule, base, next) else {
+            return Parsed { value, next };
+        };
+        value = more(value, base, d);
+    }
+    Parsed {
+        value,
+        next: rule.len(),
     }
 }

@@ -3,7 +3,7 @@ ghost use Rattle.std.specs.Prelude.{◌≡◌, ◌≤◌, length};
 ghost use Rattle.syntax.specs.Quantifiers.{with_greed, at_least, from_to, upper, braces, quantifier};
 
 use crate::numbers::{number_at, peek};
-use syntax::{Greed, Most, Quantifier};
+use syntax::{Greed, Most, Parsed, Quantifier};
 
 // A repeat, which a `?` behind it makes lazy, and a `+` possessive.
 fn with_greed(rule: &[u8], least: u32, most: Most, at: usize) -> Quantifier
@@ -55,9 +55,7 @@ fn upper_at(rule: &[u8], n: u32, at: usize) -> Quantifier
     if peek(rule, at) == 125 {
         return at_least(rule, n, at + 1);
     }
-    let d = number_at(rule, 10, at);
-    let m = d.value;
-    let next = d.next;
+    let Parsed { value: m, next } = number_at(rule, 10, at);
     if next == at {
         return Quantifier::Stray;
     }
@@ -73,9 +71,7 @@ fn braces_at(rule: &[u8], at: usize) -> Quantifier
     requires { at ≤ length rule.now }
     ensures { result ≡ braces rule.now at }
 {
-    let d = number_at(rule, 10, at);
-    let n = d.value;
-    let next = d.next;
+    let Parsed { value: n, next } = number_at(rule, 10, at);
     if next == at {
         return Quantifier::Stray;
     }

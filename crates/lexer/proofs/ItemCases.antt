@@ -4,16 +4,14 @@ use mathlib.Core.Path.{◌≡◌, refl, ap, ◌∙◌}
 use mathlib.Core.List.{List}
 use mathlib.Core.Bool.{Bool, true, false, not, ◌||◌}
 use mathlib.Core.Logic.{◌⊎◌}
-use Prim.Native.Nat.{ℕ, ◌+◌, ◌/◌, ◌%◌, ◌≤◌, ◌<◌}
+use Prim.Native.Nat.{ℕ, ◌+◌, ◌≤◌, ◌<◌}
 use native.Mathlib.Omega.{arith}
 use lib.Dec.{eqb}
-use lib.Seq.{slice}
-use borrow.Author.Tests.{eq-eqb, ne_eqb}
+use borrow.Author.Tests.{ne_eqb}
 use Rattle.charset.specs.Class.{has}
 use Rattle.charset.specs.Laws.Cases.{other-before, folding-single}
 use Rattle.syntax.specs.declared.Assertion.TheVariants.{TextStart, LineStart, TextEnd, LastLineEnd, LineEnd, WordBoundary, NoWordBoundary}
 use Rattle.syntax.specs.declared.Refusal.{Refusal}
-use Rattle.syntax.specs.Limits.{dot_all_bit, multiline_bit}
 use Rattle.syntax.specs.Read.{byte, Read, sound, refused, and_then}
 use Rattle.syntax.specs.Sets.{Member, single, Class, is_member, is_any, in_class, only, not_newline, any_byte}
 use Rattle.syntax.specs.Tree.{Item, byte_in, assert, reference}
@@ -22,25 +20,18 @@ use Rattle.syntax.specs.Names.{Name, Names, name_up_to, group_called}
 use Rattle.syntax.specs.Escapes.{octal, common, forward, decimal, group_number, called, calls_by_name, escape}
 use Rattle.syntax.specs.Classes.{class}
 use Rattle.syntax.specs.Grammar.{atom}
-use Rattle.escapes.specs.declared.MemberRead.{MemberRead}
-use Rattle.escapes.specs.declared.MemberRead.TheVariants.{Bad}
-use Rattle.lexer.specs.declared.GroupRead.{GroupRead}
-use Rattle.lexer.specs.declared.GroupRead.TheVariants.{Group, BadGroup}
-use Rattle.lexemes.specs.declared.NameRead.{NameRead}
-use Rattle.lexemes.specs.declared.NameRead.TheVariants.{Named, BadName}
-use Rattle.classes.specs.declared.ClassEnd.{ClassEnd}
-use Rattle.classes.specs.declared.ClassEnd.TheVariants.{Closed, BadClass}
-use Rattle.lexer.specs.declared.Lexed.{Lexed}
-use Rattle.lexer.specs.declared.Token.TheVariants.{Byte}
-use Rattle.lexemes.specs.Says.{NameWithin, SaysName}
-use Rattle.escapes.specs.Says.{member_of}
-use Rattle.classes.specs.Says.{next_of, is_read, HoldsClass, ClassIn}
-use Rattle.lexer.specs.Says.{group_of, ItemIn, SaysItem}
+use Rattle.std.specs.Prelude.{Result, Ok}
+use Rattle.syntax.specs.declared.Parsed.{Parsed}
+use Rattle.lexemes.specs.declared.Name.{Name as NameAt}
+use Rattle.lexer.specs.declared.Token.{Token}
+use Rattle.lexer.specs.declared.Token.TheVariants.{Byte, Called}
+use Rattle.lexemes.specs.Says.{SaysName}
+use Rattle.classes.specs.Says.{HoldsClass, SaysClass}
+use Rattle.lexer.specs.Says.{ItemIn, SaysItem}
 use Rattle.lexemes.proofs.Digits.{inside, outside}
-use Rattle.classes.proofs.MemberCases.{NotBad, sounds}
 
 -- equal readings say the same
-pub same_item : (s : List ℕ) (folded : Bool) (known : Names) {a b : Read Item} (r : Lexed) → a ≡ b → SaysItem s folded known a r → SaysItem s folded known b r
+pub same_item : (s : List ℕ) (folded : Bool) (known : Names) {a b : Read Item} (r : Result (Parsed Token) Refusal) → a ≡ b → SaysItem s folded known a r → SaysItem s folded known b r
 same_item s folded known r e h = rw e at h
 
 -- Byte items -----------------------------------------------------------------------------
@@ -59,64 +50,28 @@ module _ (none words : List ℕ) (e : (x : ℕ) → x < 256 → has none x ≡ f
 abbrev pub alone : Bool → Read Member → Read Item
 alone folded a = and_then a (λ x next. sound (byte_in folded (only x)) next)
 
-pub alone-bad : (folded : Bool) (m : MemberRead) (f : Refusal) → m ≡ Bad f → refused f.place f.reason ≡ alone folded (member_of m)
-alone-bad folded m f e = rw e
-
-pub alone-sound : (s : List ℕ) (folded : Bool) (known : Names) (m : MemberRead) → NotBad m → (none words : List ℕ) → ((x : ℕ) → x < 256 → has none x ≡ false) → ((x : ℕ) → x < 256 → has words x ≡ (is_read folded x m || has none x)) → (n : ℕ) → n ≡ next_of m → ItemIn s folded known (alone folded (member_of m)) words (Byte n)
+-- words that a member was added to, which held no byte
+pub holds-only : (folded : Bool) (m : Member) (none words : List ℕ) → ((x : ℕ) → x < 256 → has none x ≡ false) → ((x : ℕ) → x < 256 → has words x ≡ (is_member folded x m || has none x)) → HoldsClass folded words (only m)
 unfolding only in_class is_any
-alone-sound s folded known m l none words e a n q = let o = sounds m l in (only o.member, rw (o.is, q, o.behind), λ x h. a x h ∙ rw (o.has folded x, e x h))
+holds-only folded m none words e a x h = a x h ∙ rw (e x h)
 
 -- what a class makes of an item
 abbrev pub classed : Bool → Read Class → Read Item
 classed folded a = and_then a (λ x next. sound (byte_in folded x) next)
 
-pub class-closed : (s : List ℕ) (folded : Bool) (known : Names) (a : Read Class) (words : List ℕ) (e : ClassEnd) (next : ℕ) → e ≡ Closed next → ClassIn folded a words e → ItemIn s folded known (classed folded a) words (Byte next)
-class-closed s folded known a words e next k h = from-closed (rw k at h)
-  where
-    from-closed : ClassIn folded a words (Closed next) → ItemIn s folded known (classed folded a) words (Byte next)
-    from-closed g = (g.0, rw g.1, g.2)
-
-pub class-bad : (folded : Bool) (a : Read Class) (words : List ℕ) (e : ClassEnd) (f : Refusal) → e ≡ BadClass f → ClassIn folded a words e → refused f.place f.reason ≡ classed folded a
-class-bad folded a words e f k h = let g : ClassIn folded a words (BadClass f) = rw k at h in rw g
+pub class-sound : (s : List ℕ) (folded : Bool) (known : Names) (a : Read Class) (p : Parsed (List ℕ)) → SaysClass folded a (Ok p) → ItemIn s folded known (classed folded a) (Byte p.value) p.next
+class-sound s folded known a p h = (h.0, rw h.1, h.2)
 
 -- what a group's number makes of an item
 abbrev pub referring : Bool → Read ℕ → Read Item
 referring folded a = and_then a (λ n next. sound (reference folded n) next)
 
-pub referring-sound : (folded : Bool) (g : GroupRead) (n next : ℕ) → g ≡ Group n next → referring folded (group_of g) ≡ sound (reference folded n) next
-referring-sound folded g n next e = rw e
-
-pub referring-bad : (folded : Bool) (g : GroupRead) (f : Refusal) → g ≡ BadGroup f → refused f.place f.reason ≡ referring folded (group_of g)
-referring-bad folded g f e = rw e
-
 -- what a group's name makes of an item
 abbrev pub calling : Bool → Names → Read Name → Read Item
 calling folded known a = and_then a (λ n next. sound (reference folded (group_called n known)) next)
 
-module _ (s : List ℕ) (folded : Bool) (known : Names) (a : Read Name) (n : NameRead) (h : SaysName s a n) where
-  pub calling-sound : (from len next : ℕ) → n ≡ Named from len next → (calling folded known a ≡ sound (reference folded (group_called (slice from (from + len) s) known)) next) × NameWithin s from len next
-  calling-sound from len next e = let g : SaysName s a (Named from len next) = rw e at h in (rw g.0, g.1)
-
-  pub calling-bad : (f : Refusal) → n ≡ BadName f → refused f.place f.reason ≡ calling folded known a
-  calling-bad f e = let g : SaysName s a (BadName f) = rw e at h in rw g
-
--- Flags ------------------------------------------------------------------------------------
-
-pub dot_all-set : (flags : ℕ) → flags % 2 ≡ 1 → dot_all flags ≡ true
-unfolding dot_all dot_all_bit
-dot_all-set flags h = eq-eqb (flags / 1 % 2) 1 (omega arith)
-
-pub dot_all-unset : (flags : ℕ) → (flags % 2 ≡ 1 → ⊥) → dot_all flags ≡ false
-unfolding dot_all dot_all_bit
-dot_all-unset flags h = ne_eqb (flags / 1 % 2) 1 (λ e. h (omega arith))
-
-pub multiline-set : (flags : ℕ) → flags / 2 % 2 ≡ 1 → multiline flags ≡ true
-unfolding multiline multiline_bit
-multiline-set flags h = eq-eqb (flags / 2 % 2) 1 h
-
-pub multiline-unset : (flags : ℕ) → (flags / 2 % 2 ≡ 1 → ⊥) → multiline flags ≡ false
-unfolding multiline multiline_bit
-multiline-unset flags h = ne_eqb (flags / 2 % 2) 1 h
+pub calling-sound : (s : List ℕ) (folded : Bool) (known : Names) (a : Read Name) (p : Parsed NameAt) → SaysName s a (Ok p) → ItemIn s folded known (calling folded known a) (Called p.value) p.next
+calling-sound s folded known a p h = (rw h.0, h.1)
 
 -- Escapes ------------------------------------------------------------------------------------
 
@@ -183,7 +138,7 @@ module _ (s : List ℕ) (folded : Bool) (known : Names) (opened at b : ℕ) (p :
 -- Items ----------------------------------------------------------------------------------------
 
 -- an item is folded by the flag
-pub as-atom : (s : List ℕ) (known : Names) (folded : Bool) (flags : ℕ) → folded ≡ ignore_case flags → {a b : Read Item} (r : Lexed) → a ≡ b → SaysItem s folded known a r → SaysItem s (ignore_case flags) known b r
+pub as-atom : (s : List ℕ) (known : Names) (folded : Bool) (flags : ℕ) → folded ≡ ignore_case flags → {a b : Read Item} (r : Result (Parsed Token) Refusal) → a ≡ b → SaysItem s folded known a r → SaysItem s (ignore_case flags) known b r
 as-atom s known folded flags f r e h = rw (f, e) at h
 
 module _ (s : List ℕ) (flags : ℕ) (known : Names) (opened at b : ℕ) (p : b ≡ byte s at) (folded : Bool) (f : folded ≡ ignore_case flags) where

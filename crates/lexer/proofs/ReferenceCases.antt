@@ -10,16 +10,13 @@ use Rattle.syntax.specs.Limits.{group_limit}
 use Rattle.syntax.specs.Read.{byte, Read, sound, refused, and_then}
 use Rattle.syntax.specs.Numbers.{digits, value}
 use Rattle.syntax.specs.Escapes.{forward, backward, decimal, signed, group_number}
-use Rattle.lexemes.specs.declared.Number.{Number}
-use Rattle.lexer.specs.declared.GroupRead.{GroupRead}
-use Rattle.lexer.specs.declared.GroupRead.TheVariants.{Group, BadGroup}
+use Rattle.syntax.specs.declared.Parsed.{Parsed}
 use Rattle.lexemes.specs.Says.{capped, Counts}
-use Rattle.lexer.specs.Says.{group_of}
 use Rattle.lexemes.proofs.Capped.{capped-zero, capped-minus, capped-if}
 use Rattle.lexemes.proofs.Digits.{counted_none, counted-some}
 
 -- a run of digits, and the group that f makes of its number
-module _ (f : ℕ → ℕ) (s : List ℕ) (at start : ℕ) (r : Number) (c : Counts 10 s start r) where
+module _ (f : ℕ → ℕ) (s : List ℕ) (at start : ℕ) (r : Parsed ℕ) (c : Counts 10 s start r) where
   abbrev named : Read ℕ
   named = and_then (decimal s at start) (λ n next. sound (f n) next)
 
@@ -51,13 +48,9 @@ pub backward-none : (opened n : ℕ) → n ≡ 0 → 0 ≡ backward opened n
 unfolding backward
 backward-none opened n e = simp (eq-eqb n 0 e)
 
-pub backward-over : (opened n : ℕ) → (n ≡ 0 → ⊥) → opened < n → 0 ≡ backward opened n
+pub backward-some : (opened n : ℕ) → (n ≡ 0 → ⊥) → opened + 1 - n ≡ backward opened n
 unfolding backward
-backward-over opened n z h = simp (ne_eqb n 0 z) (omega arith)
-
-pub backward-fits : (opened n : ℕ) → (n ≡ 0 → ⊥) → n ≤ opened → opened - n + 1 ≡ backward opened n
-unfolding backward
-backward-fits opened n z h = simp (ne_eqb n 0 z) (omega arith)
+backward-some opened n z = simp (ne_eqb n 0 z)
 
 module _ (s : List ℕ) (opened at start b : ℕ) (p : b ≡ byte s start) where
   pub signed-minus : b ≡ 45 → and_then (decimal s at (start + 1)) (λ n next. sound (backward opened n) next) ≡ signed s opened at start
@@ -73,17 +66,17 @@ module _ (s : List ℕ) (opened at b : ℕ) (p : b ≡ byte s (at + 2)) where
   unfolding group_number
   group-bare n = rw (← p) (simp (ne_eqb b 123 n))
 
-  -- g is what was read behind a brace
-  module _ (o : b ≡ 123) (g : GroupRead) (e : group_of g ≡ signed s opened at (at + 3)) where
-    pub group-bad : (f : Refusal) → g ≡ BadGroup f → group_of g ≡ group_number s opened at
+  module _ (o : b ≡ 123) where
+    pub group-bad : (f : Refusal) → refused f.place f.reason ≡ signed s opened at (at + 3) → refused f.place f.reason ≡ group_number s opened at
     unfolding group_number
-    group-bad f k = rw (← p, o, ← e, k)
+    group-bad f e = rw (← p, o, ← e)
 
-    module _ (n next : ℕ) (k : g ≡ Group n next) (d : ℕ) (q : d ≡ byte s next) where
-      pub group-closed : d ≡ 125 → sound n (next + 1) ≡ group_number s opened at
+    -- r is what was read behind the brace
+    module _ (r : Parsed ℕ) (e : sound r.value r.next ≡ signed s opened at (at + 3)) (d : ℕ) (q : d ≡ byte s r.next) where
+      pub group-closed : d ≡ 125 → sound r.value (r.next + 1) ≡ group_number s opened at
       unfolding group_number
-      group-closed h = rw (← p, o, ← e, k, ← q, h)
+      group-closed h = rw (← p, o, ← e, ← q, h)
 
       pub group-open : (d ≡ 125 → ⊥) → refused at MalformedEscape ≡ group_number s opened at
       unfolding group_number
-      group-open h = rw (← p, o, ← e, k, ← q) (simp (ne_eqb d 125 h))
+      group-open h = rw (← p, o, ← e, ← q) (simp (ne_eqb d 125 h))

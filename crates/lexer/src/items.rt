@@ -1,72 +1,68 @@
 // Items that are no group. `at` is the position of an item's first byte. The words of a byte item hold its class, folded under the flag `i`; where
 // that makes no difference, as for `.`, the promise is for both.
 ghost use Rattle.std.specs.Prelude.{◌≡◌, List, Bool, ℕ, ◌+◌, ◌≤◌, ◌<◌, length, if◌then◌else◌};
-ghost use Rattle.syntax.specs.declared.Assertion.TheVariants.{TextStart, LineStart, LastLineEnd, LineEnd};
 ghost use Rattle.syntax.specs.Limits.{group_limit};
-ghost use Rattle.syntax.specs.Read.{byte, Read, sound, refused, and_then};
+ghost use Rattle.syntax.specs.Read.{byte, Read, sound, and_then, read_of};
 ghost use Rattle.syntax.specs.Sets.{Class, only, not_newline, any_byte};
 ghost use Rattle.syntax.specs.Tree.{byte_in, assert, reference};
 ghost use Rattle.syntax.specs.Flags.{dot_all, multiline, ignore_case, depot};
-ghost use Rattle.syntax.specs.Names.{Name, Names, group_called};
+ghost use Rattle.syntax.specs.Names.{Names, group_called};
 ghost use Rattle.syntax.specs.Escapes.{escape};
 ghost use Rattle.syntax.specs.Classes.{class};
 ghost use Rattle.syntax.specs.Grammar.{atom};
 ghost use Rattle.lexemes.specs.Says.{SaysName};
 ghost use Rattle.escapes.specs.Says.{member_of};
 ghost use Rattle.classes.specs.Says.{HoldsClass, SaysClass};
-ghost use Rattle.lexer.specs.Says.{group_of, SaysItem};
+ghost use Rattle.lexer.specs.Says.{SaysItem};
 
+use crate::Token;
 use crate::references::{forward_at, group_number_at};
-use crate::{GroupRead, Lexed, Token};
 use charset::{add, complement, empty};
-use classes::{ClassEnd, ClassRead, class_at, next_of, with_member};
-use escapes::{MemberRead, common_at, octal_at};
-use lexemes::{END, NameRead, called_at, calls_by_name, in_depot, name_at, peek};
-use syntax::{Assertion, Refusal};
+use classes::{class_at, with_member};
+use escapes::{Member, common_at, octal_at};
+use lexemes::{Name, called_at, calls_by_name, name_at};
+use syntax::{Assertion, Flags, Parsed, Reading};
 
 // Items with no class of their own -----------------------------------------------
 
-fn bad_item(refusal: Refusal) -> Lexed
-    ensures { (s : List ℕ) (folded : Bool) (known : Names) → SaysItem s folded known (refused refusal.place refusal.reason) result }
-{
-    Lexed {
-        words: [0; 8],
-        token: Token::BadItem(refusal),
-    }
-}
-
-fn assertion(which: Assertion, next: usize) -> Lexed
+fn assertion(which: Assertion, next: usize) -> Reading<Token>
     ensures { (s : List ℕ) (folded : Bool) (known : Names) → SaysItem s folded known (sound (assert which) next) result }
 {
-    Lexed {
-        words: [0; 8],
-        token: Token::Assert(which, next),
-    }
+    Ok(Parsed {
+        value: Token::Assert(which),
+        next,
+    })
 }
 
-fn group_item(group: GroupRead) -> Lexed
-    ensures { (s : List ℕ) (folded : Bool) (known : Names) → SaysItem s folded known (and_then (group_of group) (λ n next. sound (reference folded n) next)) result }
+// `^` or `$`: what it asserts at lines, under `m`, or else at the text's ends.
+fn edge(flags: Flags, line: Assertion, text: Assertion, next: usize) -> Reading<Token>
+    ensures { (s : List ℕ) (folded : Bool) (known : Names) → SaysItem s folded known (sound (assert (if multiline flags.0 then line else text)) next) result }
 {
-    match group {
-        GroupRead::Group(n, next) => Lexed {
-            words: [0; 8],
-            token: Token::Reference(n, next),
-        },
-        GroupRead::BadGroup(refusal) => bad_item(refusal),
+    if flags.is_multiline() {
+        return assertion(line, next);
     }
+    assertion(text, next)
+}
+
+fn group_item(group: Reading<u32>) -> Reading<Token>
+    ensures { (s : List ℕ) (folded : Bool) (known : Names) → SaysItem s folded known (and_then (read_of (λ n. n) group) (λ n next. sound (reference folded n) next)) result }
+{
+    let number = group?;
+    Ok(Parsed {
+        value: Token::Reference(number.value),
+        next: number.next,
+    })
 }
 
 // A reference by name. Which group has it is known when the whole rule has been read.
-fn called_item(name: NameRead) -> Lexed
-    ensures { (s : List ℕ) (folded : Bool) (known : Names) (a : Read Name) → SaysName s a name → SaysItem s folded known (and_then a (λ n next. sound (reference folded (group_called n known)) next)) result }
+fn called_item(name: Reading<Name>) -> Reading<Token>
+    ensures { (s : List ℕ) (folded : Bool) (known : Names) (a : Read (List ℕ)) → SaysName s a name → SaysItem s folded known (and_then a (λ n next. sound (reference folded (group_called n known)) next)) result }
 {
-    match name {
-        NameRead::Named(from, len, next) => Lexed {
-            words: [0; 8],
-            token: Token::Called(from, len, next),
-        },
-        NameRead::BadName(refusal) => bad_item(refusal),
-    }
+    let called = name?;
+    Ok(Parsed {
+        value: Token::Called(called.value),
+        next: called.next,
+    })
 }
 
 // Byte items ------------------------------------------------------------------------
@@ -85,85 +81,54 @@ fn not_newline() -> [u32; 8]
     complement(add(empty(), b'\n'))
 }
 
-// A byte or a set outside a class, folded or not.
-fn member_item(m: MemberRead, folded: bool) -> Lexed
-    ensures { (s : List ℕ) (known : Names) → SaysItem s folded known (and_then (member_of m) (λ x next. sound (byte_in folded (only x)) next)) result }
-{
-    if let MemberRead::Bad(refusal) = m {
-        return bad_item(refusal);
-    }
-    let words = with_member(empty(), m, folded);
-    let next = next_of(m);
-    Lexed {
-        words,
-        token: Token::Byte(next),
-    }
-}
-
-// A class as an item.
-fn class_item(class: ClassRead) -> Lexed
-    ensures { (s : List ℕ) (folded : Bool) (known : Names) (a : Read Class) → SaysClass folded a class → SaysItem s folded known (and_then a (λ x next. sound (byte_in folded x) next)) result }
-{
-    let words = class.words;
-    let end = class.end;
-    match end {
-        ClassEnd::Closed(next) => Lexed {
-            words,
-            token: Token::Byte(next),
-        },
-        ClassEnd::BadClass(refusal) => bad_item(refusal),
-    }
-}
-
-// By the flags ------------------------------------------------------------------------
-
-// Whether items are folded: the flag `i`.
-fn ignores_case(flags: u32) -> bool
-    ensures { result ≡ ignore_case flags }
-{
-    flags / 4 % 2 == 1
-}
-
 // `.`
-fn dot(flags: u32, next: usize) -> Lexed
-    ensures { (s : List ℕ) (folded : Bool) (known : Names) → SaysItem s folded known (sound (byte_in folded (if dot_all flags then any_byte else not_newline)) next) result }
+fn dot(flags: Flags) -> [u32; 8]
+    ensures { (folded : Bool) → HoldsClass folded result (if dot_all flags.0 then any_byte else not_newline) }
 {
-    if flags % 2 == 1 {
-        return Lexed {
-            words: any_byte(),
-            token: Token::Byte(next),
-        };
+    if flags.dot_takes_all() {
+        return any_byte();
     }
-    Lexed {
-        words: not_newline(),
-        token: Token::Byte(next),
-    }
+    not_newline()
 }
 
-// `^`
-fn caret(flags: u32, next: usize) -> Lexed
-    ensures { (s : List ℕ) (folded : Bool) (known : Names) → SaysItem s folded known (sound (assert (if multiline flags then LineStart else TextStart)) next) result }
+// The item of the bytes that words hold.
+fn byte_item(words: [u32; 8], next: usize) -> Reading<Token>
+    ensures { (s : List ℕ) (folded : Bool) (known : Names) (c : Class) → HoldsClass folded words c → SaysItem s folded known (sound (byte_in folded c) next) result }
 {
-    if flags / 2 % 2 == 1 {
-        return assertion(Assertion::LineStart, next);
-    }
-    assertion(Assertion::TextStart, next)
+    Ok(Parsed {
+        value: Token::Byte(words),
+        next,
+    })
 }
 
-// `$`
-fn dollar(flags: u32, next: usize) -> Lexed
-    ensures { (s : List ℕ) (folded : Bool) (known : Names) → SaysItem s folded known (sound (assert (if multiline flags then LineEnd else LastLineEnd)) next) result }
+// A byte or a set outside a class, folded or not.
+fn member_item(m: Reading<Member>, folded: bool) -> Reading<Token>
+    ensures { (s : List ℕ) (known : Names) → SaysItem s folded known (and_then (read_of member_of m) (λ x next. sound (byte_in folded (only x)) next)) result }
 {
-    if flags / 2 % 2 == 1 {
-        return assertion(Assertion::LineEnd, next);
-    }
-    assertion(Assertion::LastLineEnd, next)
+    let member = m?;
+    let words = with_member(empty(), member.value, folded);
+    Ok(Parsed {
+        value: Token::Byte(words),
+        next: member.next,
+    })
+}
+
+// The class at a position, which the depot profile narrows.
+fn class_item(rule: &[u8], flags: Flags, at: usize) -> Reading<Token>
+    requires { at < length rule.now }
+    ensures { (known : Names) → SaysItem rule.now (ignore_case flags.0) known (and_then (class rule.now (depot flags.0) at) (λ x next. sound (byte_in (ignore_case flags.0) x) next)) result }
+{
+    let class = class_at(rule, at, flags.ignores_case(), flags.in_depot())?;
+    Ok(Parsed {
+        value: Token::Byte(class.value),
+        next: class.next,
+    })
 }
 
 // By the first byte ---------------------------------------------------------------------
 
 // `\g`: a name in braces, or a number.
-fn group_at(rule: &[u8], opened: u32, at: usize) -> Lexed
+fn group_at(rule: &[u8], opened: u32, at: usize) -> Reading<Token>
     requires { (opened ≤ group_limit) × (at + 2 ≤ length rule.now) × (byte rule.now (at + 1) ≡ 103) }
     ensures { (folded : Bool) (known : Names) → SaysItem rule.now folded known (escape rule.now folded known opened at) result }
 {
@@ -174,21 +139,16 @@ fn group_at(rule: &[u8], opened: u32, at: usize) -> Lexed
 }
 
 // An escape outside a class, folded or not, where so many groups have been opened.
-fn escape_at(rule: &[u8], folded: bool, opened: u32, at: usize) -> Lexed
+fn escape_at(rule: &[u8], folded: bool, opened: u32, at: usize) -> Reading<Token>
     requires { (opened ≤ group_limit) × (at < length rule.now) }
     ensures { (known : Names) → SaysItem rule.now folded known (escape rule.now folded known opened at) result }
 {
     let next = at + 2;
-    let b = peek(rule, at + 1);
-    if b == END {
+    let Some(b) = rule.get(at + 1) else {
         return member_item(common_at(rule, at), folded);
-    }
-    let byte = b as u8;
-    match byte {
-        b'N' => Lexed {
-            words: not_newline(),
-            token: Token::Byte(next),
-        },
+    };
+    match *b {
+        b'N' => byte_item(not_newline(), next),
         b'A' => assertion(Assertion::TextStart, next),
         b'z' => assertion(Assertion::TextEnd, next),
         b'Z' => assertion(Assertion::LastLineEnd, next),
@@ -202,29 +162,24 @@ fn escape_at(rule: &[u8], folded: bool, opened: u32, at: usize) -> Lexed
     }
 }
 
-// The class at a position, which the depot profile narrows.
-fn bracketed(rule: &[u8], flags: u32, at: usize, folded: bool) -> ClassRead
-    requires { at < length rule.now }
-    ensures { SaysClass folded (class rule.now (depot flags) at) result }
-{
-    let strict = in_depot(flags);
-    class_at(rule, at, folded, strict)
-}
-
 // The item at a position, where so many groups have been opened.
-pub fn item_at(rule: &[u8], flags: u32, opened: u32, at: usize) -> Lexed
+pub fn item_at(rule: &[u8], flags: u32, opened: u32, at: usize) -> Reading<Token>
     requires { (opened ≤ group_limit) × (at < length rule.now) }
     ensures { (known : Names) → SaysItem rule.now (ignore_case flags) known (atom rule.now flags known opened at) result }
 {
-    let folded = ignores_case(flags);
+    let flags = Flags(flags);
+    let folded = flags.ignores_case();
     let next = at + 1;
     let b = rule[at];
     match b {
         b'\\' => escape_at(rule, folded, opened, at),
-        b'[' => class_item(bracketed(rule, flags, at, folded)),
-        b'.' => dot(flags, next),
-        b'^' => caret(flags, next),
-        b'$' => dollar(flags, next),
-        _ => member_item(MemberRead::Single(b, next), folded),
+        b'[' => class_item(rule, flags, at),
+        b'.' => byte_item(dot(flags), next),
+        b'^' => edge(flags, Assertion::LineStart, Assertion::TextStart, next),
+        b'$' => edge(flags, Assertion::LineEnd, Assertion::LastLineEnd, next),
+        _ => {
+            let words = with_member(empty(), Member::Single(b), folded);
+            byte_item(words, next)
+        }
     }
 }

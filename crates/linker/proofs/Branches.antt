@@ -1,4 +1,5 @@
 -- An alternation: its last branch, then a loop over the branches before it, each of which falls back on the one after it.
+use Rattle.std.specs.Prelude.{Option}
 use mathlib.Core.Path.{◌≡◌, refl, ap, ◌∙◌}
 use mathlib.Core.List.{List}
 use mathlib.Core.Option.{none}
@@ -21,7 +22,7 @@ use Rattle.linker.proofs.Stores.{moved}
 -- One branch ------------------------------------------------------------------------
 
 -- a branch node that is written, with what it holds below it from mid on
-pub record Branched (groups r : ℕ) (a c : List ℕ) (t : Rule) (mid p kind other next sofar entry found : ℕ) : Type 0 where
+pub record Branched (groups r : ℕ) (a c : List ℕ) (t : Rule) (mid p kind other next : ℕ) (sofar : Option ℕ) (entry : ℕ) (found : Option ℕ) : Type 0 where
   pub outside : Outside mid (p + 3) a c
   pub is : get_or c p 0 ≡ kind
   pub goes : get_or c (p + 1) 0 ≡ entry
@@ -39,7 +40,7 @@ pub fits-others : (groups r bar : ℕ) (bs : Branches) (t : Rule) → FitAll gro
 fits-others groups r bar bs t f = record { few = f.few; proper = f.proper.0; room = omega (arith, f.room) }
 
 module _ (rule : List ℕ) (known : Names) where
-  pub branched : (groups r : ℕ) (a b c : List ℕ) (X : Region) (t : Rule) (lo top p kind other next sofar entry found : ℕ) → (h : Branch a kind X (Chain rule known a t) lo top p)
+  pub branched : (groups r : ℕ) (a b c : List ℕ) (X : Region) (t : Rule) (lo top p kind other next : ℕ) (sofar : Option ℕ) (entry : ℕ) (found : Option ℕ) → (h : Branch a kind X (Chain rule known a t) lo top p)
       → Made groups r t h.mid p a b next sofar entry found → PutTwo b c (p + 1) entry other → Branched groups r a c t h.mid p kind other next sofar entry found
   branched groups r a b c X t lo top p kind other next sofar entry found h m w =
       let n = chain-order rule known a t h.mid p h.inside h.right in
@@ -73,7 +74,7 @@ module _ (rule : List ℕ) (known : Names) where
 
   -- Branches ----------------------------------------------------------------------------
 
-  module _ (groups r : ℕ) (a c : List ℕ) (t : Rule) (lo top p other next sofar entry found : ℕ) where
+  module _ (groups r : ℕ) (a c : List ℕ) (t : Rule) (lo top p other next : ℕ) (sofar : Option ℕ) (entry : ℕ) (found : Option ℕ) where
     made_one : (h : Branch a 5 Nothing (Chain rule known a t) lo top p) → Branched groups r a c t h.mid p 5 other next sofar entry found → MadeAll groups r (one t) lo top a c other next sofar p found
     unfolding unresolved Compiled
     made_one h w =
@@ -93,7 +94,7 @@ module _ (rule : List ℕ) (known : Names) where
         }
 
     -- the branch at p, then those before it
-    record Joined (d : List ℕ) (bs : Branches) (kind pc last : ℕ) : Type 0 where
+    record Joined (d : List ℕ) (bs : Branches) (kind pc : ℕ) (last : Option ℕ) : Type 0 where
       outside : Outside lo top a d
       near : pc ≤ top
       is : get_or d p 0 ≡ kind
@@ -103,7 +104,7 @@ module _ (rule : List ℕ) (known : Names) where
       inner : first_some (unresolved_in groups bs) (unresolved groups t) ≡ none → Compiled d lo top t entry next r
       first : last ≡ noted (first_some (unresolved_in groups bs) (unresolved groups t)) sofar
 
-    joined : (d : List ℕ) (bs : Branches) (bar kind pc last : ℕ) → (h : Branch a kind (Preceding rule known a bs bar) (Chain rule known a t) lo top p) → Branched groups r a c t h.mid p kind other next sofar entry found
+    joined : (d : List ℕ) (bs : Branches) (bar kind pc : ℕ) (last : Option ℕ) → (h : Branch a kind (Preceding rule known a bs bar) (Chain rule known a t) lo top p) → Branched groups r a c t h.mid p kind other next sofar entry found
         → MadeAll groups r bs lo h.mid c d p next found pc last → Joined d bs kind pc last
     joined d bs bar kind pc last h w m =
         let u = h.node.high in
@@ -123,7 +124,7 @@ module _ (rule : List ℕ) (known : Names) where
           first = m.first ∙ ap (noted us) w.first ∙ noted-first us ut sofar;
         }
 
-    made-also : (d : List ℕ) (bs : Branches) (bar pc last : ℕ) → (h : Branch a 5 (Preceding rule known a bs bar) (Chain rule known a t) lo top p) → Branched groups r a c t h.mid p 5 other next sofar entry found
+    made-also : (d : List ℕ) (bs : Branches) (bar pc : ℕ) (last : Option ℕ) → (h : Branch a 5 (Preceding rule known a bs bar) (Chain rule known a t) lo top p) → Branched groups r a c t h.mid p 5 other next sofar entry found
         → MadeAll groups r bs lo h.mid c d p next found pc last → MadeAll groups r (also bs bar t) lo top a d other next sofar pc last
     unfolding unresolved Compiled
     made-also d bs bar pc last h w m =
@@ -135,7 +136,7 @@ module _ (rule : List ℕ) (known : Names) where
           first = j.first;
         }
 
-    pub made-alt : (d : List ℕ) (bs : Branches) (bar pc last : ℕ) → (h : Branch a 6 (Preceding rule known a bs bar) (Chain rule known a t) lo top p) → Branched groups r a c t h.mid p 6 other next sofar entry found
+    pub made-alt : (d : List ℕ) (bs : Branches) (bar pc : ℕ) (last : Option ℕ) → (h : Branch a 6 (Preceding rule known a bs bar) (Chain rule known a t) lo top p) → Branched groups r a c t h.mid p 6 other next sofar entry found
         → MadeAll groups r bs lo h.mid c d p next found pc last → Made groups r (alt bs bar t) lo top a d next sofar pc last
     unfolding unresolved Compiled
     made-alt d bs bar pc last h w m =
@@ -150,25 +151,25 @@ module _ (rule : List ℕ) (known : Names) where
   -- The loop ------------------------------------------------------------------------------
 
   -- the branches that are left, the latest of them at p
-  record Remains (groups r : ℕ) (old a : List ℕ) (bs : Branches) (lo top other next sofar p after found : ℕ) : Type 0 where
+  record Remains (groups r : ℕ) (old a : List ℕ) (bs : Branches) (lo top other next : ℕ) (sofar : Option ℕ) (p after : ℕ) (found : Option ℕ) : Type 0 where
     rest : Branches
     mid : ℕ
     ends : mid ≤ top
     stands : Several rule known a rest lo mid p
     fits : FitAll groups r rest
-    whole : (new : List ℕ) (at last : ℕ) → MadeAll groups r rest lo mid a new after next found at last → MadeAll groups r bs lo top old new other next sofar at last
+    whole : (new : List ℕ) (at : ℕ) (last : Option ℕ) → MadeAll groups r rest lo mid a new after next found at last → MadeAll groups r bs lo top old new other next sofar at last
 
   -- all are made, or some are left and whatever is made of them makes all
-  record LeftAll (groups r : ℕ) (old a : List ℕ) (bs : Branches) (lo top other next sofar p after found : ℕ) : Type 0 where
+  record LeftAll (groups r : ℕ) (old a : List ℕ) (bs : Branches) (lo top other next : ℕ) (sofar : Option ℕ) (p after : ℕ) (found : Option ℕ) : Type 0 where
     near : after ≤ max other top
     long : length a ≡ length old
     done : p ≡ 0 → MadeAll groups r bs lo top old a other next sofar after found
     more : 1 ≤ p → Remains groups r old a bs lo top other next sofar p after found
 
-  pub AllGoing : (groups r : ℕ) (old a : List ℕ) (first other next sofar p after found : ℕ) → Type 0
+  pub AllGoing : (groups r : ℕ) (old a : List ℕ) (first other next : ℕ) (sofar : Option ℕ) (p after : ℕ) (found : Option ℕ) → Type 0
   AllGoing groups r old a first other next sofar p after found = (bs : Branches) (lo top : ℕ) → Several rule known old bs lo top first → FitAll groups r bs → LeftAll groups r old a bs lo top other next sofar p after found
 
-  pub all_start : (groups r : ℕ) (a : List ℕ) (first other next sofar : ℕ) → AllGoing groups r a a first other next sofar first other sofar
+  pub all_start : (groups r : ℕ) (a : List ℕ) (first other next : ℕ) (sofar : Option ℕ) → AllGoing groups r a a first other next sofar first other sofar
   unfolding AllGoing
   all_start groups r a first other next sofar bs lo top h f =
       let n = several-node rule known a bs lo top first h in
@@ -179,7 +180,7 @@ module _ (rule : List ℕ) (known : Names) where
         more = λ l. record { rest = bs; mid = top; ends = omega arith; stands = h; fits = f; whole = λ new at last m. m };
       }
 
-  module _ (groups r : ℕ) (old a : List ℕ) (first other next sofar p after found : ℕ) where
+  module _ (groups r : ℕ) (old a : List ℕ) (first other next : ℕ) (sofar : Option ℕ) (p after : ℕ) (found : Option ℕ) where
     pub all_end : p ≡ 0 → AllGoing groups r old a first other next sofar p after found → LinksAll rule known groups r old a first other next sofar after found
     unfolding AllGoing LinksAll
     all_end e g bs lo top h f = (g bs lo top h f).done e
@@ -217,7 +218,7 @@ module _ (rule : List ℕ) (known : Names) where
             record { branch = branch-at groups r a (Preceding rule known a bs bar) t s.lo k.mid p 5 short small (fits_last groups r bar bs t f) h; near = near; lower = rw h.link (omega (arith, q.high)) }
 
     -- the branch at p is linked, and its node written
-    module _ (b c : List ℕ) (before entry last : ℕ) (some : 1 ≤ p) (is : before ≡ get_or a (p + 2) 0) (m : Links (Chain rule known a) groups r a b (get_or a (p + 1) 0) next found entry last) (w : PutTwo b c (p + 1) entry after) where
+    module _ (b c : List ℕ) (before entry : ℕ) (last : Option ℕ) (some : 1 ≤ p) (is : before ≡ get_or a (p + 2) 0) (m : Links (Chain rule known a) groups r a b (get_or a (p + 1) 0) next found entry last) (w : PutTwo b c (p + 1) entry after) where
       left_step : (bs : Branches) (lo top : ℕ) → LeftAll groups r old a bs lo top other next sofar p after found → LeftAll groups r old c bs lo top other next sofar before p last
       unfolding Links Chain
       left_step bs lo top l = go k.rest k.stands k.fits k.whole
@@ -226,7 +227,7 @@ module _ (rule : List ℕ) (known : Names) where
           k = l.more some
 
           go : (rest : Branches) → Several rule known a rest lo k.mid p → FitAll groups r rest
-              → ((new : List ℕ) (x y : ℕ) → MadeAll groups r rest lo k.mid a new after next found x y → MadeAll groups r bs lo top old new other next sofar x y)
+              → ((new : List ℕ) (x : ℕ) (y : Option ℕ) → MadeAll groups r rest lo k.mid a new after next found x y → MadeAll groups r bs lo top old new other next sofar x y)
               → LeftAll groups r old c bs lo top other next sofar before p last
           go (one t) h f whole =
               let z : before ≡ 0 = is ∙ h.link ∙ h.left.0 in

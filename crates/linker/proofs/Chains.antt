@@ -1,4 +1,5 @@
 -- A sequence's loop: at every turn some parts are left, and whatever is made of them makes the whole sequence.
+use Rattle.std.specs.Prelude.{Option}
 use mathlib.Core.Path.{◌≡◌, refl, ◌∙◌}
 use mathlib.Core.List.{List}
 use Prim.Native.Nat.{ℕ, ◌≤◌, ◌<◌, max}
@@ -20,7 +21,7 @@ fits-right groups r x y f = record { few = f.few; proper = f.proper.1; room = om
 
 module _ (rule : List ℕ) (known : Names) where
   -- the parts that are left of the tree t, from p on
-  record Left (groups r : ℕ) (old a : List ℕ) (t : Rule) (lo top next sofar p pc found : ℕ) : Type 0 where
+  record Left (groups r : ℕ) (old a : List ℕ) (t : Rule) (lo top next : ℕ) (sofar : Option ℕ) (p pc : ℕ) (found : Option ℕ) : Type 0 where
     rest : Rule
     mid : ℕ
     ends : mid ≤ top
@@ -28,10 +29,10 @@ module _ (rule : List ℕ) (known : Names) where
     fits : Fits groups r rest
     near : pc ≤ max next top
     long : length a ≡ length old
-    whole : (new : List ℕ) (at last : ℕ) → Made groups r rest lo mid a new pc found at last → Made groups r t lo top old new next sofar at last
+    whole : (new : List ℕ) (at : ℕ) (last : Option ℕ) → Made groups r rest lo mid a new pc found at last → Made groups r t lo top old new next sofar at last
 
   -- of whatever tree the loop began with
-  pub Going : (groups r : ℕ) (old a : List ℕ) (first next sofar p pc found : ℕ) → Type 0
+  pub Going : (groups r : ℕ) (old a : List ℕ) (first next : ℕ) (sofar : Option ℕ) (p pc : ℕ) (found : Option ℕ) → Type 0
   Going groups r old a first next sofar p pc found = (t : Rule) (lo top : ℕ) → Chain rule known old t lo top first → Fits groups r t → Left groups r old a t lo top next sofar p pc found
 
   -- parts are left exactly where the position is not 0
@@ -57,12 +58,12 @@ module _ (rule : List ℕ) (known : Names) where
   for-none a lo top p Q q e (held place t) h = absurd h
   for-none a lo top p Q q e (look place negative t) h = absurd h
 
-  pub going_start : (groups r : ℕ) (a : List ℕ) (first next sofar : ℕ) → Going groups r a a first next sofar first next sofar
+  pub going_start : (groups r : ℕ) (a : List ℕ) (first next : ℕ) (sofar : Option ℕ) → Going groups r a a first next sofar first next sofar
   unfolding Going
   going_start groups r a first next sofar t lo top h f =
       record { rest = t; mid = top; ends = omega arith; stands = h; fits = f; near = omega arith; long = refl; whole = λ new at last m. m }
 
-  module _ (groups r : ℕ) (old a : List ℕ) (first next sofar p pc found : ℕ) where
+  module _ (groups r : ℕ) (old a : List ℕ) (first next : ℕ) (sofar : Option ℕ) (p pc : ℕ) (found : Option ℕ) where
     -- no part is left
     left_end : p ≡ 0 → (t : Rule) (lo top : ℕ) → Left groups r old a t lo top next sofar p pc found → Made groups r t lo top old a next sofar pc found
     left_end e t lo top l = l.whole a pc found (for-none a lo l.mid p (λ x. Made groups r x lo l.mid a a pc found pc found) (made-empty groups r lo l.mid a pc found) e l.rest l.stands)
@@ -102,14 +103,14 @@ module _ (rule : List ℕ) (known : Names) where
             }
 
     -- the part at p is linked
-    module _ (b : List ℕ) (before at last : ℕ) (some : 1 ≤ p) (is : before ≡ before_of a p) (m : Links (Part rule known a) groups r a b p pc found at last) where
+    module _ (b : List ℕ) (before at : ℕ) (last : Option ℕ) (some : 1 ≤ p) (is : before ≡ before_of a p) (m : Links (Part rule known a) groups r a b p pc found at last) where
       left_step : (t : Rule) (lo top : ℕ) → Left groups r old a t lo top next sofar p pc found → Left groups r old b t lo top next sofar before at last
       unfolding Links
       left_step t lo top l = for_some a lo l.mid p (λ x. Fits groups r x → Completes x → Left groups r old b t lo top next sofar before at last) go some l.rest l.stands l.fits l.whole
         where
           -- whatever is made of x makes t
           Completes : Rule → Type 0
-          Completes x = (new : List ℕ) (q z : ℕ) → Made groups r x lo l.mid a new pc found q z → Made groups r t lo top old new next sofar q z
+          Completes x = (new : List ℕ) (q : ℕ) (z : Option ℕ) → Made groups r x lo l.mid a new pc found q z → Made groups r t lo top old new next sofar q z
 
           go : (x y : Rule) → Sequence a (Chain rule known a x) (Part rule known a y) lo l.mid p → Fits groups r (seq x y) → Completes (seq x y) → Left groups r old b t lo top next sofar before at last
           go x y h f k =

@@ -1,5 +1,6 @@
 -- Groups that capture, held parts and looking ahead: the inside is linked in the region below the node, and goes on at the inner end; then the node's own
 -- numbers are written.
+use Rattle.std.specs.Prelude.{Option}
 use mathlib.Core.Path.{◌≡◌, refl, sym, subst, ◌∙◌}
 use mathlib.Core.Bool.{true, false}
 use mathlib.Core.List.{List}
@@ -37,7 +38,7 @@ module _ (rule : List ℕ) (known : Names) where
     pub room : r + 2 ≤ registers
     pub lower : get_or a (p + 5) 0 < p
     pub inside : Stands (Inside rule known a) groups (r + 2) a (get_or a (p + 5) 0)
-    pub behind : (b : List ℕ) (next sofar pc found : ℕ) → Links (Inside rule known a) groups (r + 2) a b (get_or a (p + 5) 0) next sofar pc found → get_or b p 0 ≡ get_or a p 0
+    pub behind : (b : List ℕ) (next : ℕ) (sofar : Option ℕ) (pc : ℕ) (found : Option ℕ) → Links (Inside rule known a) groups (r + 2) a b (get_or a (p + 5) 0) next sofar pc found → get_or b p 0 ≡ get_or a p 0
 
   -- from where its inside stands and what it asks for
   standing : (groups r : ℕ) (a : List ℕ) (p : ℕ) (s : Stands (Part rule known a) groups r a p) (u t : Rule) (size inside : ℕ) → height u ≡ suc (height t) → Proper groups t → Fits groups r u → p + size ≤ s.top → 7 ≤ size → (get_or a p 0 ≡ 17 → 8 ≤ size) → 1 ≤ p
@@ -56,7 +57,7 @@ module _ (rule : List ℕ) (known : Names) where
         behind = λ b next sofar pc found m. stays b next sofar pc found (subst (λ x. Links (Inside rule known a) groups (r + 2) a b x next sofar pc found) is m);
       }
     where
-      stays : (b : List ℕ) (next sofar pc found : ℕ) → Links (Inside rule known a) groups (r + 2) a b inside next sofar pc found → get_or b p 0 ≡ get_or a p 0
+      stays : (b : List ℕ) (next : ℕ) (sofar : Option ℕ) (pc : ℕ) (found : Option ℕ) → Links (Inside rule known a) groups (r + 2) a b inside next sofar pc found → get_or b p 0 ≡ get_or a p 0
       stays b next sofar pc found m = (m t s.lo p h (inner-fits groups r u t e q f)).outside.above p (omega arith)
 
   pub group_at : (groups r : ℕ) (a : List ℕ) (p : ℕ) → Stands (Part rule known a) groups r a p → Bracketed (get_or a p 0) → GroupAt groups r a p
@@ -75,7 +76,7 @@ module _ (rule : List ℕ) (known : Names) where
       not-ahead : (place : ℕ) (t : Rule) → Forbidden a place (Inside rule known a t) s.lo s.top p → Fits groups r (look place true t) → GroupAt groups r a p
       not-ahead place t h f = standing groups r a p s (look place true t) t 8 h.inside refl f.proper f h.node.high (omega arith) (λ z. omega arith) h.node.some h.is h.holds
 
-  module _ (groups r : ℕ) (a b c : List ℕ) (p next sofar entry found : ℕ) where
+  module _ (groups r : ℕ) (a b c : List ℕ) (p next : ℕ) (sofar : Option ℕ) (entry : ℕ) (found : Option ℕ) where
     -- the inside as it was made, kept while the node's own numbers are written
     kept-inside : (s : Rule) (lo top : ℕ) → p ≤ top → Made groups (r + 2) s lo p a b p sofar entry found → GroupClosed b c p next r entry → unresolved groups s ≡ none → Compiled c lo top s entry p (r + 2)
     kept-inside s lo top u m w e = keep b c lo p lo top (omega arith) u (λ i _ v. w.rest.below i v) s entry p (r + 2) (m.stands e)

@@ -1,15 +1,18 @@
 -- The inside of a group, or of the whole rule: nothing, an alternation, which its last branch's kind tells, or else a sequence.
-use mathlib.Core.Path.{◌≡◌, refl, sym, ◌∙◌}
+use mathlib.Core.Path.{◌≡◌, refl, sym, ap, ◌∙◌}
 use mathlib.Core.List.{List}
-use mathlib.Core.Option.{Option, none, some}
-use Prim.Native.Nat.{ℕ, ◌+◌, ◌-◌, ◌≤◌, ◌<◌}
+use mathlib.Core.Option as maybe
+use mathlib.Core.Option.{none, some}
+use Rattle.std.specs.Prelude.{Option, Some, None, Ok, Err}
+use Rattle.std.proofs.lemmas.Option.{none-some, same_Some}
+use Prim.Native.Nat.{ℕ, ◌+◌, ◌≤◌, ◌<◌}
 use native.Mathlib.Omega.{arith}
 use lib.ListN.{get_or, length}
 use Rattle.syntax.specs.Limits.{spans_length}
 use Rattle.syntax.specs.Reading.{unresolved}
 use Rattle.syntax.specs.Names.{Names}
 use Rattle.syntax.specs.Tree.{Rule, empty, item, seq, alt, group, repeat, held, look, Branches, also}
-use Rattle.linker.specs.declared.Linkage.TheVariants.{Entry, NoGroup}
+use Rattle.syntax.specs.declared.Reason.TheVariants.{NoSuchGroup}
 use Rattle.name_table.specs.Table.{Spelled, names_in, NamesFit, names-are, names_fit}
 use Rattle.linker.specs.Nodes.{Branch, Chain, Inside, Several, Preceding}
 use Rattle.linker.specs.Linking.{Fits, FitAll, Stands, StandAll, Linkable, noted, Made, Links, LinksAll, LinksWhole}
@@ -21,7 +24,7 @@ use Rattle.linker.proofs.Branches.{Branched, branched, BranchAt, branch-at, fits
 
 module _ (rule : List ℕ) (known : Names) where
   -- nothing
-  pub none-links : (groups r : ℕ) (a : List ℕ) (p next sofar : ℕ) → p ≡ 0 → Links (Inside rule known a) groups r a a p next sofar next sofar
+  pub none-links : (groups r : ℕ) (a : List ℕ) (p next : ℕ) (sofar : Option ℕ) → p ≡ 0 → Links (Inside rule known a) groups r a a p next sofar next sofar
   unfolding Links Inside
   none-links groups r a p next sofar e empty lo top h f = made-empty groups r lo top a next sofar
   none-links groups r a p next sofar e (seq x y) lo top h f = absurd (omega (arith, (part-here rule known a y h.mid top p h.right).some))
@@ -47,7 +50,7 @@ module _ (rule : List ℕ) (known : Names) where
   pub chain-stands : (groups r : ℕ) (a : List ℕ) (p : ℕ) → (get_or a p 0 ≡ 6 → ⊥) → Stands (Inside rule known a) groups r a p → Stands (Chain rule known a) groups r a p
   chain-stands groups r a p e s = record { tree = s.tree; lo = s.lo; top = s.top; holds = is-chain a p e s.tree s.lo s.top s.holds; fits = s.fits; within = s.within; small = s.small }
 
-  pub chain-links : (groups r : ℕ) (a b : List ℕ) (p next sofar pc found : ℕ) → (get_or a p 0 ≡ 6 → ⊥) → Links (Chain rule known a) groups r a b p next sofar pc found → Links (Inside rule known a) groups r a b p next sofar pc found
+  pub chain-links : (groups r : ℕ) (a b : List ℕ) (p next : ℕ) (sofar : Option ℕ) (pc : ℕ) (found : Option ℕ) → (get_or a p 0 ≡ 6 → ⊥) → Links (Chain rule known a) groups r a b p next sofar pc found → Links (Inside rule known a) groups r a b p next sofar pc found
   unfolding Links
   chain-links groups r a b p next sofar pc found e m t lo top h f = m t lo top (is-chain a p e t lo top h) f
 
@@ -94,7 +97,7 @@ module _ (rule : List ℕ) (known : Names) where
             (branch-at rule known groups r a (Preceding rule known a bs bar) t s.lo s.top p 6 s.within s.small (fits_last groups r bar bs t (fits-branches groups r bar bs t f)) h, rw h.link (omega (arith, q.high)))
 
     -- the last branch is linked, and its node written
-    module _ (b c : List ℕ) (other next sofar entry found : ℕ) (m : Links (Chain rule known a) groups r a b (get_or a (p + 1) 0) next sofar entry found) (w : PutTwo b c (p + 1) entry other) where
+    module _ (b c : List ℕ) (other next : ℕ) (sofar : Option ℕ) (entry : ℕ) (found : Option ℕ) (m : Links (Chain rule known a) groups r a b (get_or a (p + 1) 0) next sofar entry found) (w : PutTwo b c (p + 1) entry other) where
       last-branched : (bs : Branches) (bar : ℕ) (t : Rule) (lo top : ℕ) → (h : Branch a 6 (Preceding rule known a bs bar) (Chain rule known a t) lo top p) → Fits groups r (alt bs bar t) → Branched groups r a c t h.mid p 6 other next sofar entry found
       unfolding Links
       last-branched bs bar t lo top h f = branched rule known groups r a b c (Preceding rule known a bs bar) t lo top p 6 other next sofar entry found h (m t h.mid p (rw h.of h.right) (fits_last groups r bar bs t (fits-branches groups r bar bs t f))) w
@@ -121,7 +124,7 @@ module _ (rule : List ℕ) (known : Names) where
                 small = omega (arith, s.small);
               }
 
-      pub alt-links : (d : List ℕ) (pc last : ℕ) → LinksAll rule known groups r c d (get_or a (p + 2) 0) p next found pc last → Links (Inside rule known a) groups r a d p next sofar pc last
+      pub alt-links : (d : List ℕ) (pc : ℕ) (last : Option ℕ) → LinksAll rule known groups r c d (get_or a (p + 2) 0) p next found pc last → Links (Inside rule known a) groups r a d p next sofar pc last
       unfolding Links LinksAll
       alt-links d pc last n t lo top h f = for-alt a lo top p (λ t. Fits groups r t → Made groups r t lo top a d next sofar pc last) go l e t h f
         where
@@ -132,15 +135,15 @@ module _ (rule : List ℕ) (known : Names) where
 
 -- The whole rule --------------------------------------------------------------------------
 
-nothing-noted : (o : Option ℕ) → noted o 0 ≡ 0 → o ≡ none
+pub nothing-noted : (o : maybe.Option ℕ) → noted o None ≡ None → o ≡ none
 unfolding noted
 nothing-noted none e = refl
-nothing-noted (some place) e = absurd (omega arith)
+nothing-noted (some place) e = absurd (none-some place (sym e))
 
-place-noted : (o : Option ℕ) (n : ℕ) → n ≡ noted o 0 → (n ≡ 0 → ⊥) → o ≡ some (n - 1)
+pub place-noted : (o : maybe.Option ℕ) (place : ℕ) → noted o None ≡ Some place → o ≡ some place
 unfolding noted
-place-noted none n e z = absurd (z e)
-place-noted (some place) n e z = let k : place ≡ n - 1 = omega arith in rw k
+place-noted none place e = absurd (none-some place e)
+place-noted (some p) place e = ap some (same_Some p place e)
 
 module _ (rule table : List ℕ) (groups : ℕ) (a : List ℕ) (p : ℕ) where
   -- the names that the table spells are those that it has
@@ -150,17 +153,17 @@ module _ (rule table : List ℕ) (groups : ℕ) (a : List ℕ) (p : ℕ) where
   pub whole-fit : Linkable rule groups table a p → NamesFit rule table groups
   whole-fit w = names_fit rule w.known table groups w.many w.spelled w.room
 
-  module _ (b : List ℕ) (pc found : ℕ) (m : Links (Inside rule (names_in rule table groups) a) groups spans_length a b p 0 0 pc found) where
-    whole-made : (known : Names) → length known ≡ groups → Spelled rule known table → Links (Inside rule known a) groups spans_length a b p 0 0 pc found
+  module _ (b : List ℕ) (pc : ℕ) (found : Option ℕ) (m : Links (Inside rule (names_in rule table groups) a) groups spans_length a b p 0 None pc found) where
+    whole-made : (known : Names) → length known ≡ groups → Spelled rule known table → Links (Inside rule known a) groups spans_length a b p 0 None pc found
     whole-made known e h = rw (names-are rule known table groups e h) at m
 
-    pub whole-entry : found ≡ 0 → LinksWhole rule groups table a b p (Entry pc)
+    pub whole-entry : found ≡ None → LinksWhole rule groups table a b p (Ok pc)
     unfolding Links LinksWhole
     whole-entry e known many spelled t lo top h f =
         let w = whole-made known many spelled t lo top h f in
         let n = nothing-noted (unresolved groups t) (sym w.first ∙ e) in
         (w.outside, record { resolved = n; compiled = w.stands n; near = omega (arith, w.near) })
 
-    pub whole-none : (found ≡ 0 → ⊥) → LinksWhole rule groups table a b p (NoGroup (found - 1))
+    pub whole-none : (place : ℕ) → found ≡ Some place → LinksWhole rule groups table a b p (Err (record { place = place; reason = NoSuchGroup }))
     unfolding Links LinksWhole
-    whole-none e known many spelled t lo top h f = let w = whole-made known many spelled t lo top h f in (w.outside, place-noted (unresolved groups t) found w.first e)
+    whole-none place e known many spelled t lo top h f = let w = whole-made known many spelled t lo top h f in (w.outside, (place-noted (unresolved groups t) place (sym w.first ∙ e), refl))

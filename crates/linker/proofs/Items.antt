@@ -1,5 +1,6 @@
 -- Items: the number that named the part before now names the part after, and nothing else of the node changed, but a reference's number. A reference by
 -- name first becomes one by number.
+use Rattle.std.specs.Prelude.{Option}
 use mathlib.Core.Path.{◌≡◌, refl, sym, ap, ◌∙◌}
 use mathlib.Core.Bool.{Bool, false}
 use mathlib.Core.List.{List}
@@ -44,8 +45,8 @@ module _ (rule : List ℕ) (known : Names) where
       let k : (p + 6 ≤ length a) × (get_or a (p + 3) 0 + get_or a (p + 5) 0 ≤ length rule) = for-named rule known a s.lo s.top p (λ t. (p + 6 ≤ length a) × (get_or a (p + 3) 0 + get_or a (p + 5) 0 ≤ length rule)) (λ place folded n h. (omega (arith, h.node.high, s.within), rw (h.begins, h.long) h.within)) e s.tree s.holds in
       (k.0, s.fits.few, k.1)
 
-  module _ (groups r : ℕ) (a b : List ℕ) (p next sofar : ℕ) where
-    pub reference-links : (found : ℕ) → get_or a p 0 ≡ 11 → Referred groups a b p next sofar found → Links (Part rule known a) groups r a b p next sofar p found
+  module _ (groups r : ℕ) (a b : List ℕ) (p next : ℕ) (sofar : Option ℕ) where
+    pub reference-links : (found : Option ℕ) → get_or a p 0 ≡ 11 → Referred groups a b p next sofar found → Links (Part rule known a) groups r a b p next sofar p found
     unfolding Links Part unresolved dangling Compiled
     reference-links found e w t lo top h f = for-reference rule known a lo top p (λ t. Made groups r t lo top a b next sofar p found) go e t h
       where
@@ -69,7 +70,7 @@ module _ (rule : List ℕ) (known : Names) where
             }
 
   -- a reference by name, which first became one by number
-  pub named-links : (groups r : ℕ) (a b : List ℕ) (p next sofar pc found : ℕ) → get_or a p 0 ≡ 2 → NameLinked rule known groups a b p next sofar pc found → Links (Part rule known a) groups r a b p next sofar pc found
+  pub named-links : (groups r : ℕ) (a b : List ℕ) (p next : ℕ) (sofar : Option ℕ) (pc : ℕ) (found : Option ℕ) → get_or a p 0 ≡ 2 → NameLinked rule known groups a b p next sofar pc found → Links (Part rule known a) groups r a b p next sofar pc found
   unfolding Links Part
   named-links groups r a b p next sofar pc found e w t lo top h f = rw w.entered (for-named rule known a lo top p (λ t. Fits groups r t → Made groups r t lo top a b next sofar p found) go e t h f)
     where
@@ -95,7 +96,7 @@ module _ (rule : List ℕ) (known : Names) where
             first = l.first;
           }
 
-  module _ (groups r : ℕ) (a b : List ℕ) (p next sofar : ℕ) where
+  module _ (groups r : ℕ) (a b : List ℕ) (p next : ℕ) (sofar : Option ℕ) where
     pub item-links : (Bracketed (get_or a p 0) → ⊥) → (get_or a p 0 ≡ 7 → ⊥) → (get_or a p 0 ≡ 10 → ⊥) → (get_or a p 0 ≡ 11 → ⊥) → (get_or a p 0 ≡ 2 → ⊥) → Put a b (p + 1) next → Links (Part rule known a) groups r a b p next sofar p sofar
     unfolding Links Part unresolved dangling Compiled noted line_break first_some
     item-links b' e₇ e₁₀ e₁₁ e₂ w t lo top h f = for-item rule known a lo top p (λ t. Made groups r t lo top a b next sofar p sofar) go break b' e₇ e₁₀ t h

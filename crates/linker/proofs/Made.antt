@@ -1,7 +1,9 @@
 -- How what was made of neighbouring regions goes together: nothing outside both changed, and the further left reference is noted.
 use mathlib.Core.Path.{◌≡◌, refl, ap, ◌∙◌}
 use mathlib.Core.List.{List}
-use mathlib.Core.Option.{Option, none, some}
+use mathlib.Core.Option as maybe
+use mathlib.Core.Option.{none, some}
+use Rattle.std.specs.Prelude.{Option}
 use Prim.Native.Nat.{ℕ, ◌≤◌}
 use native.Mathlib.Omega.{arith}
 use Rattle.syntax.specs.Tree.{Rule, empty, seq}
@@ -31,24 +33,24 @@ outside_wider lo top lo' top' a b l h x = outside-then lo' top' lo top lo' top' 
 
 -- References to no group -----------------------------------------------------------
 
-pub none_left : (x y : Option ℕ) → first_some x y ≡ none → x ≡ none
+pub none_left : (x y : maybe.Option ℕ) → first_some x y ≡ none → x ≡ none
 unfolding first_some
 none_left none y e = refl
 none_left (some p) y e = e
 
-pub none_right : (x y : Option ℕ) → first_some x y ≡ none → y ≡ none
+pub none_right : (x y : maybe.Option ℕ) → first_some x y ≡ none → y ≡ none
 unfolding first_some
 none_right none y e = e
 none_right (some p) y e = let z : ◌≡◌ {A = ℕ} 0 1 = cc in absurd (omega arith)
 
-pub noted-first : (x y : Option ℕ) (sofar : ℕ) → noted x (noted y sofar) ≡ noted (first_some x y) sofar
+pub noted-first : (x y : maybe.Option ℕ) (sofar : Option ℕ) → noted x (noted y sofar) ≡ noted (first_some x y) sofar
 unfolding noted first_some
 noted-first none y sofar = refl
 noted-first (some p) y sofar = refl
 
 -- Trees ------------------------------------------------------------------------------
 
-pub made-wider : (groups r : ℕ) (t : Rule) (lo top lo' top' : ℕ) (a b : List ℕ) (next sofar pc found : ℕ) → lo' ≤ lo → top ≤ top'
+pub made-wider : (groups r : ℕ) (t : Rule) (lo top lo' top' : ℕ) (a b : List ℕ) (next : ℕ) (sofar : Option ℕ) (pc : ℕ) (found : Option ℕ) → lo' ≤ lo → top ≤ top'
     → Made groups r t lo top a b next sofar pc found → Made groups r t lo' top' a b next sofar pc found
 made-wider groups r t lo top lo' top' a b next sofar pc found l h m =
     record {
@@ -59,13 +61,13 @@ made-wider groups r t lo top lo' top' a b next sofar pc found l h m =
     }
 
 -- nothing is made of no part
-pub made-empty : (groups r lo top : ℕ) (a : List ℕ) (next sofar : ℕ) → Made groups r empty lo top a a next sofar next sofar
+pub made-empty : (groups r lo top : ℕ) (a : List ℕ) (next : ℕ) (sofar : Option ℕ) → Made groups r empty lo top a a next sofar next sofar
 unfolding unresolved Compiled noted
 made-empty groups r lo top a next sofar =
     record { outside = outside-none lo top a; near = omega arith; stands = λ e. refl; first = refl }
 
 -- the last part of a sequence, then the parts before it, which go on at the last
-pub made-seq : (groups r : ℕ) (x y : Rule) (lo mid top : ℕ) (a b c : List ℕ) (next sofar q noticed pc found : ℕ) → lo ≤ mid → mid ≤ top
+pub made-seq : (groups r : ℕ) (x y : Rule) (lo mid top : ℕ) (a b c : List ℕ) (next : ℕ) (sofar : Option ℕ) (q : ℕ) (noticed : Option ℕ) (pc : ℕ) (found : Option ℕ) → lo ≤ mid → mid ≤ top
     → Made groups r y mid top a b next sofar q noticed → Made groups r x lo mid b c q noticed pc found → Made groups r (seq x y) lo top a c next sofar pc found
 unfolding unresolved Compiled
 made-seq groups r x y lo mid top a b c next sofar q noticed pc found l h my mx =
@@ -83,6 +85,6 @@ made-seq groups r x y lo mid top a b c next sofar q noticed pc found l h my mx =
     }
 
 -- where a tree is entered, in the code's bounds
-pub links-near : (Holds : Rule → Region) (groups r : ℕ) (a b : List ℕ) (p next sofar pc found : ℕ) → next ≤ rule_area_need → Stands Holds groups r a p → Links Holds groups r a b p next sofar pc found → pc ≤ rule_area_need
+pub links-near : (Holds : Rule → Region) (groups r : ℕ) (a b : List ℕ) (p next : ℕ) (sofar : Option ℕ) (pc : ℕ) (found : Option ℕ) → next ≤ rule_area_need → Stands Holds groups r a p → Links Holds groups r a b p next sofar pc found → pc ≤ rule_area_need
 unfolding Links
 links-near Holds groups r a b p next sofar pc found n s m = omega (arith, (m s.tree s.lo s.top s.holds s.fits).near, s.small)

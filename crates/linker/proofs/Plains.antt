@@ -1,4 +1,5 @@
 -- Groups that do not capture: the node is passed over, and what is made of the inside is made of the part.
+use Rattle.std.specs.Prelude.{Option}
 use mathlib.Core.Path.{◌≡◌}
 use mathlib.Core.List.{List}
 use Prim.Native.Nat.{ℕ, ◌+◌, ◌≤◌, ◌<◌}
@@ -33,7 +34,7 @@ module _ (rule : List ℕ) (known : Names) where
             inside = rw h.is (record { tree = t; lo = s.lo; top = p; holds = h.holds; fits = f; within = omega arith; small = omega arith });
           }
 
-  pub plain-links : (groups r : ℕ) (a b : List ℕ) (p next sofar entry found : ℕ) → get_or a p 0 ≡ 10 → Links (Inside rule known a) groups r a b (get_or a (p + 2) 0) next sofar entry found → Links (Part rule known a) groups r a b p next sofar entry found
+  pub plain-links : (groups r : ℕ) (a b : List ℕ) (p next : ℕ) (sofar : Option ℕ) (entry : ℕ) (found : Option ℕ) → get_or a p 0 ≡ 10 → Links (Inside rule known a) groups r a b (get_or a (p + 2) 0) next sofar entry found → Links (Part rule known a) groups r a b p next sofar entry found
   unfolding Links
   plain-links groups r a b p next sofar entry found e m t lo top h f = for-plain rule known a lo top p (λ t. Fits groups r t → Made groups r t lo top a b next sofar entry found) go e t h f
     where

@@ -1,4 +1,5 @@
 -- Repeats: the body is linked in the region below the node, and goes on at the loop; then the node's own numbers are written.
+use Rattle.std.specs.Prelude.{Option}
 use mathlib.Core.Path.{◌≡◌, sym, ◌∙◌}
 use mathlib.Core.Bool.{true, false}
 use mathlib.Core.List.{List}
@@ -114,7 +115,7 @@ module _ (rule : List ℕ) (known : Names) where
   run_of a Greedy s lo top p x e z h (inl k) = byte-item a s lo top p h k
   run_of a Greedy s lo top p x e z h (inr k) = within-plain a s lo top p h k
 
-  module _ (groups r : ℕ) (a b c : List ℕ) (p kind next sofar entry found : ℕ) where
+  module _ (groups r : ℕ) (a b c : List ℕ) (p kind next : ℕ) (sofar : Option ℕ) (entry : ℕ) (found : Option ℕ) where
     repeat-made : (place least : ℕ) (most : Most) (g : Greed) (s : Rule) (lo top : ℕ) → Part rule known a (repeat place least most g s) lo top p → Fits groups r (repeat place least most g s)
         → EntryKind a p (get_or a (p + 6) 0) kind → Made groups (r + 2) s lo p a b (p + 1) sofar entry found → RepeatClosed b c p kind next r entry → Made groups r (repeat place least most g s) lo top a c next sofar p found
     unfolding Part unresolved Compiled

@@ -1,5 +1,5 @@
 -- What the small functions write, number by number.
-use Rattle.std.specs.Prelude.{◌≡◌, false, List, ◌⊎◌, ℕ, ◌+◌, ◌≤◌, ◌<◌, get_or}
+use Rattle.std.specs.Prelude.{◌≡◌, false, List, Option, ◌⊎◌, ℕ, ◌+◌, ◌≤◌, ◌<◌, get_or}
 use Rattle.std.proofs.Math.Option.{none}
 use Rattle.std.proofs.Math.Seq.{slice}
 use Rattle.syntax.specs.Limits.{slot}
@@ -66,7 +66,7 @@ pub record RepeatClosed (old new : List ℕ) (p kind next r entry : ℕ) : Type 
   pub rest : Outside p (p + 8) old new
 
 -- a reference, whose number becomes its group's slot; or it is noted. Whether it is folded makes no difference, and is left as it is.
-pub record Referred (groups : ℕ) (old new : List ℕ) (p next sofar found : ℕ) : Type 0 where
+pub record Referred (groups : ℕ) (old new : List ℕ) (p next : ℕ) (sofar found : Option ℕ) : Type 0 where
   pub kind : get_or new p 0 ≡ get_or old p 0
   pub origin : get_or new (p + 2) 0 ≡ get_or old (p + 2) 0
   pub rest : Outside p (p + 4) old new
@@ -83,7 +83,7 @@ pub record Numbered (s : List ℕ) (known : Names) (old new : List ℕ) (p : ℕ
   pub rest : Outside p (p + 4) old new
 
 -- and which is then linked by that
-pub record NameLinked (s : List ℕ) (known : Names) (groups : ℕ) (old new : List ℕ) (p next sofar pc found : ℕ) : Type 0 where
+pub record NameLinked (s : List ℕ) (known : Names) (groups : ℕ) (old new : List ℕ) (p next : ℕ) (sofar : Option ℕ) (pc : ℕ) (found : Option ℕ) : Type 0 where
   pub entered : pc ≡ p
   pub between : List ℕ
   pub numbered : Numbered s known old between p

@@ -1,57 +1,32 @@
 // Turns the nodes that the first pass left in the rule area into the compiled rule, in place, from the last part to the first. Only here does a
 // reference by name get its group's number: the group may stand behind it, so that the first pass cannot tell.
+//
+// The nodes stay in the area of numbers that the caller lends, since there is no heap: their kinds are numbers of it, and a node names others by their
+// positions, where 0, no node's position, stands for none. A position is a bare number too, whose bound is asked for where it is used: a type that
+// holds the bound would be taken apart at each use, and be no plainer.
 #![tactic(auto)]
 
 ghost use Rattle.std.specs.Prelude.{◌≡◌, true, false, ◌+◌, ◌≤◌, ◌<◌, get_or, length};
 ghost use Rattle.syntax.specs.Limits.{group_limit, rule_area_need, registers};
-ghost use Rattle.name_table.specs.Table.{names_in, NamesFit};
+ghost use Rattle.linker.specs.Known.{known_in};
 ghost use Rattle.linker.specs.Nodes.{before_of, Part, Chain, Inside};
 ghost use Rattle.linker.specs.Linking.{Stands, StandAll, Linkable, Links, LinksAll, LinksWhole};
 ghost use Rattle.linker.specs.Stores.{Put, PutTwo, Bracketed, PutAfter, GroupClosed, IsOneByte, EntryKind, RepeatClosed, Referred, Numbered, NameLinked};
 
-use name_table::{group_called, word};
-use syntax::SPANS_LENGTH;
+mod names;
 
-// The kinds of nodes, as specs/Nodes.antt lists them. What is of none of these is an item, and goes on alike.
-const GROUP: usize = 4;
+use name_table::word;
+use names::NameTable;
+use syntax::node::{
+    AHEAD, BYTE, CLOSE, HELD, LAST, NAMED, NOT_AHEAD, PLAIN, REFERENCE, REPEAT, RUN,
+};
+use syntax::{Greed, Reason, Refusal, SPANS_LENGTH};
 
-const LAST: usize = 6;
-
-const REPEAT: usize = 7;
-
-const PLAIN: usize = 10;
-
-const REFERENCE: usize = 11;
-
-const NAMED: usize = 2;
-
-const HELD: usize = 14;
-
-const AHEAD: usize = 15;
-
-const NOT_AHEAD: usize = 17;
-
-// The kinds of a byte item and of a compiled run, and the number of a greedy repeat's greed.
-const BYTE: usize = 0;
-
-const RUN: usize = 10;
-
-const GREEDY: usize = 0;
-
-// What a rule is linked to.
-#[derive(Drop)]
-pub enum Linkage {
-    // where the rule begins
-    Entry(usize),
-    // the place of the first reference to no group
-    NoGroup(usize),
-}
-
-// Where a part is entered, and the first reference to no group so far: one more than its place, or 0 for none.
-#[derive(Drop)]
+// Where a part is entered, and the place of the first reference to no group so far.
+#[derive(Clone, Copy, Debug, PartialEq, Eq)]
 struct Linked {
     pc: usize,
-    dangling: usize,
+    dangling: Option<usize>,
 }
 
 // Writes a number.
@@ -76,7 +51,7 @@ pub fn before_of(area: &[u32], p: usize) -> usize
     requires { (p + 3 ≤ length area.now) × (get_or area.now p 0 ≡ 7 → p + 8 ≤ length area.now) }
     ensures { result ≡ before_of area.now p }
 {
-    if word(area, p) == REPEAT {
+    if area[p] == REPEAT {
         return word(area, p + 7);
     }
     word(area, p + 1)
@@ -86,16 +61,7 @@ pub fn before_of(area: &[u32], p: usize) -> usize
 pub fn is_bracketed(kind: usize) -> bool
     ensures { (result ≡ true → Bracketed kind) × (result ≡ false → Bracketed kind → ⊥) }
 {
-    if kind == GROUP {
-        return true;
-    }
-    if kind == HELD {
-        return true;
-    }
-    if kind == AHEAD {
-        return true;
-    }
-    kind == NOT_AHEAD
+    matches!(u32::try_from(kind), Ok(CLOSE | HELD | AHEAD | NOT_AHEAD))
 }
 
 // What follows negative looking ahead stands behind its opening too.
@@ -103,7 +69,7 @@ fn put_after(area: &mut [u32], p: usize, next: usize)
     requires { (p < length area.old) × (next ≤ rule_area_need) × (get_or area.old p 0 ≡ 17 → p + 8 ≤ length area.old) }
     ensures { PutAfter area.old area.new p next }
 {
-    if word(area, p) == NOT_AHEAD {
+    if area[p] == NOT_AHEAD {
         put(area, p + 7, next);
     }
 }
@@ -123,7 +89,7 @@ fn is_one_byte(area: &[u32], p: usize) -> bool
     requires { (p + 3 ≤ length area.now) × (get_or area.now p 0 ≡ 10 → get_or area.now (p + 2) 0 < p) }
     ensures { result ≡ true → IsOneByte area.now p }
 {
-    let kind = word(area, p);
+    let kind = area[p];
     if kind == BYTE {
         return true;
     }
@@ -131,51 +97,44 @@ fn is_one_byte(area: &[u32], p: usize) -> bool
         return false;
     }
     let inside = word(area, p + 2);
-    if inside == 0 {
-        return false;
-    }
-    if word(area, inside) != BYTE {
-        return false;
-    }
-    word(area, inside + 1) == 0
+    inside != 0 && area[inside] == BYTE && area[inside + 1] == 0
 }
 
 // The number at which a repeat is entered: a greedy repeat of one byte item is a run.
-fn entry_kind(area: &[u32], p: usize, body: usize) -> usize
+fn entry_kind(area: &[u32], p: usize, body: usize) -> u32
     requires { (p + 8 ≤ length area.now) × (body < p) × (get_or area.now body 0 ≡ 10 → get_or area.now (body + 2) 0 < body) }
     ensures { EntryKind area.now p body result }
 {
-    if word(area, p + 4) != GREEDY {
-        return REPEAT;
-    }
-    if is_one_byte(area, body) {
+    if area[p + 4] == u32::from(Greed::Greedy) && is_one_byte(area, body) {
         return RUN;
     }
     REPEAT
 }
 
 // A repeat whose body is linked: its kind, its register, where its body begins, and what follows it.
-fn close_repeat(area: &mut [u32], p: usize, kind: usize, next: usize, r: usize, entry: usize)
+fn close_repeat(area: &mut [u32], p: usize, kind: u32, next: usize, r: usize, entry: usize)
     requires { (p + 8 ≤ length area.old) × (kind ≤ 10) × (next ≤ rule_area_need) × (r ≤ registers) × (entry ≤ rule_area_need) }
     ensures { RepeatClosed area.old area.new p kind next r entry }
 {
-    put(area, p, kind);
+    area[p] = kind;
     put_two(area, p + 5, r, entry);
     put(area, p + 7, next);
 }
 
 // A reference: its number becomes the slot of its group's span, if there is such a group. Whether it is folded stays as it was read.
-fn link_reference(area: &mut [u32], p: usize, next: usize, groups: usize, dangling: usize) -> usize
+fn link_reference(
+    area: &mut [u32],
+    p: usize,
+    next: usize,
+    groups: usize,
+    dangling: Option<usize>,
+) -> Option<usize>
     requires { (p + 4 ≤ length area.old) × (next ≤ rule_area_need) × (groups ≤ group_limit) }
     ensures { Referred groups area.old area.new p next dangling result }
 {
-    let place = word(area, p + 2);
     let number = word(area, p + 3);
-    if number == 0 {
-        return place + 1;
-    }
-    if groups < number {
-        return place + 1;
+    if number == 0 || groups < number {
+        return Some(word(area, p + 2));
     }
     put(area, p + 1, next);
     put(area, p + 3, 2 * (number - 1));
@@ -183,14 +142,14 @@ fn link_reference(area: &mut [u32], p: usize, next: usize, groups: usize, dangli
 }
 
 // A reference by name becomes one by number.
-fn number_reference(area: &mut [u32], p: usize, groups: usize, rule: &[u8], table: &[u32])
-    requires { (p + 6 ≤ length area.old) × (groups ≤ group_limit) × NamesFit rule.now table.now groups × (get_or area.old (p + 3) 0 + get_or area.old (p + 5) 0 ≤ length rule.now) }
-    ensures { Numbered rule.now (names_in rule.now table.now groups) area.old area.new p }
+fn number_reference(area: &mut [u32], p: usize, names: &NameTable<'_>)
+    requires { (p + 6 ≤ length area.old) × (names.now.groups ≤ group_limit) × (get_or area.old (p + 3) 0 + get_or area.old (p + 5) 0 ≤ length names.now.rule.now) }
+    ensures { Numbered names.now.rule.now (known_in names.now) area.old area.new p }
 {
     let from = word(area, p + 3);
     let len = word(area, p + 5);
-    let number = group_called(rule, table, groups, from, len);
-    put(area, p, REFERENCE);
+    let number = names.called(from, len).unwrap_or(0);
+    area[p] = REFERENCE;
     put(area, p + 3, number);
 }
 
@@ -199,20 +158,15 @@ fn link_named(
     area: &mut [u32],
     p: usize,
     next: usize,
-    groups: usize,
-    dangling: usize,
-    rule: &[u8],
-    table: &[u32],
+    names: &NameTable<'_>,
+    dangling: Option<usize>,
 ) -> Linked
-    requires { (p + 6 ≤ length area.old) × (groups ≤ group_limit) × NamesFit rule.now table.now groups × (get_or area.old (p + 3) 0 + get_or area.old (p + 5) 0 ≤ length rule.now) × (next ≤ rule_area_need) }
-    ensures { NameLinked rule.now (names_in rule.now table.now groups) groups area.old area.new p next dangling result.pc result.dangling }
+    requires { (p + 6 ≤ length area.old) × (names.now.groups ≤ group_limit) × (get_or area.old (p + 3) 0 + get_or area.old (p + 5) 0 ≤ length names.now.rule.now) × (next ≤ rule_area_need) }
+    ensures { NameLinked names.now.rule.now (known_in names.now) names.now.groups area.old area.new p next dangling result.pc result.dangling }
 {
-    number_reference(area, p, groups, rule, table);
-    let found = link_reference(area, p, next, groups, dangling);
-    Linked {
-        pc: p,
-        dangling: found,
-    }
+    number_reference(area, p, names);
+    let dangling = link_reference(area, p, next, names.groups, dangling);
+    Linked { pc: p, dangling }
 }
 
 // The part at p, which goes on at `next` and uses the registers from r on.
@@ -222,38 +176,28 @@ fn link_part(
     p: usize,
     next: usize,
     r: usize,
-    groups: usize,
-    dangling: usize,
-    rule: &[u8],
-    table: &[u32],
+    names: &NameTable<'_>,
+    dangling: Option<usize>,
 ) -> Linked
-    requires { Stands (Part rule.now (names_in rule.now table.now groups) area.old) groups r area.old p × (next ≤ rule_area_need) × NamesFit rule.now table.now groups }
-    ensures { Links (Part rule.now (names_in rule.now table.now groups) area.old) groups r area.old area.new p next dangling result.pc result.dangling }
+    requires { Stands (Part names.now.rule.now (known_in names.now) area.old) names.now.groups r area.old p × (next ≤ rule_area_need) }
+    ensures { Links (Part names.now.rule.now (known_in names.now) area.old) names.now.groups r area.old area.new p next dangling result.pc result.dangling }
 {
-    let kind = word(area, p);
-    if is_bracketed(kind) {
-        return link_group(area, p, next, r, groups, dangling, rule, table);
+    let kind = area[p];
+    if is_bracketed(kind as usize) {
+        return link_group(area, p, next, r, names, dangling);
     }
-    if kind == REPEAT {
-        return link_repeat(area, p, next, r, groups, dangling, rule, table);
-    }
-    if kind == PLAIN {
-        return link_plain(area, p, next, r, groups, dangling, rule, table);
-    }
-    if kind == REFERENCE {
-        let found = link_reference(area, p, next, groups, dangling);
-        return Linked {
-            pc: p,
-            dangling: found,
-        };
-    }
-    if kind == NAMED {
-        return link_named(area, p, next, groups, dangling, rule, table);
-    }
-    put(area, p + 1, next);
-    Linked {
-        pc: p,
-        dangling: dangling,
+    match kind {
+        REPEAT => link_repeat(area, p, next, r, names, dangling),
+        PLAIN => link_plain(area, p, next, r, names, dangling),
+        REFERENCE => {
+            let dangling = link_reference(area, p, next, names.groups, dangling);
+            Linked { pc: p, dangling }
+        }
+        NAMED => link_named(area, p, next, names, dangling),
+        _ => {
+            put(area, p + 1, next);
+            Linked { pc: p, dangling }
+        }
     }
 }
 
@@ -264,23 +208,18 @@ fn link_group(
     p: usize,
     next: usize,
     r: usize,
-    groups: usize,
-    dangling: usize,
-    rule: &[u8],
-    table: &[u32],
+    names: &NameTable<'_>,
+    dangling: Option<usize>,
 ) -> Linked
-    requires { Stands (Part rule.now (names_in rule.now table.now groups) area.old) groups r area.old p × (next ≤ rule_area_need) × Bracketed (get_or area.old p 0) × NamesFit rule.now table.now groups }
-    ensures { Links (Part rule.now (names_in rule.now table.now groups) area.old) groups r area.old area.new p next dangling result.pc result.dangling }
+    requires { Stands (Part names.now.rule.now (known_in names.now) area.old) names.now.groups r area.old p × (next ≤ rule_area_need) × Bracketed (get_or area.old p 0) }
+    ensures { Links (Part names.now.rule.now (known_in names.now) area.old) names.now.groups r area.old area.new p next dangling result.pc result.dangling }
 {
     let inside = word(area, p + 5);
-    let l = link_inside(area, inside, p, r + 2, groups, dangling, rule, table);
-    let entry = l.pc;
-    let found = l.dangling;
-    close_group(area, p, next, r, entry);
-    let opening = p + 4;
+    let l = link_inside(area, inside, p, r + 2, names, dangling);
+    close_group(area, p, next, r, l.pc);
     Linked {
-        pc: opening,
-        dangling: found,
+        pc: p + 4,
+        dangling: l.dangling,
     }
 }
 
@@ -291,23 +230,19 @@ fn link_repeat(
     p: usize,
     next: usize,
     r: usize,
-    groups: usize,
-    dangling: usize,
-    rule: &[u8],
-    table: &[u32],
+    names: &NameTable<'_>,
+    dangling: Option<usize>,
 ) -> Linked
-    requires { Stands (Part rule.now (names_in rule.now table.now groups) area.old) groups r area.old p × (next ≤ rule_area_need) × (get_or area.old p 0 ≡ 7) × NamesFit rule.now table.now groups }
-    ensures { Links (Part rule.now (names_in rule.now table.now groups) area.old) groups r area.old area.new p next dangling result.pc result.dangling }
+    requires { Stands (Part names.now.rule.now (known_in names.now) area.old) names.now.groups r area.old p × (next ≤ rule_area_need) × (get_or area.old p 0 ≡ 7) }
+    ensures { Links (Part names.now.rule.now (known_in names.now) area.old) names.now.groups r area.old area.new p next dangling result.pc result.dangling }
 {
     let body = word(area, p + 6);
     let kind = entry_kind(area, p, body);
-    let l = link_part(area, body, p + 1, r + 2, groups, dangling, rule, table);
-    let entry = l.pc;
-    let found = l.dangling;
-    close_repeat(area, p, kind, next, r, entry);
+    let l = link_part(area, body, p + 1, r + 2, names, dangling);
+    close_repeat(area, p, kind, next, r, l.pc);
     Linked {
         pc: p,
-        dangling: found,
+        dangling: l.dangling,
     }
 }
 
@@ -318,16 +253,14 @@ fn link_plain(
     p: usize,
     next: usize,
     r: usize,
-    groups: usize,
-    dangling: usize,
-    rule: &[u8],
-    table: &[u32],
+    names: &NameTable<'_>,
+    dangling: Option<usize>,
 ) -> Linked
-    requires { Stands (Part rule.now (names_in rule.now table.now groups) area.old) groups r area.old p × (next ≤ rule_area_need) × (get_or area.old p 0 ≡ 10) × NamesFit rule.now table.now groups }
-    ensures { Links (Part rule.now (names_in rule.now table.now groups) area.old) groups r area.old area.new p next dangling result.pc result.dangling }
+    requires { Stands (Part names.now.rule.now (known_in names.now) area.old) names.now.groups r area.old p × (next ≤ rule_area_need) × (get_or area.old p 0 ≡ 10) }
+    ensures { Links (Part names.now.rule.now (known_in names.now) area.old) names.now.groups r area.old area.new p next dangling result.pc result.dangling }
 {
     let inside = word(area, p + 2);
-    link_inside(area, inside, next, r, groups, dangling, rule, table)
+    link_inside(area, inside, next, r, names, dangling)
 }
 
 // What stands in a group, its last part or branch at p.
@@ -337,56 +270,43 @@ fn link_inside(
     p: usize,
     next: usize,
     r: usize,
-    groups: usize,
-    dangling: usize,
-    rule: &[u8],
-    table: &[u32],
+    names: &NameTable<'_>,
+    dangling: Option<usize>,
 ) -> Linked
-    requires { Stands (Inside rule.now (names_in rule.now table.now groups) area.old) groups r area.old p × (next ≤ rule_area_need) × NamesFit rule.now table.now groups }
-    ensures { Links (Inside rule.now (names_in rule.now table.now groups) area.old) groups r area.old area.new p next dangling result.pc result.dangling }
+    requires { Stands (Inside names.now.rule.now (known_in names.now) area.old) names.now.groups r area.old p × (next ≤ rule_area_need) }
+    ensures { Links (Inside names.now.rule.now (known_in names.now) area.old) names.now.groups r area.old area.new p next dangling result.pc result.dangling }
 {
     if p == 0 {
-        return Linked {
-            pc: next,
-            dangling: dangling,
-        };
+        return Linked { pc: next, dangling };
     }
-    let kind = word(area, p);
-    if kind == LAST {
-        return link_alternation(area, p, next, r, groups, dangling, rule, table);
+    if area[p] == LAST {
+        return link_alternation(area, p, next, r, names, dangling);
     }
-    link_chain(area, p, next, r, groups, dangling, rule, table)
+    link_chain(area, p, next, r, names, dangling)
 }
 
-// A sequence, from its last part to its first: each part goes on at the one after it.
+// A sequence, from its last part to its first: each part goes on at the one after it. The loop is no iterator over the parts: that would hold the
+// area, which is written to meanwhile.
 #[cycle(link_alternation_link_branches_link_chain_link_group_link_inside_link_part_link_plain_link_repeat)]
 fn link_chain(
     area: &mut [u32],
     last: usize,
     next: usize,
     r: usize,
-    groups: usize,
-    dangling: usize,
-    rule: &[u8],
-    table: &[u32],
+    names: &NameTable<'_>,
+    dangling: Option<usize>,
 ) -> Linked
-    requires { Stands (Chain rule.now (names_in rule.now table.now groups) area.old) groups r area.old last × (next ≤ rule_area_need) × NamesFit rule.now table.now groups }
-    ensures { Links (Chain rule.now (names_in rule.now table.now groups) area.old) groups r area.old area.new last next dangling result.pc result.dangling }
+    requires { Stands (Chain names.now.rule.now (known_in names.now) area.old) names.now.groups r area.old last × (next ≤ rule_area_need) }
+    ensures { Links (Chain names.now.rule.now (known_in names.now) area.old) names.now.groups r area.old area.new last next dangling result.pc result.dangling }
 {
     let mut p = last;
-    let mut pc = next;
-    let mut found = dangling;
+    let mut l = Linked { pc: next, dangling };
     while p != 0 {
         let before = before_of(area, p);
-        let l = link_part(area, p, pc, r, groups, found, rule, table);
-        pc = l.pc;
-        found = l.dangling;
+        l = link_part(area, p, l.pc, r, names, l.dangling);
         p = before;
     }
-    Linked {
-        pc: pc,
-        dangling: found,
-    }
+    l
 }
 
 // An alternation, whose last branch stands at p.
@@ -396,24 +316,20 @@ fn link_alternation(
     p: usize,
     next: usize,
     r: usize,
-    groups: usize,
-    dangling: usize,
-    rule: &[u8],
-    table: &[u32],
+    names: &NameTable<'_>,
+    dangling: Option<usize>,
 ) -> Linked
-    requires { Stands (Inside rule.now (names_in rule.now table.now groups) area.old) groups r area.old p × (next ≤ rule_area_need) × (1 ≤ p) × (get_or area.old p 0 ≡ 6) × NamesFit rule.now table.now groups }
-    ensures { Links (Inside rule.now (names_in rule.now table.now groups) area.old) groups r area.old area.new p next dangling result.pc result.dangling }
+    requires { Stands (Inside names.now.rule.now (known_in names.now) area.old) names.now.groups r area.old p × (next ≤ rule_area_need) × (1 ≤ p) × (get_or area.old p 0 ≡ 6) }
+    ensures { Links (Inside names.now.rule.now (known_in names.now) area.old) names.now.groups r area.old area.new p next dangling result.pc result.dangling }
 {
     let inside = word(area, p + 1);
     let before = word(area, p + 2);
-    let l = link_chain(area, inside, next, r, groups, dangling, rule, table);
-    let entry = l.pc;
-    let found = l.dangling;
-    put_two(area, p + 1, entry, 0);
-    link_branches(area, before, p, next, r, groups, found, rule, table)
+    let l = link_chain(area, inside, next, r, names, dangling);
+    put_two(area, p + 1, l.pc, 0);
+    link_branches(area, before, p, next, r, names, l.dangling)
 }
 
-// Branches, from the latest to the first: each falls back on the one after it, the latest on the branch at `other`.
+// Branches, from the latest to the first: each falls back on the one after it, the latest on the branch at `other`. The area is written to here too.
 #[cycle(link_alternation_link_branches_link_chain_link_group_link_inside_link_part_link_plain_link_repeat)]
 fn link_branches(
     area: &mut [u32],
@@ -421,53 +337,51 @@ fn link_branches(
     other: usize,
     next: usize,
     r: usize,
-    groups: usize,
-    dangling: usize,
-    rule: &[u8],
-    table: &[u32],
+    names: &NameTable<'_>,
+    dangling: Option<usize>,
 ) -> Linked
-    requires { StandAll rule.now (names_in rule.now table.now groups) groups r area.old last × (other ≤ rule_area_need) × (next ≤ rule_area_need) × NamesFit rule.now table.now groups }
-    ensures { LinksAll rule.now (names_in rule.now table.now groups) groups r area.old area.new last other next dangling result.pc result.dangling }
+    requires { StandAll names.now.rule.now (known_in names.now) names.now.groups r area.old last × (other ≤ rule_area_need) × (next ≤ rule_area_need) }
+    ensures { LinksAll names.now.rule.now (known_in names.now) names.now.groups r area.old area.new last other next dangling result.pc result.dangling }
 {
     let mut p = last;
-    let mut after = other;
-    let mut found = dangling;
+    let mut after = Linked {
+        pc: other,
+        dangling,
+    };
     while p != 0 {
         let inside = word(area, p + 1);
         let before = word(area, p + 2);
-        let l = link_chain(area, inside, next, r, groups, found, rule, table);
-        let entry = l.pc;
-        put_two(area, p + 1, entry, after);
-        found = l.dangling;
-        after = p;
+        let l = link_chain(area, inside, next, r, names, after.dangling);
+        put_two(area, p + 1, l.pc, after.pc);
+        after = Linked {
+            pc: p,
+            dangling: l.dangling,
+        };
         p = before;
     }
-    Linked {
-        pc: after,
-        dangling: found,
-    }
+    after
 }
 
-// A whole rule, whose inside the first pass left: the end stands at position 0. The registers of groups and repeats begin behind the captures. The table has the names of its groups.
-pub fn link(rule: &[u8], area: &mut [u32], inside: usize, groups: u32, table: &[u32]) -> Linkage
+// A whole rule, whose inside the first pass left: the end stands at position 0. The registers of groups and repeats begin behind the captures. The
+// table has the names of its groups. What is answered is where the rule begins, or the first reference to no group.
+pub fn link(
+    rule: &[u8],
+    area: &mut [u32],
+    inside: usize,
+    groups: u32,
+    table: &[u32],
+) -> Result<u32, Refusal>
     requires { Linkable rule.now groups table.now area.old inside }
     ensures { LinksWhole rule.now groups table.now area.old area.new inside result }
 {
-    let l = link_inside(
-        area,
-        inside,
-        0,
-        SPANS_LENGTH,
-        groups as usize,
-        0,
+    let names = NameTable {
         rule,
         table,
-    );
-    let pc = l.pc;
-    let dangling = l.dangling;
-    if dangling == 0 {
-        return Linkage::Entry(pc);
+        groups: groups as usize,
+    };
+    let l = link_inside(area, inside, 0, SPANS_LENGTH, &names, None);
+    match l.dangling {
+        Some(place) => Err(Refusal::at(place, Reason::NoSuchGroup)),
+        None => Ok(l.pc as u32),
     }
-    let place = dangling - 1;
-    Linkage::NoGroup(place)
 }

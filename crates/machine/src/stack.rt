@@ -243,11 +243,8 @@ pub fn cut_to(work: &mut [u32], height: usize, mark: usize) -> usize
         return height;
     }
     let mut h = mark;
-    let mut i = mark;
-    while i < height {
-        let kept = keep_undo(work, h, i);
-        h = kept;
-        i += 1;
+    for i in mark..height {
+        h = keep_undo(work, h, i);
     }
     h
 }

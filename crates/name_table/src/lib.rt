@@ -1,9 +1,9 @@
-// The table of names that the reading of a rule leaves: the names of two groups compared, and the group that has a name.
+// The table of names that the reading of a rule leaves, and the group that has a name.
 //
 // The first pass looks there for a name that is used twice, and the second for the group of a reference by name.
 #![tactic(auto)]
 
-ghost use Rattle.std.specs.Prelude.{◌≡◌, ◌+◌, ◌≤◌, ◌<◌, get_or, length};
+ghost use Rattle.std.specs.Prelude.{◌≡◌, IfSome, ◌+◌, ◌*◌, ◌≤◌, ◌<◌, get_or, length, unwrap_or};
 ghost use Rattle.std.proofs.Math.Seq.{slice};
 ghost use Rattle.syntax.specs.Names.{group_called};
 ghost use Rattle.syntax.specs.Sets.{same_bytes};
@@ -17,40 +17,36 @@ pub fn word(area: &[u32], at: usize) -> usize
     area[at] as usize
 }
 
-// Whether two names are the same bytes: one is so many bytes of the rule from a position on, the other so many from another. A group without a
-// name has none, wherever its position is.
-fn same_name(rule: &[u8], from: usize, len: usize, other: usize, size: usize) -> bool
-    requires { (from + len ≤ length rule.now) × (1 ≤ size → other + size ≤ length rule.now) }
-    ensures { result ≡ same_bytes (slice from (from + len) rule.now) (slice other (other + size) rule.now) }
+// The name of the group behind so many others. A group without a name has none, wherever its position is.
+fn name_behind<'a>(rule: &'a [u8], table: &[u32], others: usize) -> &'a [u8]
+    requires { (2 * others + 2 ≤ length table.now) × (1 ≤ get_or table.now (2 * others + 1) 0 → get_or table.now (2 * others) 0 + get_or table.now (2 * others + 1) 0 ≤ length rule.now) }
+    ensures { result.now ≡ slice (get_or table.now (2 * others) 0) (get_or table.now (2 * others) 0 + get_or table.now (2 * others + 1) 0) rule.now }
 {
-    if len != size {
-        return false;
+    let from = word(table, 2 * others);
+    let len = word(table, 2 * others + 1);
+    if len == 0 {
+        return &[];
     }
-    let mut i = 0;
-    while i < size {
-        if rule[from + i] != rule[other + i] {
-            return false;
-        }
-        i += 1;
-    }
-    true
+    &rule[from..from + len]
 }
 
-// The number of the group that has the name at a position of the rule, and 0 if none has. No two groups have one name, so that the order does
+// The number of the group that has the name at a position of the rule, if one has. No two groups have one name, so that the order does
 // not matter; the last is looked at first because the grammar lists the names so.
-pub fn group_called(rule: &[u8], table: &[u32], groups: usize, from: usize, len: usize) -> usize
+pub fn group_called(
+    rule: &[u8],
+    table: &[u32],
+    groups: usize,
+    from: usize,
+    len: usize,
+) -> Option<usize>
     requires { NamesFit rule.now table.now groups × (from + len ≤ length rule.now) }
-    ensures { (result ≡ group_called (slice from (from + len) rule.now) (names_in rule.now table.now groups)) × (result ≤ groups) }
+    ensures { (unwrap_or result 0 ≡ group_called (slice from (from + len) rule.now) (names_in rule.now table.now groups)) × IfSome result (λ g. (1 ≤ g) × (g ≤ groups)) }
 {
-    let mut g = groups;
-    while g != 0 {
-        let at = 2 * (g - 1);
-        let other = word(table, at);
-        let size = word(table, at + 1);
-        if same_name(rule, from, len, other, size) {
-            return g;
+    let name = &rule[from..from + len];
+    for others in (0..groups).rev() {
+        if name == name_behind(rule, table, others) {
+            return Some(others + 1);
         }
-        g -= 1;
     }
-    0
+    None
 }

@@ -15,7 +15,7 @@ mod assertions;
 mod references;
 
 pub use assertions::assertion_holds;
-pub use references::{Compared, compare, span_length};
+pub use references::{Compared, compare};
 
 // A byte of a set.
 pub fn take_byte(
@@ -144,7 +144,7 @@ pub fn take_reference(
         let fallen = fall_back(code, regs, work, m.height);
         return Ran::Made(1, fallen);
     }
-    let n = span_length(from, to);
+    let n = to.saturating_sub(from);
     let folded = code[pc + 4] == 1;
     match compare(sub, n, from, m.at, left, folded) {
         Compared::Same => {

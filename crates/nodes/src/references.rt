@@ -1,5 +1,5 @@
 // The bytes of a span, compared with those at a position.
-ghost use Rattle.std.specs.Prelude.{◌-◌, ◌≤◌, min, ◌≡◌};
+ghost use Rattle.std.specs.Prelude.{◌≤◌, ◌≡◌};
 ghost use Rattle.charset.specs.Cases.{other_case};
 ghost use Rattle.semantics.specs.Items.{same_byte};
 ghost use Rattle.nodes.specs.Comparing.{ComparedAs};
@@ -12,25 +12,6 @@ pub enum Compared {
     Same,
     Unlike(u32),
     TooMany,
-}
-
-// The length of a span.
-pub fn span_length(from: u32, to: u32) -> u32
-    ensures { result ≡ to - from }
-{
-    if from <= to {
-        return to - from;
-    }
-    0
-}
-
-fn lesser(a: u32, b: u32) -> u32
-    ensures { result ≡ min a b }
-{
-    if a < b {
-        return a;
-    }
-    b
 }
 
 // A letter in its other case, and every other byte itself.
@@ -65,9 +46,8 @@ pub fn compare(sub: &[u8], n: u32, a: u32, b: u32, left: u32, folded: bool) -> C
     requires { 1 ≤ left }
     ensures { ComparedAs folded sub.now n a b left result }
 {
-    let stop = lesser(n, left - 1);
-    let mut i: u32 = 0;
-    while i < stop {
+    let stop = n.min(left - 1);
+    for i in 0..stop {
         let y = b as usize + i as usize;
         if sub.len() <= y {
             return Compared::Unlike(i);
@@ -78,17 +58,16 @@ pub fn compare(sub: &[u8], n: u32, a: u32, b: u32, left: u32, folded: bool) -> C
         if !same {
             return Compared::Unlike(i + 1);
         }
-        i += 1;
     }
-    let end = b as usize + i as usize;
-    if i < n {
+    let end = b as usize + stop as usize;
+    if stop < n {
         if end < sub.len() {
             return Compared::TooMany;
         }
-        return Compared::Unlike(i);
+        return Compared::Unlike(stop);
     }
     if sub.len() < end {
-        return Compared::Unlike(i);
+        return Compared::Unlike(stop);
     }
     Compared::Same
 }

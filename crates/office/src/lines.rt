@@ -9,7 +9,8 @@ use text::{gather, line_end};
 // How much of a file is read at once.
 const PIECE: usize = 65536;
 
-// A file, and what was read of it and not yet taken: the bytes of a piece from `at` to `end`.
+// A file, and what was read of it and not yet taken: the bytes of a piece from `at` to `end`. The piece is an array and no `BufReader`, since a program of the
+// gateway has no heap.
 #[derive(Drop)]
 pub struct Lines<R> {
     reader: R,
@@ -21,7 +22,8 @@ pub struct Lines<R> {
     ghost within: { Within 65536 at end },
 }
 
-// What a piece brought of a line: how many bytes of it are there then, and whether its end came.
+// What a piece brought of a line: how many bytes of it are there then, and whether its end came. The bytes are counted in both cases, so that this is no
+// Option.
 #[derive(Clone, Copy, Debug, PartialEq, Eq)]
 struct Part {
     have: usize,

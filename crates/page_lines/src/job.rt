@@ -5,7 +5,8 @@ ghost use Rattle.syntax.specs.Limits.{group_limit};
 use frame::NAME_INDEX_NEED;
 use index::ROW_LENGTH;
 
-// What is lent to the calls: 16 numbers for each step of the largest budget, and 1,000 rows.
+// What is lent to the calls: 16 numbers for each step of the largest budget, and 1,000 rows. The programs have them as arrays: with a `Vec` they could find
+// no memory, and would say so, where what they say may not change.
 pub const RULE_AREA: usize = frame::RULE_AREA_NEED;
 
 pub const WORK_AREA: usize = frame::WORK_PER_STEP * frame::BUDGET_LIMIT as usize;

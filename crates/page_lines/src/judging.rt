@@ -38,15 +38,17 @@ fn word_by_fields<'a>(
 ) -> Word
     requires { Holds job.area.now job.entry job.budget }
 {
+    let Job { area, names, .. } = job;
+    let columns = table.columns;
     let mut row = [0u32; ROW_LENGTH];
     ask(
-        job.area,
+        area,
         job.entry,
         job.groups,
         job.budget,
-        table.columns,
+        columns,
         table.count,
-        job.names,
+        names,
         line,
         table.standing,
         work,
@@ -69,8 +71,7 @@ pub(crate) fn judge<'a>(
     if let Some(table) = table {
         return word_by_fields(job, table, line, work, results);
     }
-    let listing = list_held(
-        job.area, job.entry, job.groups, line, job.budget, work, results,
-    );
+    let area = job.area;
+    let listing = list_held(area, job.entry, job.groups, line, job.budget, work, results);
     word_of(listing)
 }

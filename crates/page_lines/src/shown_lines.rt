@@ -25,9 +25,10 @@ fn show_unmatched(
     requires holds { Holds job.area.now job.entry job.budget }
     requires line_len_bound { length line.now ≤ 65535 }
 {
+    let area = job.area;
     let mut marks = [0u8; RULE];
     let told = explain_held(
-        job.area,
+        area,
         job.entry,
         job.rule.len(),
         line,
@@ -66,9 +67,8 @@ fn show_read(
     requires holds { Holds job.area.now job.entry job.budget }
     requires line_len_bound { length line.now ≤ 65535 }
 {
-    let listing = list_held(
-        job.area, job.entry, job.groups, line, job.budget, work, results,
-    );
+    let area = job.area;
+    let listing = list_held(area, job.entry, job.groups, line, job.budget, work, results);
     show_listing(rt, out, at, job.names, line, results, listing)
 }
 

@@ -23,7 +23,7 @@ use breaks::break_at;
 use charset::contains;
 use machine::{Machine, fall_back, go_down, push_explore};
 use marks::{forbid, take_marked};
-use nodes::{Compared, assertion_holds, compare, span_length};
+use nodes::{Compared, assertion_holds, compare};
 use repeats::is_full;
 use run_ends::run_length;
 use syntax::node::{BRANCH, BREAK, FORBID, MARK, REFERENCE, RUN};
@@ -81,7 +81,7 @@ fn refer(code: &[u32], sub: &[u8], regs: &[u32], pc: usize, at: u32) -> Referred
     if from == machine::unset_position() {
         return fails;
     }
-    let n = span_length(from, to);
+    let n = to.saturating_sub(from);
     let folded = code[pc + 4] == 1;
     match compare(sub, n, from, at, ALL_STEPS, folded) {
         Compared::Same => Referred {

@@ -10,6 +10,7 @@ use proposing::{Proposed, propose_held};
 use std::fs::File;
 
 // What is lent to the calls: 16 numbers for each step of the largest budget, and of a proposal two bytes of start and one for each of those steps.
+// They are arrays: with a `Vec` the program could find no memory, and would say so, where what it says may not change.
 pub const RULE_AREA: usize = frame::RULE_AREA_NEED;
 
 pub const WORK_AREA: usize = frame::WORK_PER_STEP * BUDGET_LIMIT as usize;

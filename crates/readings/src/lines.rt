@@ -29,9 +29,10 @@ fn tell_unmatched(
         count(&mut counts.dotted);
     }
     let p = put(rt, out, at, b"not matched\n");
+    let area = job.area;
     let mut marks = [0u8; RULE];
     let told = explain_held(
-        job.area,
+        area,
         job.entry,
         job.rule.len(),
         line,
@@ -81,9 +82,8 @@ fn tell_line(
         count(&mut counts.too_long);
         return put(rt, out, p, b"too long, over 65535 bytes\n");
     }
-    let r = list_held(
-        job.area, job.entry, job.groups, line, job.budget, work, results,
-    );
+    let area = job.area;
+    let r = list_held(area, job.entry, job.groups, line, job.budget, work, results);
     if is_unmatched(r) {
         return tell_unmatched(rt, job, margin, line, work, counts, out, p);
     }

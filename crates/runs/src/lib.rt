@@ -13,7 +13,7 @@ ghost use Rattle.machine.specs.Words.{stack_of, now_of};
 ghost use Rattle.machine.specs.Ready.{Leads, RanBy, StackFits, Ready};
 
 use machine::{Machine, Ran, fall_back, go_down};
-use run_ends::{gate_of, missed_ends, nearer, run_length, run_steps};
+use run_ends::{gate_of, missed_ends, run_length, run_steps};
 
 // A run's own steps are made, and it goes on at `next` from each end from `high` down to `low`. Those where `next` fails at once are passed over
 // here, before a frame is written for the ends that are left; no further than the steps that are left pay for. A single end is not looked at: `next` does that.
@@ -39,17 +39,14 @@ fn leave_run(
         let only = go_down(work, next, high, low, height);
         return Ran::Made(steps, only);
     }
-    let gate = gate_of(code, next as usize);
-    let cost = gate.cost;
-    if cost == 0 {
+    let Some(gate) = gate_of(code, next as usize) else {
         let made = go_down(work, next, high, low, height);
         return Ran::Made(steps, made);
-    }
+    };
     let ends = (high - low) as usize + 1;
-    let most = nearer(ends, (left - steps) as usize + 1);
-    let base = gate.base;
-    let n = missed_ends(&code[base..], sub, high as usize, most);
-    let all = steps as u64 + (n as u64) * (cost as u64);
+    let most = ends.min((left - steps) as usize + 1);
+    let n = missed_ends(&code[gate.base..], sub, high as usize, most);
+    let all = steps as u64 + (n as u64) * (gate.cost as u64);
     if (left as u64) < all {
         return Ran::TooLong;
     }

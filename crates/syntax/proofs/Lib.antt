@@ -1,2 +1,3 @@
 -- The laws that are proved of the definitions.
 pub mod Laws
+pub mod Same

@@ -7,7 +7,7 @@ ghost use Rattle.turns.specs.Paces.{said_by, turn_as};
 
 use crate::Pace;
 use charset::contains;
-use nodes::{Compared, assertion_holds, compare, span_length};
+use nodes::{Compared, assertion_holds, compare};
 
 // More steps than any reference makes: what is beyond the budget is seen by its cost.
 const ALL_STEPS: u32 = 4294967295;
@@ -66,7 +66,7 @@ pub fn take_reference(
     if from == machine::unset_position() {
         return Pace::Lost(1);
     }
-    let n = span_length(from, to);
+    let n = to.saturating_sub(from);
     let folded = code[pc + 4] == 1;
     match compare(sub, n, from, at, ALL_STEPS, folded) {
         Compared::Same => {

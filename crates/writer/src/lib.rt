@@ -5,53 +5,16 @@ ghost use Rattle.std.specs.Prelude.{◌≡◌, [], ◌∷◌, ◌+◌, ◌≤◌
 ghost use Rattle.syntax.specs.Limits.{group_limit, slot};
 ghost use Rattle.syntax.specs.Flags.{ignore_case};
 ghost use Rattle.syntax.specs.Checkable.{crowded_at};
-ghost use Rattle.syntax.specs.Compiled.{marked, assertion_word, most_word, greed_word, folded_word};
+ghost use Rattle.syntax.specs.Compiled.{marked, most_word, greed_word, folded_word};
 ghost use Rattle.writer.specs.Wrote.{Wrote};
 
-use syntax::{Assertion, Greed, Most};
-
-// The kinds of nodes, as the linker's specs/Nodes.antt lists them.
-const BYTE: u32 = 0;
-
-pub const ASSERTION: u32 = 1;
-
-const OPEN: u32 = 3;
-
-const CLOSE: u32 = 4;
-
-const BRANCH: u32 = 5;
-
-pub const LAST: u32 = 6;
-
-const REPEAT: u32 = 7;
-
-const AGAIN: u32 = 8;
-
-pub const FINISH: u32 = 9;
-
-pub const PLAIN: u32 = 10;
-
-const REFERENCE: u32 = 11;
-
-const NAMED: u32 = 2;
-
-pub const BREAK: u32 = 12;
-
-const MARK: u32 = 13;
-
-pub const HELD: u32 = 14;
-
-pub const AHEAD: u32 = 15;
-
-const FORBID: u32 = 16;
-
-const NOT_AHEAD: u32 = 17;
+use syntax::node::{
+    AGAIN, BRANCH, BYTE, CLOSE, FORBID, MARK, NAMED, NOT_AHEAD, OPEN, REFERENCE, REPEAT,
+};
+use syntax::{Flags, Greed, Most};
 
 // As many branches as one byte can tell apart: a check follows no more.
 const BRANCH_LIMIT: usize = 256;
-
-// The maximum of a repeat that has none.
-const UNLIMITED: u32 = 4294967295;
 
 // Writes three numbers.
 pub fn put_three(area: &mut [u32], at: usize, x: u32, y: u32, z: u32)
@@ -72,25 +35,13 @@ pub fn put_four(area: &mut [u32], at: usize, x: u32, y: u32, z: u32, w: u32)
     area[at + 3] = w;
 }
 
-// Writes the words of a class.
-fn put_class(area: &mut [u32], at: usize, class: [u32; 8])
-    requires { at + 8 ≤ length area.old }
-    ensures { Wrote area.old area.new at 8 class }
-{
-    let words = class;
-    for i in 0..8 {
-        let word = words[i];
-        area[at + i] = word;
-    }
-}
-
 // Writes a byte item.
 pub fn put_byte(area: &mut [u32], at: usize, before: u32, place: u32, class: [u32; 8])
     requires { at + 11 ≤ length area.old }
     ensures { Wrote area.old area.new at 11 (0 ∷ before ∷ place ∷ class) }
 {
     put_three(area, at, BYTE, before, place);
-    put_class(area, at + 3, class);
+    area[at + 3..at + 11].copy_from_slice(&class);
 }
 
 // Writes a reference.
@@ -166,46 +117,11 @@ pub fn put_branch(area: &mut [u32], at: usize, inside: u32, before: u32, count: 
     put_four(area, at, BRANCH, inside, before, word);
 }
 
-// The number of an assertion.
-pub fn assertion_word(k: Assertion) -> u32
-    ensures { result ≡ assertion_word k }
-{
-    match k {
-        Assertion::TextStart => 0,
-        Assertion::LineStart => 1,
-        Assertion::TextEnd => 2,
-        Assertion::LastLineEnd => 3,
-        Assertion::LineEnd => 4,
-        Assertion::WordBoundary => 5,
-        Assertion::NoWordBoundary => 6,
-    }
-}
-
-// The number that says whether items are folded. The flag is bit 2.
+// The number that says whether items are folded.
 pub fn folded_word(flags: u32) -> u32
     ensures { result ≡ folded_word (ignore_case flags) }
 {
-    flags / 4 % 2
-}
-
-// The number of a repeat's maximum.
-fn most_word(most: Most) -> u32
-    ensures { result ≡ most_word most }
-{
-    match most {
-        Most::AtMost(m) => m,
-        Most::Unlimited => UNLIMITED,
-    }
-}
-
-// The number of a repeat's greed.
-fn greed_word(greed: Greed) -> u32
-    ensures { result ≡ greed_word greed }
-{
-    match greed {
-        Greed::Greedy => 0,
-        Greed::Lazy => 1,
-    }
+    u32::from(Flags(flags).ignores_case())
 }
 
 // Writes a repeat. Its place gives way to its register when it is linked.
@@ -222,8 +138,6 @@ pub fn put_repeat(
     requires { at + 8 ≤ length area.old }
     ensures { Wrote area.old area.new at 8 (7 ∷ 8 ∷ least ∷ most_word most ∷ greed_word greed ∷ place ∷ body ∷ before ∷ []) }
 {
-    let m = most_word(most);
-    let g = greed_word(greed);
-    put_four(area, at, REPEAT, AGAIN, least, m);
-    put_four(area, at + 4, g, place, body, before);
+    put_four(area, at, REPEAT, AGAIN, least, u32::from(most));
+    put_four(area, at + 4, u32::from(greed), place, body, before);
 }

@@ -7,9 +7,7 @@ use Rattle.lengths.proofs.Alternatives.{branch-at, all_start, all-step, all_end}
 use Rattle.linker.specs.Nodes.{Part}
 use Rattle.lengths.proofs.Parts.{part-begins, bracket-at, bracket-found, plain_at, plain-found, repeat-at, repeat-found, item-found}
 use Rattle.lengths.proofs.Chains.{found-bounded, joined-bounded, turn_at, going_start, going_step, going_end}
-use mathlib.Core.Path.{sym, ◌∙◌, subst}
 use Rattle.lengths.proofs.Insides.{none_found, inside-fits, chain-at, chain-found, alt-at, alt-found}
-use Rattle.linker.specs.Stores.{Bracketed}
 use Rattle.lengths.proofs.+branches_chain_inside_part.Goals as goal
 
 pub branches-loop-p-init : goal.branches-loop-p-init
@@ -30,8 +28,8 @@ branches-word-before-requires t c = let k = branch-at _ _ _ (c.loop-p.invariant.
 pub branches-overflow_add-p-in-loop-p-2 : goal.branches-overflow_add-p-in-loop-p-2
 branches-overflow_add-p-in-loop-p-2 t c = let k = branch-at _ _ _ (c.loop-p.invariant.0 (omega arith)) in omega (arith, k.fits)
 
-pub branches-word-bar-requires : goal.branches-word-bar-requires
-branches-word-bar-requires t c = let k = branch-at _ _ _ (c.loop-p.invariant.0 (omega arith)) in omega (arith, k.fits)
+pub branches-word-requires : goal.branches-word-requires
+branches-word-requires t c = let k = branch-at _ _ _ (c.loop-p.invariant.0 (omega arith)) in omega (arith, k.fits)
 
 pub branches-chain-one-requires : goal.branches-chain-one-requires
 branches-chain-one-requires t c = let k = branch-at _ _ _ (c.loop-p.invariant.0 (omega arith)) in (omega arith, rw c.word-held.ensures.0 k.inner)
@@ -41,7 +39,7 @@ branches-loop-p-smaller t c = let k = branch-at _ _ _ (c.loop-p.invariant.0 (ome
 
 pub branches-loop-p-preserved : goal.branches-loop-p-preserved
 branches-loop-p-preserved t c = let k = branch-at _ _ _ (c.loop-p.invariant.0 (omega arith)) in
-    (rw c.word-before.ensures.0 k.rest, all-step _ _ _ _ _ _ _ _ _ (omega arith) c.word-before.ensures.0 c.word-bar.ensures.0 (rw c.word-held.ensures.0 at c.chain-one.ensures) c.either-m.ensures c.loop-p.invariant.1, omega (arith, k.lower, c.word-before.ensures.0))
+    (rw c.word-before.ensures.0 k.rest, all-step _ _ _ _ _ _ _ _ _ _ (omega arith) c.word-before.ensures.0 c.word.ensures.0 c.checked_sub-bar.ensures (rw c.word-held.ensures.0 at c.chain-one.ensures) c.either-m.ensures c.loop-p.invariant.1, omega (arith, k.lower, c.word-before.ensures.0))
 
 pub branches-returns : goal.branches-returns
 branches-returns t c = all_end _ _ _ _ _ (omega arith) c.loop-p.invariant.1
@@ -73,86 +71,92 @@ chain-returns t c = going_end _ _ _ _ (omega arith) c.loop-p.invariant.2 c.loop-
 pub inside-returns-then-p-eq0 : goal.inside-returns-then-p-eq0
 inside-returns-then-p-eq0 t c = none_found _ _ _ c.if-p-eq0.true c.nothing.ensures
 
-pub inside-word-requires : goal.inside-word-requires
-inside-word-requires t c = inside-fits _ _ _ c.if-p-eq0.false c.requires
+pub inside-offset_bounds-area-p : goal.inside-offset_bounds-area-p
+inside-offset_bounds-area-p t c = let l = inside-fits _ _ _ c.if-p-eq0.false c.requires in omega arith
+
+pub inside-bounds-area-p : goal.inside-bounds-area-p
+inside-bounds-area-p t c = inside-fits _ _ _ c.if-p-eq0.false c.requires
 
 pub inside-overflow_add-p : goal.inside-overflow_add-p
-inside-overflow_add-p t c = let k = alt-at _ _ _ c.if-p-eq0.false (sym c.word.ensures.0 ∙ c.if-word-eq-LAST.true) c.requires in omega (arith, k.fits)
+inside-overflow_add-p t c = let k = alt-at _ _ _ c.if-p-eq0.false c.if-area-p-eq-LAST.true c.requires in omega (arith, k.fits)
 
 pub inside-word-held-requires : goal.inside-word-held-requires
-inside-word-held-requires t c = let k = alt-at _ _ _ c.if-p-eq0.false (sym c.word.ensures.0 ∙ c.if-word-eq-LAST.true) c.requires in omega (arith, k.fits)
+inside-word-held-requires t c = let k = alt-at _ _ _ c.if-p-eq0.false c.if-area-p-eq-LAST.true c.requires in omega (arith, k.fits)
 
-pub inside-overflow_add-p-then-word-eq-LAST : goal.inside-overflow_add-p-then-word-eq-LAST
-inside-overflow_add-p-then-word-eq-LAST t c = let k = alt-at _ _ _ c.if-p-eq0.false (sym c.word.ensures.0 ∙ c.if-word-eq-LAST.true) c.requires in omega (arith, k.fits)
+pub inside-overflow_add-p-then-area-p-eq-LAST : goal.inside-overflow_add-p-then-area-p-eq-LAST
+inside-overflow_add-p-then-area-p-eq-LAST t c = let k = alt-at _ _ _ c.if-p-eq0.false c.if-area-p-eq-LAST.true c.requires in omega (arith, k.fits)
 
 pub inside-word-before-requires : goal.inside-word-before-requires
-inside-word-before-requires t c = let k = alt-at _ _ _ c.if-p-eq0.false (sym c.word.ensures.0 ∙ c.if-word-eq-LAST.true) c.requires in omega (arith, k.fits)
+inside-word-before-requires t c = let k = alt-at _ _ _ c.if-p-eq0.false c.if-area-p-eq-LAST.true c.requires in omega (arith, k.fits)
 
 pub inside-chain-last-requires : goal.inside-chain-last-requires
-inside-chain-last-requires t c = let k = alt-at _ _ _ c.if-p-eq0.false (sym c.word.ensures.0 ∙ c.if-word-eq-LAST.true) c.requires in (omega arith, rw c.word-held.ensures.0 k.inner)
+inside-chain-last-requires t c = let k = alt-at _ _ _ c.if-p-eq0.false c.if-area-p-eq-LAST.true c.requires in (omega arith, rw c.word-held.ensures.0 k.inner)
 
 pub inside-branches-requires : goal.inside-branches-requires
-inside-branches-requires t c = let k = alt-at _ _ _ c.if-p-eq0.false (sym c.word.ensures.0 ∙ c.if-word-eq-LAST.true) c.requires in (omega arith, rw c.word-before.ensures.0 k.others)
+inside-branches-requires t c = let k = alt-at _ _ _ c.if-p-eq0.false c.if-area-p-eq-LAST.true c.requires in (omega arith, rw c.word-before.ensures.0 k.others)
 
-pub inside-returns-then-word-eq-LAST : goal.inside-returns-then-word-eq-LAST
-inside-returns-then-word-eq-LAST t c = alt-found _ _ _ _ c.if-p-eq0.false (sym c.word.ensures.0 ∙ c.if-word-eq-LAST.true) (rw c.word-held.ensures.0 at c.chain-last.ensures) (rw c.word-before.ensures.0 at c.branches.ensures)
+pub inside-returns-then-area-p-eq-LAST : goal.inside-returns-then-area-p-eq-LAST
+inside-returns-then-area-p-eq-LAST t c = alt-found _ _ _ _ c.if-p-eq0.false c.if-area-p-eq-LAST.true (rw c.word-held.ensures.0 at c.chain-last.ensures) (rw c.word-before.ensures.0 at c.branches.ensures)
 
 pub inside-chain-requires : goal.inside-chain-requires
-inside-chain-requires t c = (omega arith, chain-at _ _ _ (λ e. c.if-word-eq-LAST.false (c.word.ensures.0 ∙ e)) c.requires)
+inside-chain-requires t c = (omega arith, chain-at _ _ _ c.if-area-p-eq-LAST.false c.requires)
 
 pub inside-returns : goal.inside-returns
-inside-returns t c = chain-found _ _ _ (λ e. c.if-word-eq-LAST.false (c.word.ensures.0 ∙ e)) c.chain.ensures
+inside-returns t c = chain-found _ _ _ c.if-area-p-eq-LAST.false c.chain.ensures
 
-pub part-word-kind-requires : goal.part-word-kind-requires
-part-word-kind-requires t c = let b = part-begins _ _ _ c.requires in omega (arith, b.1)
+pub part-offset_bounds-area-p : goal.part-offset_bounds-area-p
+part-offset_bounds-area-p t c = let b = part-begins _ _ _ c.requires in omega (arith, b.1)
+
+pub part-bounds-area-p : goal.part-bounds-area-p
+part-bounds-area-p t c = let b = part-begins _ _ _ c.requires in omega (arith, b.1)
 
 pub part-overflow_add-p : goal.part-overflow_add-p
-part-overflow_add-p t c = let k = bracket-at _ _ _ (subst Bracketed c.word-kind.ensures.0 (c.is_bracketed.ensures.0 c.if-is_bracketed.true)) c.requires in omega (arith, k.fits)
+part-overflow_add-p t c = let k = bracket-at _ _ _ (c.is_bracketed.ensures.0 c.if-is_bracketed.true) c.requires in omega (arith, k.fits)
 
 pub part-word-requires : goal.part-word-requires
-part-word-requires t c = let k = bracket-at _ _ _ (subst Bracketed c.word-kind.ensures.0 (c.is_bracketed.ensures.0 c.if-is_bracketed.true)) c.requires in omega (arith, k.fits)
+part-word-requires t c = let k = bracket-at _ _ _ (c.is_bracketed.ensures.0 c.if-is_bracketed.true) c.requires in omega (arith, k.fits)
 
 pub part-inside-within-requires : goal.part-inside-within-requires
-part-inside-within-requires t c = let k = bracket-at _ _ _ (subst Bracketed c.word-kind.ensures.0 (c.is_bracketed.ensures.0 c.if-is_bracketed.true)) c.requires in (omega arith, rw c.word.ensures.0 k.inner)
+part-inside-within-requires t c = let k = bracket-at _ _ _ (c.is_bracketed.ensures.0 c.if-is_bracketed.true) c.requires in (omega arith, rw c.word.ensures.0 k.inner)
 
 pub part-enclosed-requires : goal.part-enclosed-requires
-part-enclosed-requires t c = let k = bracket-at _ _ _ (subst Bracketed c.word-kind.ensures.0 (c.is_bracketed.ensures.0 c.if-is_bracketed.true)) c.requires in k.fits
+part-enclosed-requires t c = let k = bracket-at _ _ _ (c.is_bracketed.ensures.0 c.if-is_bracketed.true) c.requires in k.fits
 
 pub part-returns-then-is_bracketed : goal.part-returns-then-is_bracketed
-part-returns-then-is_bracketed t c = bracket-found _ _ _ _ (subst Bracketed c.word-kind.ensures.0 (c.is_bracketed.ensures.0 c.if-is_bracketed.true)) (rw c.word.ensures.0 at c.inside-within.ensures) (rw c.word-kind.ensures.0 at c.enclosed.ensures)
+part-returns-then-is_bracketed t c = bracket-found _ _ _ _ (c.is_bracketed.ensures.0 c.if-is_bracketed.true) (rw c.word.ensures.0 at c.inside-within.ensures) c.enclosed.ensures
 
-pub part-overflow_add-p-then-kind-eq-PLAIN : goal.part-overflow_add-p-then-kind-eq-PLAIN
-part-overflow_add-p-then-kind-eq-PLAIN t c = let k = plain_at _ _ _ (sym c.word-kind.ensures.0 ∙ c.if-kind-eq-PLAIN.true) c.requires in omega (arith, k.fits)
+pub part-overflow_add-p-in-10 : goal.part-overflow_add-p-in-10
+part-overflow_add-p-in-10 t c = let k = plain_at _ _ _ c.in-10.is c.requires in omega (arith, k.fits)
 
-pub part-word-requires-then-kind-eq-PLAIN : goal.part-word-requires-then-kind-eq-PLAIN
-part-word-requires-then-kind-eq-PLAIN t c = let k = plain_at _ _ _ (sym c.word-kind.ensures.0 ∙ c.if-kind-eq-PLAIN.true) c.requires in omega (arith, k.fits)
+pub part-word-requires-in-10 : goal.part-word-requires-in-10
+part-word-requires-in-10 t c = let k = plain_at _ _ _ c.in-10.is c.requires in omega (arith, k.fits)
 
 pub part-inside-requires : goal.part-inside-requires
-part-inside-requires t c = let k = plain_at _ _ _ (sym c.word-kind.ensures.0 ∙ c.if-kind-eq-PLAIN.true) c.requires in (omega arith, rw c.word-then-kind-eq-PLAIN.ensures.0 k.inner)
+part-inside-requires t c = let k = plain_at _ _ _ c.in-10.is c.requires in (omega arith, rw c.word-in-10.ensures.0 k.inner)
 
-pub part-returns-then-kind-eq-PLAIN : goal.part-returns-then-kind-eq-PLAIN
-part-returns-then-kind-eq-PLAIN t c = plain-found _ _ _ (sym c.word-kind.ensures.0 ∙ c.if-kind-eq-PLAIN.true) (rw c.word-then-kind-eq-PLAIN.ensures.0 at c.inside.ensures)
+pub part-returns-in-10 : goal.part-returns-in-10
+part-returns-in-10 t c = plain-found _ _ _ c.in-10.is (rw c.word-in-10.ensures.0 at c.inside.ensures)
 
-pub part-overflow_add-p-then-kind-eq-REPEAT : goal.part-overflow_add-p-then-kind-eq-REPEAT
-part-overflow_add-p-then-kind-eq-REPEAT t c = let k = repeat-at _ _ _ (sym c.word-kind.ensures.0 ∙ c.if-kind-eq-REPEAT.true) c.requires in omega (arith, k.fits)
+pub part-overflow_add-p-in-7 : goal.part-overflow_add-p-in-7
+part-overflow_add-p-in-7 t c = let k = repeat-at _ _ _ c.in-7.is c.requires in omega (arith, k.fits)
 
-pub part-word-requires-then-kind-eq-REPEAT : goal.part-word-requires-then-kind-eq-REPEAT
-part-word-requires-then-kind-eq-REPEAT t c = let k = repeat-at _ _ _ (sym c.word-kind.ensures.0 ∙ c.if-kind-eq-REPEAT.true) c.requires in omega (arith, k.fits)
+pub part-word-requires-in-7 : goal.part-word-requires-in-7
+part-word-requires-in-7 t c = let k = repeat-at _ _ _ c.in-7.is c.requires in omega (arith, k.fits)
 
 pub part-overflow_sub-depth : goal.part-overflow_sub-depth
-part-overflow_sub-depth t c = let k = repeat-at _ _ _ (sym c.word-kind.ensures.0 ∙ c.if-kind-eq-REPEAT.true) c.requires in omega (arith, k.some)
+part-overflow_sub-depth t c = let k = repeat-at _ _ _ c.in-7.is c.requires in omega (arith, k.some)
 
 pub part-part-body-requires : goal.part-part-body-requires
-part-part-body-requires t c = let k = repeat-at _ _ _ (sym c.word-kind.ensures.0 ∙ c.if-kind-eq-REPEAT.true) c.requires in (omega (arith, k.some), rw c.word-then-kind-eq-REPEAT.ensures.0 k.body)
+part-part-body-requires t c = let k = repeat-at _ _ _ c.in-7.is c.requires in (omega (arith, k.some), rw c.word-in-7.ensures.0 k.body)
 
 pub part-repeated-requires : goal.part-repeated-requires
-part-repeated-requires t c = let k = repeat-at _ _ _ (sym c.word-kind.ensures.0 ∙ c.if-kind-eq-REPEAT.true) c.requires in (k.fits, found-bounded Part _ _ _ _ k.body (rw c.word-then-kind-eq-REPEAT.ensures.0 at c.part-body.ensures))
+part-repeated-requires t c = let k = repeat-at _ _ _ c.in-7.is c.requires in (k.fits, found-bounded Part _ _ _ _ k.body (rw c.word-in-7.ensures.0 at c.part-body.ensures))
 
-pub part-returns-then-kind-eq-REPEAT : goal.part-returns-then-kind-eq-REPEAT
-part-returns-then-kind-eq-REPEAT t c = repeat-found _ _ _ _ (sym c.word-kind.ensures.0 ∙ c.if-kind-eq-REPEAT.true) (rw c.word-then-kind-eq-REPEAT.ensures.0 at c.part-body.ensures) c.repeated.ensures
+pub part-returns-in-7 : goal.part-returns-in-7
+part-returns-in-7 t c = repeat-found _ _ _ _ c.in-7.is (rw c.word-in-7.ensures.0 at c.part-body.ensures) c.repeated.ensures
 
 pub part-single-requires : goal.part-single-requires
 part-single-requires t c = let b = part-begins _ _ _ c.requires in b.1
 
-pub part-returns : goal.part-returns
-part-returns t c = item-found _ _ _ (λ e. c.is_bracketed.ensures.1 c.if-is_bracketed.false (subst Bracketed (sym c.word-kind.ensures.0) e)) (λ e. c.if-kind-eq-REPEAT.false (c.word-kind.ensures.0 ∙ e)) (λ e. c.if-kind-eq-PLAIN.false (c.word-kind.ensures.0 ∙ e)) (rw c.word-kind.ensures.0 at c.single.ensures)
+pub part-returns-in_default : goal.part-returns-in_default
+part-returns-in_default t c = item-found _ _ _ (c.is_bracketed.ensures.1 c.if-is_bracketed.false) (λ e. omega arith) (λ e. omega arith) c.single.ensures

@@ -1,17 +1,15 @@
 -- `checkable` meets its contract: what was found of the whole rule, held parts and looking ahead first.
+use Rattle.std.proofs.lemmas.Result.{err_from_is_err_and}
 use Rattle.syntax.specs.Limits.{level_limit, height_limit, nesting_limit}
-use Rattle.lengths.proofs.Insides.{followed-form, followed-crowd, followed-all}
+use Rattle.lengths.proofs.Insides.{followed-first, followed-rest}
 use Rattle.lengths.proofs.checkable.Goals as goal
 
 pub inside-m-requires : goal.inside-m-requires
 unfolding level_limit height_limit nesting_limit
 inside-m-requires c = c.requires
 
-pub returns-then-form-ne0 : goal.returns-then-form-ne0
-returns-then-form-ne0 c = followed-form _ _ _ c.inside-m.ensures c.if-form-ne0.true
-
-pub returns-then-crowd-ne0 : goal.returns-then-crowd-ne0
-returns-then-crowd-ne0 c = followed-crowd _ _ _ c.inside-m.ensures c.if-form-ne0.false c.if-crowd-ne0.true
+pub returns-in_err-refuse_at : goal.returns-in_err-refuse_at
+returns-in_err-refuse_at c = let p = err_from_is_err_and c.from_residual.result c.from_residual.ensures.1 in rw (p.1, p.2) (followed-first _ _ _ c.inside-m.ensures _ _ c.refuse_at.ensures c.in_err-refuse_at.was)
 
 pub returns : goal.returns
-returns c = followed-all _ _ _ c.inside-m.ensures c.if-form-ne0.false c.if-crowd-ne0.false
+returns c = followed-rest _ _ _ c.inside-m.ensures _ _ c.refuse_at.ensures c.in_ok-refuse_at.was c.refuse_at-2.ensures

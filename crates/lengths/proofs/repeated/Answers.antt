@@ -15,4 +15,4 @@ overflow_mul-least c = let few : c.word-least.result ≤ 4294967295 = omega (ari
 
 pub returns : goal.returns
 unfolding capped length_limit
-returns c = record { least = rw (← c.word-least.ensures.0) c.smaller.ensures; reference = refl; idle = c.first.ensures ∙ rw c.own_idle-own.ensures; form = refl; crowd = refl }
+returns c = record { least = rw (← c.word-least.ensures.0) c.min.ensures; reference = refl; idle = c.or.ensures ∙ rw c.own_idle.ensures; form = refl; crowd = refl }

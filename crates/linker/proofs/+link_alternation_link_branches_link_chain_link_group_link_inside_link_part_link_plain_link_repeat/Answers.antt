@@ -33,7 +33,7 @@ pub link_alternation-word-before-requires : goal.link_alternation-word-before-re
 link_alternation-word-before-requires t c = let g = alt-at _ _ _ _ _ _ c.requires.2 c.requires.3 c.requires.0 in omega (arith, g.0.fits)
 
 pub link_alternation-link_chain-l-requires : goal.link_alternation-link_chain-l-requires
-link_alternation-link_chain-l-requires t c = let g = alt-at _ _ _ _ _ _ c.requires.2 c.requires.3 c.requires.0 in (omega (arith, g.0.lower, c.word-inside.ensures.0), (rw c.word-inside.ensures.0 g.0.inside, c.requires.1, c.requires.4))
+link_alternation-link_chain-l-requires t c = let g = alt-at _ _ _ _ _ _ c.requires.2 c.requires.3 c.requires.0 in (omega (arith, g.0.lower, c.word-inside.ensures.0), (rw c.word-inside.ensures.0 g.0.inside, c.requires.1))
 
 pub link_alternation-overflow_add-p-3 : goal.link_alternation-overflow_add-p-3
 link_alternation-overflow_add-p-3 t c = let g = alt-at _ _ _ _ _ _ c.requires.2 c.requires.3 c.requires.0 in omega (arith, g.0.fits)
@@ -43,7 +43,7 @@ unfolding rule_area_need
 link_alternation-put_two-requires t c = let g = alt-at _ _ _ _ _ _ c.requires.2 c.requires.3 c.requires.0 in (omega (arith, g.0.fits, c.link_chain-l.auto.area), omega (arith, links-near _ _ _ _ _ _ _ _ _ _ c.requires.1 (rw c.word-inside.ensures.0 g.0.inside) c.link_chain-l.ensures), omega arith)
 
 pub link_alternation-link_branches-requires : goal.link_alternation-link_branches-requires
-link_alternation-link_branches-requires t c = let g = alt-at _ _ _ _ _ _ c.requires.2 c.requires.3 c.requires.0 in (omega (arith, g.1, c.word-before.ensures.0), (rw c.word-before.ensures.0 (alt-others _ _ _ _ _ _ c.requires.2 c.requires.3 _ _ _ _ _ _ _ (rw c.word-inside.ensures.0 at c.link_chain-l.ensures) c.put_two.ensures c.requires.0), omega (arith, g.0.small), c.requires.1, c.requires.4))
+link_alternation-link_branches-requires t c = let g = alt-at _ _ _ _ _ _ c.requires.2 c.requires.3 c.requires.0 in (omega (arith, g.1, c.word-before.ensures.0), (rw c.word-before.ensures.0 (alt-others _ _ _ _ _ _ c.requires.2 c.requires.3 _ _ _ _ _ _ _ (rw c.word-inside.ensures.0 at c.link_chain-l.ensures) c.put_two.ensures c.requires.0), omega (arith, g.0.small), c.requires.1))
 
 pub link_alternation-returns : goal.link_alternation-returns
 link_alternation-returns t c = alt-links _ _ _ _ _ _ c.requires.2 c.requires.3 _ _ _ _ _ _ _ (rw c.word-inside.ensures.0 at c.link_chain-l.ensures) c.put_two.ensures _ _ _ (rw c.word-before.ensures.0 at c.link_branches.ensures)
@@ -64,7 +64,7 @@ pub link_branches-word-before-requires : goal.link_branches-word-before-requires
 link_branches-word-before-requires t c = let k = all-turn _ _ _ _ _ _ _ _ _ _ _ _ _ (omega arith) c.requires.1 c.requires.0 c.loop-p.invariant.0 in omega (arith, k.branch.fits)
 
 pub link_branches-link_chain-l-requires : goal.link_branches-link_chain-l-requires
-link_branches-link_chain-l-requires t c = let k = all-turn _ _ _ _ _ _ _ _ _ _ _ _ _ (omega arith) c.requires.1 c.requires.0 c.loop-p.invariant.0 in (omega (arith, k.branch.lower, c.word-inside.ensures.0), (rw c.word-inside.ensures.0 k.branch.inside, c.requires.2, c.requires.3))
+link_branches-link_chain-l-requires t c = let k = all-turn _ _ _ _ _ _ _ _ _ _ _ _ _ (omega arith) c.requires.1 c.requires.0 c.loop-p.invariant.0 in (omega (arith, k.branch.lower, c.word-inside.ensures.0), (rw c.word-inside.ensures.0 k.branch.inside, c.requires.2))
 
 pub link_branches-overflow_add-p-in-loop-p-2 : goal.link_branches-overflow_add-p-in-loop-p-2
 link_branches-overflow_add-p-in-loop-p-2 t c = let k = all-turn _ _ _ _ _ _ _ _ _ _ _ _ _ (omega arith) c.requires.1 c.requires.0 c.loop-p.invariant.0 in omega (arith, k.branch.fits)
@@ -89,7 +89,7 @@ pub link_chain-before_of-before-requires : goal.link_chain-before_of-before-requ
 link_chain-before_of-before-requires t c = let k = going-turn _ _ _ _ _ _ _ _ _ _ _ _ (omega arith) c.requires.1 c.requires.0 c.loop-p.invariant.0 in let b = begins _ _ _ _ _ _ k.part in (b.fits, b.longer)
 
 pub link_chain-link_part-l-requires : goal.link_chain-link_part-l-requires
-link_chain-link_part-l-requires t c = let k = going-turn _ _ _ _ _ _ _ _ _ _ _ _ (omega arith) c.requires.1 c.requires.0 c.loop-p.invariant.0 in (omega arith, (k.part, k.near, c.requires.2))
+link_chain-link_part-l-requires t c = let k = going-turn _ _ _ _ _ _ _ _ _ _ _ _ (omega arith) c.requires.1 c.requires.0 c.loop-p.invariant.0 in (omega arith, (k.part, k.near))
 
 pub link_chain-loop-p-smaller : goal.link_chain-loop-p-smaller
 link_chain-loop-p-smaller t c = let k = going-turn _ _ _ _ _ _ _ _ _ _ _ _ (omega arith) c.requires.1 c.requires.0 c.loop-p.invariant.0 in omega (arith, c.before_of-before.ensures)
@@ -111,13 +111,13 @@ unfolding registers spans_length group_limit height_limit nesting_limit
 link_group-overflow_add-r t c = let g = group_at _ _ _ _ _ _ c.requires.0 c.requires.2 in omega arith
 
 pub link_group-link_inside-l-requires : goal.link_group-link_inside-l-requires
-link_group-link_inside-l-requires t c = let g = group_at _ _ _ _ _ _ c.requires.0 c.requires.2 in (omega (arith, c.word-inside.ensures.0), (rw c.word-inside.ensures.0 g.inside, omega arith, c.requires.3))
+link_group-link_inside-l-requires t c = let g = group_at _ _ _ _ _ _ c.requires.0 c.requires.2 in (omega (arith, c.word-inside.ensures.0), (rw c.word-inside.ensures.0 g.inside, omega arith))
 
 pub link_group-close_group-requires : goal.link_group-close_group-requires
 link_group-close_group-requires t c = let g = group_at _ _ _ _ _ _ c.requires.0 c.requires.2 in (omega (arith, c.link_inside-l.auto.area), c.requires.1, omega arith, links-near _ _ _ _ _ _ _ _ _ _ (omega arith) (rw c.word-inside.ensures.0 g.inside) c.link_inside-l.ensures, λ e. omega (arith, g.longer (sym (g.behind _ _ _ _ _ (rw c.word-inside.ensures.0 at c.link_inside-l.ensures)) ∙ e), c.link_inside-l.auto.area))
 
-pub link_group-overflow_add-opening : goal.link_group-overflow_add-opening
-link_group-overflow_add-opening t c = let g = group_at _ _ _ _ _ _ c.requires.0 c.requires.2 in omega arith
+pub link_group-overflow_add-result : goal.link_group-overflow_add-result
+link_group-overflow_add-result t c = let g = group_at _ _ _ _ _ _ c.requires.0 c.requires.2 in omega arith
 
 pub link_group-returns : goal.link_group-returns
 link_group-returns t c = group-links _ _ _ _ _ _ _ _ _ _ _ _ c.requires.2 (rw c.word-inside.ensures.0 at c.link_inside-l.ensures) c.close_group.ensures
@@ -125,53 +125,47 @@ link_group-returns t c = group-links _ _ _ _ _ _ _ _ _ _ _ _ c.requires.2 (rw c.
 pub link_inside-returns-then-p-eq0 : goal.link_inside-returns-then-p-eq0
 link_inside-returns-then-p-eq0 t c = none-links _ _ _ _ _ _ _ _ c.if-p-eq0.true
 
-pub link_inside-word-kind-requires : goal.link_inside-word-kind-requires
-link_inside-word-kind-requires t c = inside-fits _ _ _ _ _ _ (omega arith) c.requires.0
+pub link_inside-offset_bounds-area-p : goal.link_inside-offset_bounds-area-p
+link_inside-offset_bounds-area-p t c = let b = inside-fits _ _ _ _ _ _ (omega arith) c.requires.0 in omega arith
+
+pub link_inside-bounds-area-p : goal.link_inside-bounds-area-p
+link_inside-bounds-area-p t c = inside-fits _ _ _ _ _ _ (omega arith) c.requires.0
 
 pub link_inside-link_alternation-requires : goal.link_inside-link_alternation-requires
-link_inside-link_alternation-requires t c = (omega arith, (c.requires.0, c.requires.1, omega arith, sym c.word-kind.ensures.0 ∙ c.if-kind-eq-LAST.true, c.requires.2))
-
-pub link_inside-returns-then-kind-eq-LAST : goal.link_inside-returns-then-kind-eq-LAST
-link_inside-returns-then-kind-eq-LAST t c = c.link_alternation.ensures
+link_inside-link_alternation-requires t c = (omega arith, (c.requires.0, c.requires.1, omega arith, c.if-area-p-eq-LAST.true))
 
 pub link_inside-link_chain-requires : goal.link_inside-link_chain-requires
-link_inside-link_chain-requires t c = (omega arith, (chain-stands _ _ _ _ _ _ (λ e. c.if-kind-eq-LAST.false (c.word-kind.ensures.0 ∙ e)) c.requires.0, c.requires.1, c.requires.2))
+link_inside-link_chain-requires t c = (omega arith, (chain-stands _ _ _ _ _ _ c.if-area-p-eq-LAST.false c.requires.0, c.requires.1))
 
 pub link_inside-returns : goal.link_inside-returns
-link_inside-returns t c = chain-links _ _ _ _ _ _ _ _ _ _ _ (λ e. c.if-kind-eq-LAST.false (c.word-kind.ensures.0 ∙ e)) c.link_chain.ensures
+link_inside-returns t c = chain-links _ _ _ _ _ _ _ _ _ _ _ c.if-area-p-eq-LAST.false c.link_chain.ensures
 
-pub link_part-word-kind-requires : goal.link_part-word-kind-requires
-link_part-word-kind-requires t c = let b = begins _ _ _ _ _ _ c.requires.0 in omega arith
+pub link_part-offset_bounds-area-p : goal.link_part-offset_bounds-area-p
+link_part-offset_bounds-area-p t c = let b = begins _ _ _ _ _ _ c.requires.0 in omega arith
+
+pub link_part-bounds-area-p : goal.link_part-bounds-area-p
+link_part-bounds-area-p t c = let b = begins _ _ _ _ _ _ c.requires.0 in omega arith
 
 pub link_part-link_group-requires : goal.link_part-link_group-requires
-link_part-link_group-requires t c = (omega arith, (c.requires.0, c.requires.1, rw c.word-kind.ensures.0 at (c.is_bracketed.ensures.0 c.if-is_bracketed.true), c.requires.2))
-
-pub link_part-returns-then-is_bracketed : goal.link_part-returns-then-is_bracketed
-link_part-returns-then-is_bracketed t c = c.link_group.ensures
+link_part-link_group-requires t c = (omega arith, (c.requires.0, c.requires.1, c.is_bracketed.ensures.0 c.if-is_bracketed.true))
 
 pub link_part-link_repeat-requires : goal.link_part-link_repeat-requires
-link_part-link_repeat-requires t c = (omega arith, (c.requires.0, c.requires.1, sym c.word-kind.ensures.0 ∙ c.if-kind-eq-REPEAT.true, c.requires.2))
-
-pub link_part-returns-then-kind-eq-REPEAT : goal.link_part-returns-then-kind-eq-REPEAT
-link_part-returns-then-kind-eq-REPEAT t c = c.link_repeat.ensures
+link_part-link_repeat-requires t c = (omega arith, (c.requires.0, c.requires.1, c.in-7.is))
 
 pub link_part-link_plain-requires : goal.link_part-link_plain-requires
-link_part-link_plain-requires t c = (omega arith, (c.requires.0, c.requires.1, sym c.word-kind.ensures.0 ∙ c.if-kind-eq-PLAIN.true, c.requires.2))
+link_part-link_plain-requires t c = (omega arith, (c.requires.0, c.requires.1, c.in-10.is))
 
-pub link_part-returns-then-kind-eq-PLAIN : goal.link_part-returns-then-kind-eq-PLAIN
-link_part-returns-then-kind-eq-PLAIN t c = c.link_plain.ensures
+pub link_part-link_reference-dangling-requires : goal.link_part-link_reference-dangling-requires
+link_part-link_reference-dangling-requires t c = let x = reference-fits _ _ _ _ _ _ c.requires.0 c.in-11.is in (x.0, c.requires.1, x.1)
 
-pub link_part-link_reference-found-requires : goal.link_part-link_reference-found-requires
-link_part-link_reference-found-requires t c = let x = reference-fits _ _ _ _ _ _ c.requires.0 (sym c.word-kind.ensures.0 ∙ c.if-kind-eq-REFERENCE.true) in (x.0, c.requires.1, x.1)
-
-pub link_part-returns-then-kind-eq-REFERENCE : goal.link_part-returns-then-kind-eq-REFERENCE
-link_part-returns-then-kind-eq-REFERENCE t c = reference-links _ _ _ _ _ _ _ _ _ _ (sym c.word-kind.ensures.0 ∙ c.if-kind-eq-REFERENCE.true) c.link_reference-found.ensures
+pub link_part-returns-in-11 : goal.link_part-returns-in-11
+link_part-returns-in-11 t c = reference-links _ _ _ _ _ _ _ _ _ _ c.in-11.is c.link_reference-dangling.ensures
 
 pub link_part-link_named-requires : goal.link_part-link_named-requires
-link_part-link_named-requires t c = let x = named-fits _ _ _ _ _ _ c.requires.0 (sym c.word-kind.ensures.0 ∙ c.if-kind-eq-NAMED.true) in (x.0, x.1, c.requires.2, x.2, c.requires.1)
+link_part-link_named-requires t c = let x = named-fits _ _ _ _ _ _ c.requires.0 c.in-2.is in (x.0, x.1, x.2, c.requires.1)
 
-pub link_part-returns-then-kind-eq-NAMED : goal.link_part-returns-then-kind-eq-NAMED
-link_part-returns-then-kind-eq-NAMED t c = named-links _ _ _ _ _ _ _ _ _ _ _ (sym c.word-kind.ensures.0 ∙ c.if-kind-eq-NAMED.true) c.link_named.ensures
+pub link_part-returns-in-2 : goal.link_part-returns-in-2
+link_part-returns-in-2 t c = named-links _ _ _ _ _ _ _ _ _ _ _ c.in-2.is c.link_named.ensures
 
 pub link_part-overflow_add-p : goal.link_part-overflow_add-p
 link_part-overflow_add-p t c = let b = begins _ _ _ _ _ _ c.requires.0 in omega arith
@@ -180,8 +174,8 @@ pub link_part-put-requires : goal.link_part-put-requires
 unfolding rule_area_need
 link_part-put-requires t c = let b = begins _ _ _ _ _ _ c.requires.0 in (omega arith, omega (arith, c.requires.1))
 
-pub link_part-returns : goal.link_part-returns
-link_part-returns t c = item-links _ _ _ _ _ _ _ _ _ (λ e. c.is_bracketed.ensures.1 c.if-is_bracketed.false (rw c.word-kind.ensures.0 e)) (λ e. c.if-kind-eq-REPEAT.false (c.word-kind.ensures.0 ∙ e)) (λ e. c.if-kind-eq-PLAIN.false (c.word-kind.ensures.0 ∙ e)) (λ e. c.if-kind-eq-REFERENCE.false (c.word-kind.ensures.0 ∙ e)) (λ e. c.if-kind-eq-NAMED.false (c.word-kind.ensures.0 ∙ e)) c.put.ensures
+pub link_part-returns-in_default : goal.link_part-returns-in_default
+link_part-returns-in_default t c = item-links _ _ _ _ _ _ _ _ _ (c.is_bracketed.ensures.1 c.if-is_bracketed.false) (λ e. omega arith) (λ e. omega arith) (λ e. omega arith) (λ e. omega arith) c.put.ensures
 
 pub link_plain-overflow_add-p : goal.link_plain-overflow_add-p
 link_plain-overflow_add-p t c = let g = plain_at _ _ _ _ _ _ c.requires.0 c.requires.2 in omega arith
@@ -190,7 +184,7 @@ pub link_plain-word-inside-requires : goal.link_plain-word-inside-requires
 link_plain-word-inside-requires t c = let g = plain_at _ _ _ _ _ _ c.requires.0 c.requires.2 in omega arith
 
 pub link_plain-link_inside-requires : goal.link_plain-link_inside-requires
-link_plain-link_inside-requires t c = let g = plain_at _ _ _ _ _ _ c.requires.0 c.requires.2 in (omega (arith, c.word-inside.ensures.0), (rw c.word-inside.ensures.0 g.inside, c.requires.1, c.requires.3))
+link_plain-link_inside-requires t c = let g = plain_at _ _ _ _ _ _ c.requires.0 c.requires.2 in (omega (arith, c.word-inside.ensures.0), (rw c.word-inside.ensures.0 g.inside, c.requires.1))
 
 pub link_plain-returns : goal.link_plain-returns
 link_plain-returns t c = plain-links _ _ _ _ _ _ _ _ _ _ _ c.requires.2 (rw c.word-inside.ensures.0 at c.link_inside.ensures)
@@ -212,7 +206,7 @@ unfolding registers spans_length group_limit height_limit nesting_limit
 link_repeat-overflow_add-r t c = let g = repeat-at _ _ _ _ _ _ c.requires.0 c.requires.2 in omega arith
 
 pub link_repeat-link_part-l-requires : goal.link_repeat-link_part-l-requires
-link_repeat-link_part-l-requires t c = let g = repeat-at _ _ _ _ _ _ c.requires.0 c.requires.2 in (omega (arith, c.word-body.ensures.0), (rw c.word-body.ensures.0 g.body, omega arith, c.requires.3))
+link_repeat-link_part-l-requires t c = let g = repeat-at _ _ _ _ _ _ c.requires.0 c.requires.2 in (omega (arith, c.word-body.ensures.0), (rw c.word-body.ensures.0 g.body, omega arith))
 
 pub link_repeat-close_repeat-requires : goal.link_repeat-close_repeat-requires
 link_repeat-close_repeat-requires t c = let g = repeat-at _ _ _ _ _ _ c.requires.0 c.requires.2 in (omega (arith, c.link_part-l.auto.area), ⊎_elim (λ e. omega arith) (λ e. omega arith) c.entry_kind-kind.ensures, c.requires.1, omega arith, links-near _ _ _ _ _ _ _ _ _ _ (omega arith) (rw c.word-body.ensures.0 g.body) c.link_part-l.ensures)

@@ -2,19 +2,19 @@
 use mathlib.Core.Path.{◌≡◌}
 use Prim.Native.Nat.{◌≤◌, ◌+◌, ◌*◌}
 use lib.ListN.{length}
-use Rattle.name_table.specs.Table.{names_in}
+use Rattle.linker.specs.Known.{known_in}
 use Rattle.linker.proofs.Branches.{AllGoing}
 use Rattle.linker.proofs.Chains.{Going}
 use Rattle.linker.proofs.+link_alternation_link_branches_link_chain_link_group_link_inside_link_part_link_plain_link_repeat.Given as goal
 
 abbrev pub invariant-link_branches-loop-p : goal.invariant-link_branches-loop-p
-invariant-link_branches-loop-p l = AllGoing l.rule (names_in l.rule l.table l.groups) l.groups l.r l.initial.area l.area l.last l.other l.next l.dangling l.p l.after l.found × (length l.area ≡ length l.initial.area) × (l.p ≤ l.last)
+invariant-link_branches-loop-p l = AllGoing l.names.rule.now (known_in l.names) l.names.groups l.r l.initial.area l.area l.last l.other l.next l.fn.dangling l.p l.after.pc l.after.dangling × (length l.area ≡ length l.initial.area) × (l.p ≤ l.last)
 
 abbrev pub decreases-link_branches-loop-p : goal.decreases-link_branches-loop-p
 decreases-link_branches-loop-p l = l.p
 
 abbrev pub invariant-link_chain-loop-p : goal.invariant-link_chain-loop-p
-invariant-link_chain-loop-p l = Going l.rule (names_in l.rule l.table l.groups) l.groups l.r l.initial.area l.area l.last l.next l.dangling l.p l.pc l.found × (length l.area ≡ length l.initial.area) × (l.p ≤ l.last)
+invariant-link_chain-loop-p l = Going l.names.rule.now (known_in l.names) l.names.groups l.r l.initial.area l.area l.last l.next l.fn.dangling l.p l.l.pc l.l.dangling × (length l.area ≡ length l.initial.area) × (l.p ≤ l.last)
 
 abbrev pub decreases-link_chain-loop-p : goal.decreases-link_chain-loop-p
 decreases-link_chain-loop-p l = l.p

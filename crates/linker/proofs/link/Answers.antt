@@ -1,17 +1,25 @@
 -- `link` meets its contract: the rule is the inside of no group, and goes on at the end.
 use native.Mathlib.Omega.{arith}
-use Rattle.syntax.specs.Limits.{spans_length, group_limit}
+use Rattle.syntax.specs.Limits.{spans_length, group_limit, rule_area_need}
+use Rattle.linker.proofs.Made.{links-near}
 use Rattle.linker.proofs.Insides.{whole-stands, whole-fit, whole-entry, whole-none}
 use Rattle.linker.proofs.link.Goals as goal
 
+pub invariant_of-names : goal.invariant_of-names
+invariant_of-names c = record { fit = whole-fit _ _ _ _ _ c.requires }
+
 pub link_inside-l-requires : goal.link_inside-l-requires
 unfolding spans_length group_limit
-link_inside-l-requires c = (whole-stands _ _ _ _ _ c.requires, omega arith, whole-fit _ _ _ _ _ c.requires)
+link_inside-l-requires c = (whole-stands _ _ _ _ _ c.requires, omega arith)
 
-pub returns-then-dangling-eq0 : goal.returns-then-dangling-eq0
-unfolding spans_length group_limit
-returns-then-dangling-eq0 c = whole-entry _ _ _ _ _ _ _ _ c.link_inside-l.ensures c.if-dangling-eq0.true
+pub overflow_cast-result : goal.overflow_cast-result
+unfolding spans_length group_limit rule_area_need
+overflow_cast-result c = omega (arith, links-near _ _ _ _ _ _ _ _ _ _ (omega arith) (whole-stands _ _ _ _ _ c.requires) c.link_inside-l.ensures)
 
-pub returns : goal.returns
+pub returns-in-Some : goal.returns-in-Some
 unfolding spans_length group_limit
-returns c = whole-none _ _ _ _ _ _ _ _ c.link_inside-l.ensures c.if-dangling-eq0.false
+returns-in-Some c = rw c.at.ensures (whole-none _ _ _ _ _ _ _ _ c.link_inside-l.ensures _ c.in-Some.is)
+
+pub returns-in-None : goal.returns-in-None
+unfolding spans_length group_limit
+returns-in-None c = whole-entry _ _ _ _ _ _ _ _ c.link_inside-l.ensures c.in-None.is

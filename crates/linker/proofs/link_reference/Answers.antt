@@ -3,12 +3,13 @@ use native.Mathlib.Omega.{arith}
 use Rattle.syntax.specs.Limits.{rule_area_need, group_limit}
 use Rattle.linker.proofs.Stores.{none-zero, none-beyond, referred}
 use Rattle.linker.proofs.link_reference.Goals as goal
+use Rattle.linker.proofs.link_reference.Goals.{then-number-eq0-via-then-number-eq0, then-number-eq0-via-else-number-eq0+then-groups-number}
 
 pub returns-then-number-eq0 : goal.returns-then-number-eq0
-returns-then-number-eq0 c = none-zero _ _ _ _ _ _ _ c.word-place.ensures.0 c.word-number.ensures.0 c.if-number-eq0.true
-
-pub returns-then-groups-number : goal.returns-then-groups-number
-returns-then-groups-number c = none-beyond _ _ _ _ _ _ _ c.word-place.ensures.0 c.word-number.ensures.0 c.if-number-eq0.false c.if-groups-number.true
+returns-then-number-eq0 c = elim c.then-number-eq0.branch [
+  | then-number-eq0-via-then-number-eq0 w ↦ none-zero _ _ _ _ _ _ _ c.word.ensures.0 c.word-number.ensures.0 w.if-number-eq0.true
+  | then-number-eq0-via-else-number-eq0+then-groups-number w ↦ none-beyond _ _ _ _ _ _ _ c.word.ensures.0 c.word-number.ensures.0 w.if-number-eq0.false w.if-groups-number.true
+]
 
 pub put-requires : goal.put-requires
 unfolding rule_area_need

@@ -1,12 +1,15 @@
--- `number_reference` meets its contract: the name is looked up, then the kind and the number are written.
+-- `number_reference` meets its contract: the number of the group that was looked up is no larger than there are groups.
+use Rattle.std.specs.Prelude.{Option, None, Some, IfSome, unwrap_or}
+use Prim.Native.Nat.{ℕ, ◌≤◌}
 use native.Mathlib.Omega.{arith}
+use lib.ListN.{length-set}
 use Rattle.syntax.specs.Limits.{group_limit}
-use Rattle.linker.proofs.Stores.{numbered}
 use Rattle.linker.proofs.number_reference.Goals as goal
 
-pub put-requires-2 : goal.put-requires-2
-unfolding group_limit
-put-requires-2 c = (omega (arith, c.put.auto.area), omega (arith, c.group_called-number.ensures.1, c.requires.1))
+few : (o : Option ℕ) (groups : ℕ) → IfSome o (λ g. (1 ≤ g) × (g ≤ groups)) → unwrap_or o 0 ≤ groups
+few None groups h = omega arith
+few (Some g) groups h = h.1
 
-pub returns : goal.returns
-returns c = numbered _ _ _ _ _ _ _ _ _ c.word-from.ensures.0 c.word-len.ensures.0 c.group_called-number.ensures.0 c.put.ensures c.put-2.ensures
+pub put-requires : goal.put-requires
+unfolding group_limit
+put-requires c = let l = few _ _ c.called.ensures.1 in (simp length-set (omega arith), omega (arith, l, c.unwrap_or-number.ensures))

@@ -15,7 +15,7 @@ returns-then-from-unset_position c = (omega arith, c.requires.pc_value.2, rw c.f
 pub overflow_add-on : goal.overflow_add-on
 unfolding unset folded_of
 overflow_add-on c = let w = rw c.in-Same.is at c.compare.ensures in
-    omega (arith, c.requires.sub_len_bound.0, reference-inside c.args.code.now c.args.sub.now c.args.regs.now c.args.work.now c.args.m c.args.left c.requires.pc_value.0 c.requires.pc_value.1 c.requires.pc_value.4 c.requires.pc_value.5 _ c.span_length-n.ensures (omega (arith, c.if-from-unset_position.false, c.unset_position.ensures, c.type_inv.regs (get_or c.args.code.now (c.args.m.pc + 3) 0))) w)
+    omega (arith, c.requires.sub_len_bound.0, reference-inside c.args.code.now c.args.sub.now c.args.regs.now c.args.work.now c.args.m c.args.left c.requires.pc_value.0 c.requires.pc_value.1 c.requires.pc_value.4 c.requires.pc_value.5 _ c.saturating_sub-n.ensures (omega (arith, c.if-from-unset_position.false, c.unset_position.ensures, c.type_inv.regs (get_or c.args.code.now (c.args.m.pc + 3) 0))) w)
 
 pub overflow_add-result : goal.overflow_add-result
 overflow_add-result c = let w = rw c.in-Same.is at c.compare.ensures in
@@ -28,14 +28,14 @@ overflow_add-result-in-Unlike c = let w = rw c.in-Unlike.is at c.compare.ensures
 pub returns-in-Same : goal.returns-in-Same
 unfolding unset folded_of
 returns-in-Same c = let w = rw c.in-Same.is at c.compare.ensures in
-    (omega arith, omega (arith, w.2), reference-same c.args.code.now c.args.sub.now c.args.regs.now c.args.work.now c.args.m c.args.left c.requires.pc_value.0 c.requires.pc_value.1 c.requires.pc_value.4 c.requires.pc_value.5 _ c.span_length-n.ensures (omega (arith, c.if-from-unset_position.false, c.unset_position.ensures, c.type_inv.regs (get_or c.args.code.now (c.args.m.pc + 3) 0))) w)
+    (omega arith, omega (arith, w.2), reference-same c.args.code.now c.args.sub.now c.args.regs.now c.args.work.now c.args.m c.args.left c.requires.pc_value.0 c.requires.pc_value.1 c.requires.pc_value.4 c.requires.pc_value.5 _ c.saturating_sub-n.ensures (omega (arith, c.if-from-unset_position.false, c.unset_position.ensures, c.type_inv.regs (get_or c.args.code.now (c.args.m.pc + 3) 0))) w)
 
 pub returns-in-Unlike : goal.returns-in-Unlike
 unfolding unset folded_of
 returns-in-Unlike c = let w = rw c.in-Unlike.is at c.compare.ensures in
-    (omega arith, omega (arith, w.2), rw c.fall_back-fallen-in-Unlike.ensures (reference-unlike c.args.code.now c.args.sub.now c.args.regs.now c.args.work.now c.args.m c.args.left c.requires.pc_value.0 c.requires.pc_value.1 c.requires.pc_value.4 c.requires.pc_value.5 _ c.span_length-n.ensures (omega (arith, c.if-from-unset_position.false, c.unset_position.ensures, c.type_inv.regs (get_or c.args.code.now (c.args.m.pc + 3) 0))) _ w))
+    (omega arith, omega (arith, w.2), rw c.fall_back-fallen-in-Unlike.ensures (reference-unlike c.args.code.now c.args.sub.now c.args.regs.now c.args.work.now c.args.m c.args.left c.requires.pc_value.0 c.requires.pc_value.1 c.requires.pc_value.4 c.requires.pc_value.5 _ c.saturating_sub-n.ensures (omega (arith, c.if-from-unset_position.false, c.unset_position.ensures, c.type_inv.regs (get_or c.args.code.now (c.args.m.pc + 3) 0))) _ w))
 
 pub returns-in-TooMany : goal.returns-in-TooMany
 unfolding unset folded_of
 returns-in-TooMany c = let w = rw c.in-TooMany.is at c.compare.ensures in
-    reference-long c.args.code.now c.args.sub.now c.args.regs.now c.args.work.now c.args.m c.args.left c.requires.pc_value.0 c.requires.pc_value.1 c.requires.pc_value.4 c.requires.pc_value.5 _ c.span_length-n.ensures (omega (arith, c.if-from-unset_position.false, c.unset_position.ensures, c.type_inv.regs (get_or c.args.code.now (c.args.m.pc + 3) 0))) w
+    reference-long c.args.code.now c.args.sub.now c.args.regs.now c.args.work.now c.args.m c.args.left c.requires.pc_value.0 c.requires.pc_value.1 c.requires.pc_value.4 c.requires.pc_value.5 _ c.saturating_sub-n.ensures (omega (arith, c.if-from-unset_position.false, c.unset_position.ensures, c.type_inv.regs (get_or c.args.code.now (c.args.m.pc + 3) 0))) w

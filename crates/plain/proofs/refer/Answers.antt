@@ -15,19 +15,19 @@ returns-then-from-unset_position c = refers-unset c.args.code.now c.args.sub.now
 pub overflow_add-result : goal.overflow_add-result
 unfolding unset folded_of
 overflow_add-result c = let w = rw c.in-Same.is at c.compare.ensures in
-    omega (arith, c.requires.3, refers-inside c.args.code.now c.args.sub.now c.args.regs.now c.args.pc c.args.at c.requires.1 c.requires.2 _ c.span_length-n.ensures (omega (arith, c.if-from-unset_position.false, c.unset_position.ensures, c.type_inv.regs (get_or c.args.code.now (c.args.pc + 3) 0))) _ w)
+    omega (arith, c.requires.3, refers-inside c.args.code.now c.args.sub.now c.args.regs.now c.args.pc c.args.at c.requires.1 c.requires.2 _ c.saturating_sub-n.ensures (omega (arith, c.if-from-unset_position.false, c.unset_position.ensures, c.type_inv.regs (get_or c.args.code.now (c.args.pc + 3) 0))) _ w)
 
 pub returns-in-Same : goal.returns-in-Same
 unfolding unset folded_of
 returns-in-Same c = let w = rw c.in-Same.is at c.compare.ensures in
-    refers-same c.args.code.now c.args.sub.now c.args.regs.now c.args.pc c.args.at c.requires.1 c.requires.2 _ c.span_length-n.ensures (omega (arith, c.if-from-unset_position.false, c.unset_position.ensures, c.type_inv.regs (get_or c.args.code.now (c.args.pc + 3) 0))) _ w
+    refers-same c.args.code.now c.args.sub.now c.args.regs.now c.args.pc c.args.at c.requires.1 c.requires.2 _ c.saturating_sub-n.ensures (omega (arith, c.if-from-unset_position.false, c.unset_position.ensures, c.type_inv.regs (get_or c.args.code.now (c.args.pc + 3) 0))) _ w
 
 pub returns-in-Unlike : goal.returns-in-Unlike
 unfolding unset folded_of
 returns-in-Unlike c = let w = rw c.in-Unlike.is at c.compare.ensures in
-    refers-unlike c.args.code.now c.args.sub.now c.args.regs.now c.args.pc c.args.at c.requires.1 c.requires.2 _ c.span_length-n.ensures (omega (arith, c.if-from-unset_position.false, c.unset_position.ensures, c.type_inv.regs (get_or c.args.code.now (c.args.pc + 3) 0))) _ _ w
+    refers-unlike c.args.code.now c.args.sub.now c.args.regs.now c.args.pc c.args.at c.requires.1 c.requires.2 _ c.saturating_sub-n.ensures (omega (arith, c.if-from-unset_position.false, c.unset_position.ensures, c.type_inv.regs (get_or c.args.code.now (c.args.pc + 3) 0))) _ _ w
 
 pub returns-in-TooMany : goal.returns-in-TooMany
 unfolding unset folded_of
 returns-in-TooMany c = let w = rw c.in-TooMany.is at c.compare.ensures in
-    absurd (never-long c.args.code.now c.args.sub.now c.args.regs.now c.args.pc c.args.at c.requires.1 c.requires.2 _ c.span_length-n.ensures (omega (arith, c.if-from-unset_position.false, c.unset_position.ensures, c.type_inv.regs (get_or c.args.code.now (c.args.pc + 3) 0))) _ c.requires.3 (omega arith) w)
+    absurd (never-long c.args.code.now c.args.sub.now c.args.regs.now c.args.pc c.args.at c.requires.1 c.requires.2 _ c.saturating_sub-n.ensures (omega (arith, c.if-from-unset_position.false, c.unset_position.ensures, c.type_inv.regs (get_or c.args.code.now (c.args.pc + 3) 0))) _ c.requires.3 (omega arith) w)

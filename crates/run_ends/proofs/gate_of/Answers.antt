@@ -13,14 +13,11 @@ bounds-code-pc-2 c = omega (arith, (fits-at c.args.code.now c.args.pc 4 c.if-cod
 pub overflow_cast-behind : goal.overflow_cast-behind
 overflow_cast-behind c = omega (arith, c.type_inv.code (c.args.pc + 1))
 
-pub item_gate-gate-requires : goal.item_gate-gate-requires
-item_gate-gate-requires c = (omega (arith, c.type_inv.code (c.args.pc + 1)), c.requires.1)
-
-pub returns-then-cost-eq0 : goal.returns-then-cost-eq0
-returns-then-cost-eq0 c = (omega (arith, c.item_gate-gate.ensures.0), λ h. absurd (omega (arith, c.if-cost-eq0.true)))
+pub item_gate-requires-2 : goal.item_gate-requires-2
+item_gate-requires-2 c = (omega (arith, c.type_inv.code (c.args.pc + 1)), c.requires.1)
 
 pub returns : goal.returns
 returns c = let p = c.args.code.now in
-    let g = c.item_gate-gate in
-    let x = g.ensures.1 (omega (arith, c.if-cost-eq0.false)) in
-    (omega (arith, g.ensures.0), λ _. (x.0, λ sub. asks-close p sub c.args.pc g.result.cost (has (drop g.result.base p)) c.if-code-pc-ne-CLOSE.false (x.1 sub)))
+    let gate = c.in_ok-gate.gate in
+    let g = c.in_ok-gate.ensures in
+    (omega arith, omega (arith, g.1), g.2, λ sub. asks-close p sub c.args.pc gate.cost (has (drop gate.base p)) c.if-code-pc-ne-CLOSE.false (g.3 sub))

@@ -1,6 +1,6 @@
 -- `missed_ends` meets its contract. The loop's invariant: no byte of the set stands at any position passed. The measure is the positions that are
 -- left.
-use mathlib.Core.Path.{sym, ◌∙◌}
+use mathlib.Core.Path.{◌≡◌, sym, ◌∙◌}
 use mathlib.Core.Logic.{⊎_elim}
 use Prim.Native.Nat.{◌-◌}
 use native.Mathlib.Omega.{arith}
@@ -23,4 +23,6 @@ loop-n-preserved c = let sub = c.args.sub.now in
     (omega arith, missed_more sub f c.args.high c.loop-n.n c.loop-n.invariant.1 none)
 
 pub returns : goal.returns
-returns c = c.loop-n.invariant
+returns c =
+    let e : c.loop-n.n ≡ c.args.most = omega (arith, c.loop-n-test.false, c.loop-n.invariant.0) in
+    rw e at c.loop-n.invariant

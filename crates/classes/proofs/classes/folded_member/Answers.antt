@@ -22,6 +22,3 @@ returns-in-Set c = rw c.in-Set.is (folded-holds _ _ (in_named _) c.class_of.ensu
 pub returns-in-NotSet : goal.returns-in-NotSet
 unfolding is_member
 returns-in-NotSet c = rw c.in-NotSet.is (λ x h. c.complement.ensures x h ∙ ap not (folded-holds _ _ (in_named _) c.class_of-class.ensures c.fold-both.ensures x h))
-
-pub returns-in-Bad : goal.returns-in-Bad
-returns-in-Bad c = rw c.in-Bad.is c.empty-in-Bad.ensures

@@ -1,14 +1,14 @@
 -- `with_member` meets its contract: a member that is folded is made by itself and joined, and else, by the variant, the function of byte sets that is
 -- called adds what the member has.
-use mathlib.Core.Path.{refl}
 use lib.Dec.{eqb}
 use Rattle.charset.specs.Named.{in_range, ◌to◌, in_named}
 use Rattle.syntax.specs.Sets.{is_member}
+use Rattle.escapes.specs.Says.{member_of}
 use Rattle.classes.proofs.ClassCases.{joins-folded, adds-plain, adds-complement}
 use Rattle.classes.proofs.classes.with_member.Goals as goal
 
 pub returns-then-folded : goal.returns-then-folded
-returns-then-folded c = joins-folded _ c.if-folded.true c.args.m _ _ _ c.folded_member.ensures c.add_class.ensures
+returns-then-folded c = joins-folded _ c.if-folded.true (member_of c.args.m) _ _ _ c.folded_member.ensures c.add_class.ensures
 
 pub returns-in-Single : goal.returns-in-Single
 unfolding is_member
@@ -25,6 +25,3 @@ returns-in-Set c = rw c.in-Set.is (adds-plain _ c.if-folded.false _ _ (in_named 
 pub returns-in-NotSet : goal.returns-in-NotSet
 unfolding is_member
 returns-in-NotSet c = rw c.in-NotSet.is (adds-complement _ c.if-folded.false _ _ (in_named _) c.add_not_named.ensures)
-
-pub returns-in-Bad : goal.returns-in-Bad
-returns-in-Bad c = rw c.in-Bad.is (λ x h. refl)

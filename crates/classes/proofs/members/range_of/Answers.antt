@@ -1,23 +1,22 @@
--- `range_of` meets its contract: a refused end, an end that is no byte, or two bytes and their order.
-use mathlib.Core.Path.{◌∙◌}
-use Rattle.classes.proofs.MemberCases.{range-low-bad, range-high-bad, range-low-set, range-high-set, range-over, range-fits}
-use borrow.Enum.Refused.{opened}
+-- `range_of` meets its contract: an end that is no byte, or two bytes, their order and whether they are alike.
+use mathlib.Core.Path.{◌∙◌, sym}
+use Rattle.classes.proofs.MemberCases.{range-low-set, range-high-set, range-over, range-mixed, range-alike, range-loose}
 use Rattle.classes.proofs.members.range_of.Goals as goal
 
-pub returns-in-Bad : goal.returns-in-Bad
-returns-in-Bad c = range-low-bad _ _ c.args.low c.args.high _ c.in-Bad.is
+pub returns-in_default : goal.returns-in_default
+returns-in_default c = rw c.at.ensures (range-low-set _ _ c.args.low c.args.high.value _ c.in_default.not-Single)
 
-pub returns-in-Bad-high : goal.returns-in-Bad-high
-returns-in-Bad-high c = range-high-bad _ _ c.args.low c.args.high (opened c.in_default.in_default-own.keys2) _ c.in-Bad-high.is
-
-pub returns-in_default-low : goal.returns-in_default-low
-returns-in_default-low c = c.bad_range.ensures ∙ range-low-set _ _ c.args.low c.args.high (opened c.in_default.in_default-own.keys2) (opened c.in_default-high.in_default-high-own.keys2) (opened c.in_default-low.in_default-low-own.keys2)
-
-pub returns-in_default-high-2 : goal.returns-in_default-high-2
-returns-in_default-high-2 c = c.bad_range-in_default-high-2.ensures ∙ range-high-set _ _ c.args.low c.args.high (opened c.in_default.in_default-own.keys2) (opened c.in_default-high.in_default-high-own.keys2) _ _ c.in-Single.is (opened c.in_default-high-2.in_default-high-2-own.keys2)
+pub returns-in_default-value : goal.returns-in_default-value
+returns-in_default-value c = rw c.at-in_default-value.ensures (range-high-set _ _ c.args.low c.args.high.value _ _ c.in-Single.is c.in_default-value.not-Single)
 
 pub returns-then-b-a : goal.returns-then-b-a
-returns-then-b-a c = c.bad_range-then-b-a.ensures ∙ range-over _ _ c.args.low c.args.high (opened c.in_default.in_default-own.keys2) (opened c.in_default-high.in_default-high-own.keys2) _ _ c.in-Single.is _ _ c.in-Single-high.is c.if-b-a.true
+returns-then-b-a c = rw c.at-then-b-a.ensures (range-over _ _ c.args.low c.args.high.value _ _ c.in-Single.is _ c.in-Single-value.is c.if-b-a.true)
 
-pub returns : goal.returns
-returns c = c.fit_range.ensures ∙ range-fits _ _ c.args.low c.args.high (opened c.in_default.in_default-own.keys2) (opened c.in_default-high.in_default-high-own.keys2) _ _ c.in-Single.is _ _ c.in-Single-high.is c.if-b-a.false
+pub returns-then-not-ends_alike : goal.returns-then-not-ends_alike
+returns-then-not-ends_alike c = rw c.at-then-not-ends_alike.ensures (range-mixed _ _ c.args.low c.args.high.value _ _ c.in-Single.is _ c.in-Single-value.is c.if-b-a.false c.if-strict.true (sym c.if-not-ends_alike.true ∙ c.ends_alike.ensures))
+
+pub returns-else-not-ends_alike : goal.returns-else-not-ends_alike
+returns-else-not-ends_alike c = range-alike _ _ c.args.low c.args.high.value _ _ c.in-Single.is _ c.in-Single-value.is c.if-b-a.false c.if-strict.true (sym c.if-not-ends_alike.false ∙ c.ends_alike.ensures)
+
+pub returns-else-strict : goal.returns-else-strict
+returns-else-strict c = range-loose _ _ c.args.low c.args.high.value _ _ c.in-Single.is _ c.in-Single-value.is c.if-b-a.false c.if-strict.false

@@ -7,4 +7,4 @@ pub returns-then-peek-eq-OPENING_BRACE : goal.returns-then-peek-eq-OPENING_BRACE
 returns-then-peek-eq-OPENING_BRACE c = c.braced_at.ensures ∙ octal-braced _ _ _ c.peek.ensures.is c.if-peek-eq-OPENING_BRACE.true
 
 pub returns : goal.returns
-returns c = c.malformed.ensures ∙ octal-bare _ _ _ c.peek.ensures.is c.if-peek-eq-OPENING_BRACE.false
+returns c = rw c.malformed.ensures (octal-bare _ _ _ c.peek.ensures.is c.if-peek-eq-OPENING_BRACE.false)

@@ -6,7 +6,7 @@ use Rattle.escapes.proofs.EscapeCases.{class-backspace, class-octal, class-commo
 use Rattle.escapes.proofs.escapes.class_escape_at.Goals as goal
 
 pub returns-in-98 : goal.returns-in-98
-returns-in-98 c = class-backspace _ _ _ c.peek-b.ensures.is c.in-98.is
+returns-in-98 c = c.single.ensures ∙ class-backspace _ _ _ c.peek-b.ensures.is c.in-98.is
 
 pub returns-in-48-to-55 : goal.returns-in-48-to-55
 returns-in-48-to-55 c = c.octal_at.ensures ∙ class-octal _ _ _ c.peek-b.ensures.is (omega arith) (omega arith)

@@ -1,37 +1,39 @@
 -- `later_named` meets its contract: a name that is known computes, and behind these seven the list ends.
+use Rattle.std.specs.Cmp.Lexicographic.{bytes_decides}
+use mathlib.Core.Path.{sym, ◌∙◌}
 use lib.ListN.{drop}
 use Rattle.syntax.specs.Sets.{namings, same_bytes, lookup}
 use Rattle.escapes.proofs.NameCases.{differ, passed}
 use Rattle.escapes.proofs.names.later_named.Goals as goal
 
-pub returns-then-same : goal.returns-then-same
+pub returns-then-eq : goal.returns-then-eq
 unfolding namings same_bytes lookup
-returns-then-same c = rw (c.same.ensures.0 c.if-same.true)
+returns-then-eq c = rw ((bytes_decides c.args.name.now c.as_slice.result.now).0 (sym c.eq.ensures ∙ c.if-eq.true) ∙ c.as_slice.ensures)
 
-pub returns-then-same-2 : goal.returns-then-same-2
+pub returns-then-eq-2 : goal.returns-then-eq-2
 unfolding namings same_bytes lookup
-returns-then-same-2 c = rw (c.same-2.ensures.0 c.if-same-2.true)
+returns-then-eq-2 c = rw ((bytes_decides c.args.name.now c.as_slice-2.result.now).0 (sym c.eq-2.ensures ∙ c.if-eq-2.true) ∙ c.as_slice-2.ensures)
 
-pub returns-then-same-3 : goal.returns-then-same-3
+pub returns-then-eq-3 : goal.returns-then-eq-3
 unfolding namings same_bytes lookup
-returns-then-same-3 c = rw (c.same-3.ensures.0 c.if-same-3.true)
+returns-then-eq-3 c = rw ((bytes_decides c.args.name.now c.as_slice-3.result.now).0 (sym c.eq-3.ensures ∙ c.if-eq-3.true) ∙ c.as_slice-3.ensures)
 
-pub returns-then-same-4 : goal.returns-then-same-4
+pub returns-then-eq-4 : goal.returns-then-eq-4
 unfolding namings same_bytes lookup
-returns-then-same-4 c = rw (c.same-4.ensures.0 c.if-same-4.true)
+returns-then-eq-4 c = rw ((bytes_decides c.args.name.now c.as_slice-4.result.now).0 (sym c.eq-4.ensures ∙ c.if-eq-4.true) ∙ c.as_slice-4.ensures)
 
-pub returns-then-same-5 : goal.returns-then-same-5
+pub returns-then-eq-5 : goal.returns-then-eq-5
 unfolding namings same_bytes lookup
-returns-then-same-5 c = rw (c.same-5.ensures.0 c.if-same-5.true)
+returns-then-eq-5 c = rw ((bytes_decides c.args.name.now c.as_slice-5.result.now).0 (sym c.eq-5.ensures ∙ c.if-eq-5.true) ∙ c.as_slice-5.ensures)
 
-pub returns-then-same-6 : goal.returns-then-same-6
+pub returns-then-eq-6 : goal.returns-then-eq-6
 unfolding namings same_bytes lookup
-returns-then-same-6 c = rw (c.same-6.ensures.0 c.if-same-6.true)
+returns-then-eq-6 c = rw ((bytes_decides c.args.name.now c.as_slice-6.result.now).0 (sym c.eq-6.ensures ∙ c.if-eq-6.true) ∙ c.as_slice-6.ensures)
 
-pub returns-then-same-7 : goal.returns-then-same-7
+pub returns-then-eq-7 : goal.returns-then-eq-7
 unfolding namings same_bytes lookup
-returns-then-same-7 c = rw (c.same-7.ensures.0 c.if-same-7.true)
+returns-then-eq-7 c = rw ((bytes_decides c.args.name.now c.as_slice-7.result.now).0 (sym c.eq-7.ensures ∙ c.if-eq-7.true) ∙ c.as_slice-7.ensures)
 
 pub returns : goal.returns
 unfolding namings lookup
-returns c = passed 7 (drop 7 namings) _ (differ _ c.same.ensures.1 c.if-same.false, (differ _ c.same-2.ensures.1 c.if-same-2.false, (differ _ c.same-3.ensures.1 c.if-same-3.false, (differ _ c.same-4.ensures.1 c.if-same-4.false, (differ _ c.same-5.ensures.1 c.if-same-5.false, (differ _ c.same-6.ensures.1 c.if-same-6.false, (differ _ c.same-7.ensures.1 c.if-same-7.false, tt)))))))
+returns c = passed 7 (drop 7 namings) _ ((λ e. differ _ (λ k. c.eq.ensures ∙ (bytes_decides _ _).1 (k ∙ sym c.as_slice.ensures)) c.if-eq.false e), ((λ e. differ _ (λ k. c.eq-2.ensures ∙ (bytes_decides _ _).1 (k ∙ sym c.as_slice-2.ensures)) c.if-eq-2.false e), ((λ e. differ _ (λ k. c.eq-3.ensures ∙ (bytes_decides _ _).1 (k ∙ sym c.as_slice-3.ensures)) c.if-eq-3.false e), ((λ e. differ _ (λ k. c.eq-4.ensures ∙ (bytes_decides _ _).1 (k ∙ sym c.as_slice-4.ensures)) c.if-eq-4.false e), ((λ e. differ _ (λ k. c.eq-5.ensures ∙ (bytes_decides _ _).1 (k ∙ sym c.as_slice-5.ensures)) c.if-eq-5.false e), ((λ e. differ _ (λ k. c.eq-6.ensures ∙ (bytes_decides _ _).1 (k ∙ sym c.as_slice-6.ensures)) c.if-eq-6.false e), ((λ e. differ _ (λ k. c.eq-7.ensures ∙ (bytes_decides _ _).1 (k ∙ sym c.as_slice-7.ensures)) c.if-eq-7.false e), tt)))))))

@@ -1,25 +1,18 @@
--- `letters_end` meets its contract. The loop's invariant: the letters from `from` on are those passed and those from `i` on.
-use mathlib.Core.Logic.{inl, inr}
+-- `letters_end` meets its contract: the bytes counted are the run of letters.
+use Rattle.std.proofs.Common.{rules, tests}
+use Rattle.std.proofs.lemmas.Iterator.{YieldsList-from_slice}
+use Rattle.std.proofs.lemmas.Iterator.Search.{YieldsList-from_take_while}
+use Rattle.std.proofs.lemmas.Iterator.Consumers.{count_from_yields_List}
+use mathlib.Core.Path.{◌∙◌}
+use lib.ListN.{drop}
 use Rattle.syntax.specs.Read.{between}
 use Rattle.syntax.specs.Classes.{letters}
-use Rattle.lexemes.proofs.Digits.{inside, outside}
-use Rattle.lexemes.proofs.Runs.{ran-none, ran-more, ends-else, ends-past}
+use Rattle.lexemes.proofs.Runs.{rest-whole, run-counted}
 use Rattle.escapes.proofs.names.letters_end.Goals as goal
-
-pub loop-i-init : goal.loop-i-init
-loop-i-init c = ran-none (between "a" "z") _ _ c.requires
-
-pub returns-then-b-lt97 : goal.returns-then-b-lt97
-unfolding letters
-returns-then-b-lt97 c = ends-else (between "a" "z") _ _ _ c.loop-i.invariant c.loop-i-test.true (outside 97 122 _ (inl c.if-b-lt97.true))
-
-pub returns-then-b-gt122 : goal.returns-then-b-gt122
-unfolding letters
-returns-then-b-gt122 c = ends-else (between "a" "z") _ _ _ c.loop-i.invariant c.loop-i-test.true (outside 97 122 _ (inr c.if-b-gt122.true))
-
-pub loop-i-preserved : goal.loop-i-preserved
-loop-i-preserved c = ran-more (between "a" "z") _ _ _ c.loop-i.invariant c.loop-i-test.true (inside 97 122 _ c.if-b-lt97.false c.if-b-gt122.false)
 
 pub returns : goal.returns
 unfolding letters
-returns c = ends-past (between "a" "z") _ _ _ c.loop-i.invariant c.loop-i-test.false
+returns c =
+    run-counted (between "a" "z") c.args.rule.now c.args.from c.count.result c.requires
+    (count_from_yields_List c.take_while-letters.result _ c.count.ensures.ran
+    (YieldsList-from_take_while _ (between "a" "z") (YieldsList-from_slice (drop c.args.from c.args.rule.now) (rw c.take_while-letters.ensures.source (c.iter.ensures.rest ∙ rest-whole c.args.rule.now c.args.from))) c.take_while-letters.ensures.closure c.take_while-letters.ensures.done (λ x b q k. search (rules, tests))))

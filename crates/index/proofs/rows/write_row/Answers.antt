@@ -1,12 +1,11 @@
--- The loop's invariant: behind the start and the end stand the first i captures, and everything else is as it was before the loop. The
--- invariant is a copy of so many numbers into the area that the two stores left.
-use mathlib.Core.Path.{◌≡◌, refl, ap, ◌∙◌}
-use mathlib.Core.List.{List}
-use Prim.Native.Nat.{ℕ, ◌+◌}
+-- The captures are copied behind the start and the end.
+use mathlib.Core.Path.{◌≡◌, ap, sym, ◌∙◌}
+use mathlib.Core.List.{List, ◌++◌}
+use Prim.Native.Nat.{ℕ, ◌+◌, ◌-◌}
 use native.Mathlib.Omega.{arith}
-use native.Mathlib.Numerals.{add-one}
-use lib.ListN.{length, get_or, set, length-set}
-use lib.Seq.{paste-zero, paste-suc}
+use lib.ListN.{length, set, take, drop, length-set, length-drop}
+use lib.Seq.{length-take-le, take-length}
+use Rattle.std.proofs.lemmas.Slice.{put_mid-paste}
 use Rattle.syntax.specs.Limits.{spans_length, row_length}
 use Rattle.index.specs.Laws.Rows.{row-stored}
 use Rattle.index.proofs.rows.write_row.Goals as goal
@@ -31,61 +30,26 @@ pub bounds-results-base-2 : goal.bounds-results-base-2
 unfolding row_length
 bounds-results-base-2 c = simp length-set (omega arith)
 
-pub overflow_add-spans : goal.overflow_add-spans
+pub slice_bounds-copy_from_slice-end : goal.slice_bounds-copy_from_slice-end
 unfolding row_length
-overflow_add-spans c = omega arith
+slice_bounds-copy_from_slice-end c = simp length-set (omega arith)
 
-pub loop-i-init : goal.loop-i-init
-loop-i-init c = let a = c.args in
-    (omega arith, refl, paste-zero (set (set a.results.now a.base a.start) (a.base + 1) a.stop) (a.base + 2) a.registers.now)
-
-pub offset_bounds-registers-i : goal.offset_bounds-registers-i
+pub slice_bounds-copy_from_slice-end-2 : goal.slice_bounds-copy_from_slice-end-2
 unfolding spans_length
-offset_bounds-registers-i c = omega arith
+slice_bounds-copy_from_slice-end-2 c = sym (length-take-le 128 c.args.registers.now c.requires.1)
 
-pub bounds-registers-i : goal.bounds-registers-i
-unfolding spans_length
-bounds-registers-i c = omega arith
-
-pub overflow_add-results-in-loop-i : goal.overflow_add-results-in-loop-i
-unfolding row_length
-overflow_add-results-in-loop-i c = omega arith
-
-pub offset_bounds-results-spans : goal.offset_bounds-results-spans
-unfolding row_length
-offset_bounds-results-spans c = omega arith
-
-pub bounds-results-spans : goal.bounds-results-spans
-unfolding row_length
-bounds-results-spans c = let a = c.args in
-    let e : length (set (set a.results.now a.base a.start) (a.base + 1) a.stop) ≡ length a.results.now = simp length-set in
-    omega arith
-
-pub overflow_add-i : goal.overflow_add-i
-unfolding spans_length
-overflow_add-i c = omega arith
-
-pub loop-i-smaller : goal.loop-i-smaller
-unfolding spans_length
-loop-i-smaller c = omega arith
-
-pub loop-i-preserved : goal.loop-i-preserved
-unfolding row_length
-loop-i-preserved c = let a = c.args in
-    let i = c.loop-i.i in
+pub copy_from_slice-requires : goal.copy_from_slice-requires
+unfolding row_length spans_length
+copy_from_slice-requires c = let a = c.args in
     let d : List ℕ = set (set a.results.now a.base a.start) (a.base + 1) a.stop in
-    let e : length d ≡ length a.results.now = simp length-set in (
-      omega arith,
-      simp length-set (simp length-set at c.loop-i.invariant.1),
-      ap (λ (x : List ℕ). set x (a.base + 2 + i) (get_or a.registers.now i 0)) c.loop-i.invariant.2
-          ∙ rw (add-one i) (paste-suc d (a.base + 2) a.registers.now i 0 (omega arith) (omega arith)),
-    )
-
-pub shape_of-results : goal.shape_of-results
-shape_of-results c = simp length-set at c.loop-i.invariant.1
+    let e : length d ≡ length a.results.now = simp length-set in
+    length-take-le (a.base + 130 - (a.base + 2)) (drop (a.base + 2) d) (simp length-drop (omega arith)) ∙ (omega arith ∙ sym (length-take-le 128 a.registers.now (omega arith)))
 
 pub returns : goal.returns
 unfolding spans_length
 returns c = let a = c.args in
-    let l : c.loop-i.i ≡ spans_length = omega arith in
-    (rw l at c.loop-i.invariant.2) ∙ row-stored a.results.now a.base a.start a.stop a.registers.now c.requires.0
+    let d : List ℕ = set (set a.results.now a.base a.start) (a.base + 1) a.stop in
+    let t : length (take 128 a.registers.now) ≡ 128 = length-take-le 128 a.registers.now c.requires.1 in
+    put_mid-paste (a.base + 2) _ d _ (take 128 a.registers.now) 128 c.copy_from_slice.ensures.after (omega arith) (sym t)
+    ∙ ap (λ (l : List ℕ). take (a.base + 2) d ++ l ++ drop (a.base + 2 + 128) d) (ap (λ (k : ℕ). take k (take 128 a.registers.now)) (sym t) ∙ take-length (take 128 a.registers.now))
+    ∙ row-stored a.results.now a.base a.start a.stop a.registers.now c.requires.0

@@ -2,8 +2,8 @@
 use mathlib.Core.Path.{sym, ◌∙◌}
 use Rattle.lexemes.proofs.blanks.ends_blanks.Goals as goal
 
-pub returns-then-is_blank : goal.returns-then-is_blank
-returns-then-is_blank c = rw (c.if-comment.false, sym c.is_blank.ensures ∙ c.if-is_blank.true)
+pub returns-then-in_named : goal.returns-then-in_named
+returns-then-in_named c = rw (c.if-comment.false, sym c.in_named.ensures ∙ c.if-in_named.true)
 
 pub returns : goal.returns
-returns c = rw (c.if-comment.false, sym c.is_blank.ensures ∙ c.if-is_blank.false)
+returns c = rw (c.if-comment.false, sym c.in_named.ensures ∙ c.if-in_named.false)

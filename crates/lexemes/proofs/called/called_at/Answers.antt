@@ -1,16 +1,17 @@
 -- `called_at` meets its contract, by the byte behind the `k`.
-use mathlib.Core.Path.{refl}
+use mathlib.Core.Path.{refl, sym}
+use native.Mathlib.Omega.{arith}
 use Rattle.lexemes.proofs.CalledCases.{same_name, called-brace, called-angle, called-apostrophe, called-other}
 use Rattle.lexemes.proofs.called.called_at.Goals as goal
 
-pub returns-then-b-eq-OPENING_BRACE : goal.returns-then-b-eq-OPENING_BRACE
-returns-then-b-eq-OPENING_BRACE c = same_name _ c.name_at.result (called-brace _ _ _ c.peek-b.ensures.is c.if-b-eq-OPENING_BRACE.true) (c.name_at.ensures "}" refl)
+pub returns-in-123 : goal.returns-in-123
+returns-in-123 c = same_name _ c.name_at.result (called-brace _ _ _ c.peek.ensures.is c.in-123.is) (c.name_at.ensures "}" refl)
 
-pub returns-then-b-eq-LESS : goal.returns-then-b-eq-LESS
-returns-then-b-eq-LESS c = same_name _ c.name_at-then-b-eq-LESS.result (called-angle _ _ _ c.peek-b.ensures.is c.if-b-eq-LESS.true) (c.name_at-then-b-eq-LESS.ensures ">" refl)
+pub returns-in-60 : goal.returns-in-60
+returns-in-60 c = same_name _ c.name_at-in-60.result (called-angle _ _ _ c.peek.ensures.is c.in-60.is) (c.name_at-in-60.ensures ">" refl)
 
-pub returns-then-b-eq-APOSTROPHE : goal.returns-then-b-eq-APOSTROPHE
-returns-then-b-eq-APOSTROPHE c = same_name _ c.name_at-then-b-eq-APOSTROPHE.result (called-apostrophe _ _ _ c.peek-b.ensures.is c.if-b-eq-APOSTROPHE.true) (c.name_at-then-b-eq-APOSTROPHE.ensures "'" refl)
+pub returns-in-39 : goal.returns-in-39
+returns-in-39 c = same_name _ c.name_at-in-39.result (called-apostrophe _ _ _ c.peek.ensures.is c.in-39.is) (c.name_at-in-39.ensures "'" refl)
 
-pub returns : goal.returns
-returns c = same_name _ c.bad_name.result (called-other _ _ _ c.peek-b.ensures.is c.if-b-eq-OPENING_BRACE.false c.if-b-eq-LESS.false c.if-b-eq-APOSTROPHE.false) (c.bad_name.ensures _)
+pub returns-in_default : goal.returns-in_default
+returns-in_default c = rw c.at.ensures (sym (called-other _ _ _ c.peek.ensures.is (λ e. omega (arith, c.in_default)) (λ e. omega (arith, c.in_default)) (λ e. omega (arith, c.in_default))))

@@ -1,21 +1,19 @@
--- `word_end` meets its contract. The loop's invariant: the word bytes from `from` on are those passed and those from `i` on.
-use mathlib.Core.Path.{◌∙◌, sym}
+-- `word_end` meets its contract: the bytes counted are the run of word bytes.
+use Rattle.std.proofs.Common.{rules, tests}
+use Rattle.std.proofs.lemmas.Iterator.{YieldsList-from_slice}
+use Rattle.std.proofs.lemmas.Iterator.Search.{YieldsList-from_take_while}
+use Rattle.std.proofs.lemmas.Iterator.Consumers.{count_from_yields_List}
+use mathlib.Core.Path.{◌∙◌}
+use lib.ListN.{drop}
 use Rattle.charset.specs.declared.Named.TheVariants.{Word}
 use Rattle.charset.specs.Named.{in_named}
 use Rattle.syntax.specs.Names.{word_at}
-use Rattle.lexemes.proofs.Runs.{ran-none, ran-more, ends-else, ends-past}
+use Rattle.lexemes.proofs.Runs.{rest-whole, run-counted}
 use Rattle.lexemes.proofs.called.word_end.Goals as goal
-
-pub loop-i-init : goal.loop-i-init
-loop-i-init c = ran-none (in_named Word) _ _ c.requires
-
-pub returns-then-not-in_named : goal.returns-then-not-in_named
-unfolding word_at
-returns-then-not-in_named c = ends-else (in_named Word) _ _ _ c.loop-i.invariant c.loop-i-test.true (sym c.in_named.ensures ∙ c.if-not-in_named.true)
-
-pub loop-i-preserved : goal.loop-i-preserved
-loop-i-preserved c = ran-more (in_named Word) _ _ _ c.loop-i.invariant c.loop-i-test.true (sym c.in_named.ensures ∙ c.if-not-in_named.false)
 
 pub returns : goal.returns
 unfolding word_at
-returns c = ends-past (in_named Word) _ _ _ c.loop-i.invariant c.loop-i-test.false
+returns c =
+    run-counted (in_named Word) c.args.rule.now c.args.from c.count.result c.requires
+    (count_from_yields_List c.take_while-word.result _ c.count.ensures.ran
+    (YieldsList-from_take_while _ (in_named Word) (YieldsList-from_slice (drop c.args.from c.args.rule.now) (rw c.take_while-word.ensures.source (c.iter.ensures.rest ∙ rest-whole c.args.rule.now c.args.from))) c.take_while-word.ensures.closure c.take_while-word.ensures.done (λ x b q k. search (rules, tests))))

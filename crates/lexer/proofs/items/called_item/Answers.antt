@@ -1,9 +1,10 @@
--- `called_item` meets its contract, by the variant.
-use Rattle.lexer.proofs.ItemCases.{same_item, calling-sound, calling-bad}
+-- `called_item` meets its contract: a refusal is handed on, and a name is referred to.
+use Rattle.std.proofs.lemmas.Result.{err_from_is_err_and}
+use Rattle.lexer.proofs.ItemCases.{calling-sound}
 use Rattle.lexer.proofs.items.called_item.Goals as goal
 
-pub returns-in-Named : goal.returns-in-Named
-returns-in-Named c = λ s folded known a h. calling-sound s folded known a c.args.name h _ _ _ c.in-Named.is
+pub returns-in_err-called : goal.returns-in_err-called
+returns-in_err-called c = λ s folded known a h. let p = err_from_is_err_and c.from_residual.result c.from_residual.ensures.1 in let g = rw c.in_err-called.was at h in rw (p.1, p.2, g)
 
-pub returns-in-BadName : goal.returns-in-BadName
-returns-in-BadName c = λ s folded known a h. same_item s folded known c.bad_item.result (calling-bad s folded known a c.args.name h _ c.in-BadName.is) (c.bad_item.ensures s folded known)
+pub returns : goal.returns
+returns c = λ s folded known a h. calling-sound s folded known a c.in_ok-called.called (rw c.in_ok-called.was at h)

@@ -1,9 +1,10 @@
--- `class_item` meets its contract, by where the class ends.
-use Rattle.lexer.proofs.ItemCases.{same_item, class-closed, class-bad}
+-- `class_item` meets its contract: a refusal is handed on, and else the words hold the class. The profile is asked for by its flag.
+use Rattle.std.proofs.lemmas.Result.{err_from_is_err_and}
+use Rattle.lexer.proofs.ItemCases.{class-sound}
 use Rattle.lexer.proofs.items.class_item.Goals as goal
 
-pub returns-in-Closed : goal.returns-in-Closed
-returns-in-Closed c = λ s folded known a h. class-closed s folded known a _ c.args.class.end _ c.in-Closed.is h
+pub returns-in_err-class : goal.returns-in_err-class
+returns-in_err-class c = λ known. let p = err_from_is_err_and c.from_residual.result c.from_residual.ensures.1 in let g = rw c.in_depot.ensures at c.in_err-class.ensures in rw (p.1, p.2, g)
 
-pub returns-in-BadClass : goal.returns-in-BadClass
-returns-in-BadClass c = λ s folded known a h. same_item s folded known c.bad_item.result (class-bad folded a _ c.args.class.end _ c.in-BadClass.is h) (c.bad_item.ensures s folded known)
+pub returns : goal.returns
+returns c = λ known. class-sound c.args.rule.now _ known _ c.in_ok-class.class (rw (c.ignores_case.ensures, c.in_depot.ensures) at c.in_ok-class.ensures)

@@ -1,6 +1,6 @@
 -- `group_at` meets its contract, by whether a name follows the brace.
 use mathlib.Core.Path.{refl, sym, ◌∙◌}
-use Rattle.lexer.specs.Says.{group_of}
+use Rattle.syntax.specs.Read.{read_of}
 use Rattle.lexemes.proofs.CalledCases.{calls-in}
 use Rattle.lexer.proofs.ItemCases.{same_item, escape-by-name, escape-by-number}
 use Rattle.lexer.proofs.items.group_at.Goals as goal
@@ -12,4 +12,4 @@ pub returns-then-calls_by_name : goal.returns-then-calls_by_name
 returns-then-calls_by_name c = λ folded known. same_item _ folded known c.called_item.result (escape-by-name _ folded known _ _ 103 (sym c.requires.2) refl (sym c.calls_by_name.ensures ∙ c.if-calls_by_name.true)) (c.called_item.ensures _ folded known _ (c.name_at.ensures "}" refl))
 
 pub returns : goal.returns
-returns c = λ folded known. same_item _ folded known c.group_item.result (escape-by-number _ folded known _ _ 103 (sym c.requires.2) refl (sym c.calls_by_name.ensures ∙ c.if-calls_by_name.false) (group_of c.group_number_at.result) c.group_number_at.ensures) (c.group_item.ensures _ folded known)
+returns c = λ folded known. same_item _ folded known c.group_item.result (escape-by-number _ folded known _ _ 103 (sym c.requires.2) refl (sym c.calls_by_name.ensures ∙ c.if-calls_by_name.false) (read_of (λ n. n) c.group_number_at.result) c.group_number_at.ensures) (c.group_item.ensures _ folded known)

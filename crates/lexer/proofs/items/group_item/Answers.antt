@@ -1,9 +1,9 @@
--- `group_item` meets its contract, by the variant.
-use Rattle.lexer.proofs.ItemCases.{same_item, referring-sound, referring-bad}
+-- `group_item` meets its contract: a refusal is handed on, and a number is referred to.
+use Rattle.std.proofs.lemmas.Result.{err_from_is_err_and}
 use Rattle.lexer.proofs.items.group_item.Goals as goal
 
-pub returns-in-Group : goal.returns-in-Group
-returns-in-Group c = λ s folded known. referring-sound folded c.args.group _ _ c.in-Group.is
+pub returns-in_err-number : goal.returns-in_err-number
+returns-in_err-number c = λ s folded known. let p = err_from_is_err_and c.from_residual.result c.from_residual.ensures.1 in rw (p.1, p.2, c.in_err-number.was)
 
-pub returns-in-BadGroup : goal.returns-in-BadGroup
-returns-in-BadGroup c = λ s folded known. same_item s folded known c.bad_item.result (referring-bad folded c.args.group _ c.in-BadGroup.is) (c.bad_item.ensures s folded known)
+pub returns : goal.returns
+returns c = λ s folded known. rw c.in_ok-number.was

@@ -1,10 +1,13 @@
 -- `member_item` meets its contract: a refusal is handed on, and else the words hold the member alone.
-use Rattle.lexer.proofs.ItemCases.{same_item, alone-bad, alone-sound}
-use borrow.Enum.Refused.{opened}
+use Rattle.std.proofs.lemmas.Result.{err_from_is_err_and}
+use mathlib.Core.Path.{refl}
+use Rattle.syntax.specs.Sets.{only}
+use Rattle.escapes.specs.Says.{member_of}
+use Rattle.lexer.proofs.ItemCases.{holds-only}
 use Rattle.lexer.proofs.items.member_item.Goals as goal
 
-pub returns-in-Bad : goal.returns-in-Bad
-returns-in-Bad c = λ s known. same_item s _ known c.bad_item.result (alone-bad _ c.args.m _ c.in-Bad.is) (c.bad_item.ensures s _ known)
+pub returns-in_err-member : goal.returns-in_err-member
+returns-in_err-member c = λ s known. let p = err_from_is_err_and c.from_residual.result c.from_residual.ensures.1 in rw (p.1, p.2, c.in_err-member.was)
 
 pub returns : goal.returns
-returns c = λ s known. alone-sound s _ known c.args.m (opened c.in_default.in_default-own.keys2) _ _ c.empty.ensures c.with_member-words.ensures _ c.next_of-next.ensures
+returns c = λ s known. rw c.in_ok-member.was (only (member_of c.in_ok-member.member.value), refl, holds-only _ (member_of c.in_ok-member.member.value) _ _ c.empty.ensures c.with_member-words.ensures)

@@ -9,14 +9,11 @@ returns-then-height-mark c = (omega arith, cut-none c.args.work.now _ _ c.if-hei
 pub loop-i-init : goal.loop-i-init
 loop-i-init c = cutting-start c.args.work.now _ _ (omega (arith, c.if-height-mark.false))
 
-pub keep_undo-kept-requires : goal.keep_undo-kept-requires
-keep_undo-kept-requires c = let g = c.loop-i.invariant in omega (arith, g.low, g.size, c.loop-i-test.true, c.requires)
-
-pub loop-i-smaller : goal.loop-i-smaller
-loop-i-smaller c = omega (arith, c.loop-i-test.true)
+pub keep_undo-h-requires : goal.keep_undo-h-requires
+keep_undo-h-requires c = let g = c.loop-i.invariant in omega (arith, g.low, g.size, c.loop-i-test.true, c.requires)
 
 pub loop-i-preserved : goal.loop-i-preserved
-loop-i-preserved c = cutting-on c.loop-i.invariant c.loop-i-test.true _ _ c.keep_undo-kept.ensures.0 c.keep_undo-kept.auto.work c.keep_undo-kept.ensures.1 c.keep_undo-kept.ensures.2
+loop-i-preserved c = cutting-on c.loop-i.invariant c.loop-i-test.true _ _ c.keep_undo-h.ensures.0 c.keep_undo-h.auto.work c.keep_undo-h.ensures.1 c.keep_undo-h.ensures.2
 
 pub shape_of-work : goal.shape_of-work
 shape_of-work c = c.loop-i.invariant.size

@@ -4,6 +4,3 @@ use Rattle.machine.proofs.stack.cut_to.Given as goal
 
 abbrev pub invariant-loop-i : goal.invariant-loop-i
 invariant-loop-i l = Cutting l.initial.work l.height l.mark l.work l.h l.i
-
-abbrev pub decreases-loop-i : goal.decreases-loop-i
-decreases-loop-i l = l.height - l.i

@@ -8,6 +8,3 @@ invariant-loop-i l = (l.i ≤ l.stop) ×
     (l.stop < l.left) ×
     (l.stop < l.n → l.left ≤ l.stop + 1) ×
     Alike l.folded l.sub l.n l.a l.b l.i
-
-abbrev pub decreases-loop-i : goal.decreases-loop-i
-decreases-loop-i l = l.stop - l.i

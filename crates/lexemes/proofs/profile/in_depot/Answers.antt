@@ -1,9 +1,0 @@
--- `in_depot` meets its contract: bit 4 of the flags.
-use mathlib.Core.Path.{refl}
-use Rattle.syntax.specs.Limits.{depot_bit}
-use Rattle.syntax.specs.Flags.{depot}
-use Rattle.lexemes.proofs.profile.in_depot.Goals as goal
-
-pub returns : goal.returns
-unfolding depot depot_bit
-returns c = refl

@@ -1,7 +1,0 @@
--- The four numbers of the inner end, and the three where it is entered behind them.
-use mathlib.Core.Path.{refl}
-use Rattle.writer.proofs.Writing.{wrote-both}
-use Rattle.writer.proofs.put_marked.Goals as goal
-
-pub returns : goal.returns
-returns c = wrote-both _ c.put_four.ensures c.put_three.ensures refl refl
