@@ -1,5 +1,4 @@
 // The lines of a file, one after another.
-ghost use Rattle.std.specs.Prelude.{◌≤◌, length};
 ghost use Rattle.page_lines.specs.Rules.{Holds};
 
 use crate::rows::put_row;

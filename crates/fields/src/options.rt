@@ -1,5 +1,5 @@
 // The options that the program is started with.
-ghost use Rattle.std.specs.Prelude.{◌≤◌, ◌<◌, IfSome};
+ghost use Rattle.std.specs.Prelude.{◌<◌, IfSome};
 
 use frame::BUDGET_LIMIT;
 use office::{arg, asks_for_page, decimal, flags};

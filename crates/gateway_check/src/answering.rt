@@ -1,5 +1,5 @@
 // The answer to one line.
-ghost use Rattle.std.specs.Prelude.{◌+◌, ◌≤◌, length};
+ghost use Rattle.std.specs.Prelude.{◌≤◌};
 ghost use Rattle.syntax.specs.Limits.{group_limit};
 ghost use Rattle.syntax.specs.Tree.{Rule};
 ghost use Rattle.machine.specs.Theorem.{Stands};

@@ -2,7 +2,7 @@
 ghost use Rattle.std.specs.Prelude.{◌≤◌, length, IfSome};
 
 use crate::lines::Lines;
-use crate::messages::{fail, fail_at};
+use crate::messages::fail_at;
 use std::env::{Env, FillError};
 use std::fs::File;
 use std::{fs, io};

@@ -1,6 +1,5 @@
 -- What is held stays within its room, and the areas keep their lengths.
 use native.Mathlib.Omega.{arith}
-use lib.ListN.{length-take}
 use Rattle.gateway_answers.specs.Laws.Calls.{lent_still}
 use Rattle.gateway.proofs.lines.answer_input.Goals as goal
 
