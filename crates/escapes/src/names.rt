@@ -11,8 +11,8 @@ use charset::Named;
 use lexemes::{CARET, CLOSING_BRACKET, COLON, peek};
 use syntax::{Parsed, Reading, Reason, Refusal};
 
-// The set that a name stands for, if it is one's. The names are compared in the order of the definition's list. A `match` on them is no plainer to
-// prove: behind its last name it splits into the ways in which a name can differ from each, some hundred.
+// The set that a name stands for, if it is one's. The names are compared in the order of the definition's list. A `match` on them was tried, and its
+// proof did not close: its last arm wants one for each way in which a name can differ from all fourteen, and the check finds none of these.
 fn set_named(name: &[u8]) -> Option<Named>
     ensures { set_of result ≡ set_named name.now }
 {

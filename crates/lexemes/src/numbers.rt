@@ -4,7 +4,8 @@ ghost use Rattle.lexemes.specs.Says.{Peeked, IsDigitAt, capped, Counts};
 
 use syntax::Parsed;
 
-// The byte at a position, and 256 past the end.
+// The byte at a position, and 256 past the end, as the definition `byte` has it. An Option is no plainer: each test would compare with `Some(b'{')`, and
+// each promise would turn it back into that number.
 pub fn peek(rule: &[u8], at: usize) -> u32
     ensures { Peeked rule.now at result }
 {
