@@ -5,36 +5,20 @@ mod messages;
 mod showing;
 mod writing;
 
-use check::same;
-use office::{arg, arg_count};
+use office::{arg_count, is_word};
 
 // Where the arguments stand.
 const COMMAND: usize = 1;
 
 const CARD_TO_SHOW: usize = 2;
 
-// Whether the program is asked for this.
-fn is_asked(rt: &HostRuntime, command: &[u8]) -> bool {
-    let mut text = io::buffer();
-    let n = arg(rt, COMMAND, &mut text);
-    same(&text[..n], command)
-}
-
 fn main(rt: HostRuntime) {
     let count = arg_count(&rt);
-    if is_asked(&rt, b"show") {
-        if count == CARD_TO_SHOW + 1 {
-            showing::show_file(&rt, CARD_TO_SHOW);
-            return;
-        }
+    if is_word(&rt, COMMAND, b"show") && count == CARD_TO_SHOW + 1 {
+        showing::show_file(&rt, CARD_TO_SHOW);
+    } else if is_word(&rt, COMMAND, b"write") && writing::is_count(count) {
+        writing::write_file(&rt);
+    } else {
+        messages::usage(&rt);
     }
-    if is_asked(&rt, b"write") {
-        if writing::CARD_FILE < count {
-            if count <= writing::BUDGET + 1 {
-                writing::write_file(&rt);
-                return;
-            }
-        }
-    }
-    messages::usage(&rt);
 }

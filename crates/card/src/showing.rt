@@ -1,5 +1,5 @@
 // Showing a card.
-ghost use Rattle.std.specs.Prelude.{◌≤◌, length};
+ghost use Rattle.std.specs.Prelude.{◌≤◌, length, IfOk};
 
 use card_text::write_words;
 use cards::{RULE_BYTES_NEED, read_card, rule_in};
@@ -7,17 +7,9 @@ use frame::RULE_AREA_NEED;
 use office::{fail, flush, open, say, say_refusal};
 use std::fs::File;
 use std::io::{Error, ErrorKind, Read};
-use text::gather;
 
 // What is read of a file at most. One that fills this is no card, whatever follows.
 const FILE: usize = 65536;
-
-// What was read: how many bytes, and why no more could be, if so.
-#[derive(Drop)]
-struct Content {
-    have: usize,
-    failed: Option<Error>,
-}
 
 // Writes what a card says to standard output; of what is refused it says why.
 pub(crate) fn show(rt: &HostRuntime, card: &[u8]) {
@@ -34,62 +26,42 @@ pub(crate) fn show(rt: &HostRuntime, card: &[u8]) {
         }
         Err(f) => {
             let n = rule_in(card, &mut rule);
-            say_refusal(rt, b"card", f, &rule[..n]);
+            say_refusal(rt, "card", f, &rule[..n]);
         }
     }
 }
 
-// Reads a file to its end, or as much of it as there is room for.
-fn read_content(file: &mut File, piece: &mut [u8], content: &mut [u8]) -> Content
-    ensures { result.have ≤ length content.old }
+// Reads a file to its end, or as much of it as there is room for, and says how many bytes that are.
+fn read_content(file: &mut File, content: &mut [u8]) -> Result<usize, Error>
+    ensures { IfOk result (λ n. n ≤ length content.old) }
 {
-    let mut have: usize = 0;
+    let mut have = 0;
     // nothing says that a file ends: the reads are counted
-    let mut left: u64 = 18446744073709551615;
-    while 0 < left {
-        let n = match file.read(piece) {
-            Ok(n) => n,
-            Err(e) => {
-                return Content {
-                    have,
-                    failed: Some(e),
-                };
-            }
-        };
-        if n == 0 {
-            return Content { have, failed: None };
-        }
-        have = gather(content, content.len(), have, &piece[..n]);
+    for _ in 0..u64::MAX {
         if have == content.len() {
-            return Content { have, failed: None };
+            return Ok(have);
         }
-        left -= 1;
+        let n = file.read(&mut content[have..])?;
+        if n == 0 {
+            return Ok(have);
+        }
+        have += n;
     }
-    Content {
-        have: 0,
-        failed: Some(Error::from(ErrorKind::TimedOut)),
-    }
+    Err(Error::from(ErrorKind::TimedOut))
 }
 
 // Shows the card in the file that an argument names.
 pub(crate) fn show_file(rt: &HostRuntime, argument: usize) {
-    let Some(mut file) = open(rt, b"card", argument) else {
+    let Some(mut file) = open(rt, "card", argument) else {
         return;
     };
-    let mut piece = io::large_buffer();
     let mut content = io::large_buffer();
-    let read = read_content(&mut file, &mut piece, &mut content);
-    let n = read.have;
-    if let Some(e) = read.failed {
-        fail(rt, b"card: the card could not be read", e);
-        return;
-    }
-    if n == FILE {
-        say(
+    match read_content(&mut file, &mut content) {
+        Ok(FILE) => say(
             rt,
             b"card: the file has more than 65535 bytes, and a card at most 1064\n",
-        );
-        return;
+        ),
+        Ok(n) => show(rt, &content[..n]),
+        Err(why) => fail(rt, b"card: the card could not be read", why),
     }
-    show(rt, &content[..n]);
 }

@@ -19,6 +19,7 @@ ghost use Rattle.card_text.specs.Room.{rule_room, flags_room, number_room, shown
 
 use fields_text::write_hex;
 use report::{is_odd, is_printed};
+use syntax::Flags;
 use text::{NEWLINE, append, append_byte, append_number};
 
 // Writes what stands for a byte of the rule, or under that.
@@ -43,12 +44,9 @@ fn write_each(rule: &[u8], under: bool, out: &mut [u8], at: usize) -> usize
     requires { at + 4 * length rule.now ≤ length out.old }
     ensures { WroteUpTo (4 * length rule.now) out.old at (each under rule.now) out.new result }
 {
-    let mut i: usize = 0;
     let mut end = at;
-    while i < rule.len() {
-        let next = write_one(rule[i], under, out, end);
-        end = next;
-        i += 1;
+    for b in rule {
+        end = write_one(*b, under, out, end);
     }
     end
 }
@@ -96,27 +94,28 @@ fn write_flags(flags: u32, out: &mut [u8], at: usize) -> usize
     if flags == 0 {
         return append(out, at, b"flags   none\n");
     }
-    let s = write_flag(flags % 2 == 1, b"s: a dot takes every byte", out, at);
+    let set = Flags(flags);
+    let s = write_flag(set.dot_takes_all(), b"s: a dot takes every byte", out, at);
     let m = write_flag(
-        flags / 2 % 2 == 1,
+        set.is_multiline(),
         b"m: ^ and $ hold at every newline",
         out,
         s,
     );
     let i = write_flag(
-        flags / 4 % 2 == 1,
+        set.ignores_case(),
         b"i: A to Z and a to z match each other",
         out,
         m,
     );
     let x = write_flag(
-        flags / 8 % 2 == 1,
+        set.is_extended(),
         b"x: blanks, and # up to the line's end, are skipped",
         out,
         i,
     );
     write_flag(
-        flags / 16 % 2 == 1,
+        set.in_depot(),
         b"D: the narrower rules of the depot profile",
         out,
         x,

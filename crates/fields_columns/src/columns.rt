@@ -1,5 +1,5 @@
 // The columns of the table: their names, which stand in the layout of a name index.
-ghost use Rattle.std.specs.Prelude.{◌≡◌, [], ◌∷◌, ◌++◌, ◌+◌, ◌≤◌, ◌<◌, min, length};
+ghost use Rattle.std.specs.Prelude.{◌≡◌, [], ◌∷◌, ◌++◌, ◌+◌, ◌≤◌, ◌<◌, length};
 ghost use Rattle.syntax.specs.Limits.{group_limit, name_limit, name_index_need};
 ghost use Rattle.fields_columns.specs.Columns.{name_at, names_from, named};
 
@@ -9,20 +9,13 @@ use text::{append, append_byte};
 // The most columns: as many as a rule can have names.
 pub const COLUMN_LIMIT: usize = syntax::GROUP_LIMIT as usize;
 
-// The smaller of two numbers.
-fn least(a: usize, b: usize) -> usize
-    ensures { result ≡ min a b }
-{
-    if a < b { a } else { b }
-}
-
 // The name of a column.
 pub fn column(columns: &[u8], i: usize) -> &[u8]
     requires { (i < group_limit) × (name_index_need ≤ length columns.now) }
     ensures { result.now ≡ name_at columns.now i }
 {
     let from = i * NAME_ENTRY;
-    let size = least(columns[from] as usize, NAME_LIMIT);
+    let size = (columns[from] as usize).min(NAME_LIMIT);
     let first = from + 1;
     let end = first + size;
     &columns[first..end]
@@ -56,12 +49,8 @@ pub fn all_columns(names: &[u8], columns: &mut [u8]) -> usize
     ensures { (result ≤ group_limit) × (names_from columns.new 0 result ≡ named (names_from names.now 0 group_limit)) }
 {
     let mut count: usize = 0;
-    let mut i: usize = 0;
-    while i < COLUMN_LIMIT {
-        let name = column(names, i);
-        let next = add_named(name, columns, count);
-        count = next;
-        i += 1;
+    for i in 0..COLUMN_LIMIT {
+        count = add_named(column(names, i), columns, count);
     }
     count
 }

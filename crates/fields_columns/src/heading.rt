@@ -15,14 +15,10 @@ fn write_names(columns: &[u8], count: usize, out: &mut [u8], at: usize) -> usize
     requires count_in_bounds { at + column_room * count ≤ length out.old }
     ensures { Named columns.now count count out.old at out.new result }
 {
-    let mut i: usize = 0;
     let mut end = at;
-    while i < count {
-        let name = column(columns, i);
+    for i in 0..count {
         let tab = append_byte(out, end, TAB);
-        let next = write_escaped(name, out, tab);
-        end = next;
-        i += 1;
+        end = write_escaped(column(columns, i), out, tab);
     }
     end
 }

@@ -45,13 +45,10 @@ fn agree_all<'a>(
     requires { Columned columns.now count }
     ensures { result ≡ agree names.now line.now standing.now x.now y.now (names_from columns.now 0 count) }
 {
-    let mut i: usize = 0;
-    while i < count {
-        let name = column(columns, i);
-        if !agree_on(name, names, line, standing, x, y) {
+    for i in 0..count {
+        if !agree_on(column(columns, i), names, line, standing, x, y) {
             return false;
         }
-        i += 1;
     }
     true
 }
@@ -94,14 +91,12 @@ pub fn is_ambiguous<'a>(
     requires x_len { (length x.now ≡ row_length) × (rows * row_length ≤ length results.now) }
     ensures { result ≡ is_ambiguous names.now line.now standing.now (names_from columns.now 0 count) x.now (rows_at results.now 0 rows) }
 {
-    let mut i: usize = 0;
-    while i < rows {
+    for i in 0..rows {
         let from = i * ROW_LENGTH;
         let to = from + ROW_LENGTH;
         if is_other(columns, count, names, line, standing, x, &results[from..to]) {
             return true;
         }
-        i += 1;
     }
     false
 }

@@ -9,8 +9,8 @@ use Rattle.semantics.specs.NameIndex.{name_index}
 use Rattle.semantics.specs.Computing.{computing_calls}
 use Rattle.lookup.specs.Computing.{computing_lookups}
 use Rattle.text.specs.Lines.{newline}
-use Rattle.text.specs.Numbers.{decimal_within, decimal}
-use Rattle.fields_text.specs.Escaping.{hex_digit, hexed, is_plain, escape, escaped}
+use Rattle.text.specs.Numbers.{hex_digit, decimal_within, decimal}
+use Rattle.fields_text.specs.Escaping.{hexed, is_plain, escape, escaped}
 use Rattle.fields_text.specs.Table.{tab, cells, opening, table_row}
 use Rattle.fields_row.specs.Fields.{field_named, fields, text_of, kind_of}
 use Rattle.fields_compared.specs.Readings.{agree, is_other, is_ambiguous}

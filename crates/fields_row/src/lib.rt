@@ -5,4 +5,4 @@ mod parts;
 mod words;
 
 pub use parts::{PART_ROOM, Place, write_part};
-pub use words::{OPENING_ROOM, Word, kind, open_row};
+pub use words::{OPENING_ROOM, Word, open_row};

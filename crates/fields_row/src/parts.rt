@@ -16,7 +16,7 @@ const CHUNK: usize = 4096;
 pub const PART_ROOM: usize = 1 + fields_text::ESCAPE_ROOM * CHUNK;
 
 // How far a row is: the column, how many bytes of its field are written, and the position in the output.
-#[derive(Drop)]
+#[derive(Clone, Copy, Debug, PartialEq, Eq)]
 pub struct Place {
     pub column: usize,
     pub taken: usize,
@@ -51,9 +51,12 @@ pub fn write_part<'a>(
     ensures onward { Onward count p result }
     ensures spoken { Spoken (fields_from columns.now count names.now line.now standing.now kind row.now) out.old p out.new result }
 {
-    let at = p.column;
-    let taken = p.taken;
-    let tab = write_tab(taken, out, p.put);
+    let Place {
+        column: at,
+        taken,
+        put,
+    } = p;
+    let tab = write_tab(taken, out, put);
     let text = field(column(columns, at), names, line, kind, row, standing);
     if text.len() <= taken {
         return Place {

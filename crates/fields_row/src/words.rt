@@ -10,7 +10,7 @@ use fields_text::write_opening;
 // The bytes of a line's number, a tab and its word, at most.
 pub const OPENING_ROOM: usize = 32;
 
-#[derive(Clone, Copy)]
+#[derive(Clone, Copy, Debug, PartialEq, Eq)]
 pub enum Word {
     Matched,
     Ambiguous,
@@ -20,17 +20,32 @@ pub enum Word {
     TooLong,
 }
 
-// The kind of an answer, as the lookup asks for it: 0 where there is a match.
-pub fn kind(word: Word) -> u32
-    ensures { result ≡ kind_of word }
-{
-    match word {
-        Word::Matched => 0,
-        Word::Ambiguous => 0,
-        Word::Undecided => 0,
-        Word::NotMatched => 1,
-        Word::Exhausted => 1,
-        Word::TooLong => 1,
+impl Word {
+    // The kind of an answer, as the lookup asks for it: 0 where there is a match.
+    #[tactic(auto, unfolding(crate::specs::Fields::kind_of))]
+    pub fn kind(self) -> u32
+        ensures { result ≡ kind_of self }
+    {
+        match self {
+            Word::Matched | Word::Ambiguous | Word::Undecided => 0,
+            Word::NotMatched | Word::Exhausted | Word::TooLong => 1,
+        }
+    }
+
+    // What the table has for it.
+    #[tactic(auto, unfolding(crate::specs::Fields::text_of))]
+    fn text(self) -> &'static [u8]
+        ensures value { result.now ≡ text_of self }
+        ensures few { length result.now ≤ 11 }
+    {
+        match self {
+            Word::Matched => b"matched",
+            Word::Ambiguous => b"ambiguous",
+            Word::Undecided => b"undecided",
+            Word::NotMatched => b"not matched",
+            Word::Exhausted => b"exhausted",
+            Word::TooLong => b"too long",
+        }
     }
 }
 
@@ -39,12 +54,5 @@ pub fn open_row(number: u64, word: Word, out: &mut [u8], at: usize) -> usize
     requires { at + 32 ≤ length out.old }
     ensures { WroteUpTo 32 out.old at (opening (decimal number) (text_of word)) out.new result }
 {
-    match word {
-        Word::Matched => write_opening(number, b"matched", out, at),
-        Word::Ambiguous => write_opening(number, b"ambiguous", out, at),
-        Word::Undecided => write_opening(number, b"undecided", out, at),
-        Word::NotMatched => write_opening(number, b"not matched", out, at),
-        Word::Exhausted => write_opening(number, b"exhausted", out, at),
-        Word::TooLong => write_opening(number, b"too long", out, at),
-    }
+    write_opening(number, word.text(), out, at)
 }

@@ -1,12 +1,9 @@
 -- A field as it stands in the table: "Tabs, backslashes and odd bytes in fields are escaped in the usual way, so that a line can never forge a
 -- column." Odd are the bytes below 20 and above 7E (hex).
 -- docs/REFERENCE.md, 19.3
-use Rattle.std.specs.Prelude.{List, [], ◌∷◌, ◌++◌, Bool, ◌&&◌, ℕ, ◌+◌, ◌/◌, ◌%◌, leb, ltb, eqb, if◌then◌else◌}
+use Rattle.std.specs.Prelude.{List, [], ◌∷◌, ◌++◌, Bool, ◌&&◌, ℕ, ◌/◌, ◌%◌, leb, eqb, if◌then◌else◌}
 use Rattle.syntax.specs.Read.{bytes}
-
--- `0` to `9`, then `A` to `F`
-unfoldable pub hex_digit : ℕ → ℕ
-hex_digit d = if ltb d 10 then 48 + d else 55 + d
+use Rattle.text.specs.Numbers.{hex_digit}
 
 -- `\xHH`
 unfoldable pub hexed : ℕ → List ℕ

@@ -5,24 +5,16 @@
 ghost use Rattle.std.specs.Prelude.{◌≡◌, [], ◌∷◌, ◌+◌, ◌*◌, ◌≤◌, ◌<◌, length};
 ghost use Rattle.text.specs.Numbers.{decimal};
 ghost use Rattle.text.specs.Writing.{Wrote};
-ghost use Rattle.fields_text.specs.Escaping.{hex_digit, hexed, escape, escaped};
+ghost use Rattle.fields_text.specs.Escaping.{hexed, escape, escaped};
 ghost use Rattle.fields_text.specs.Table.{opening};
 ghost use Rattle.fields_text.specs.Promises.{WroteUpTo};
 
-use text::{append, append_byte, append_number};
+use text::{append, append_byte, append_number, hex_digit};
 
 // The bytes that one byte of a field is escaped to, at most.
 pub const ESCAPE_ROOM: usize = 4;
 
-pub const TAB: u8 = 9;
-
-// A hexadecimal digit.
-pub fn hex_digit(d: u8) -> u8
-    requires { d < 16 }
-    ensures { result ≡ hex_digit d }
-{
-    if d < 10 { 48 + d } else { 55 + d }
-}
+pub const TAB: u8 = b'\t';
 
 // Writes a byte by its number.
 pub fn write_hex(byte: u8, out: &mut [u8], at: usize) -> usize
@@ -39,25 +31,14 @@ fn write_byte(byte: u8, out: &mut [u8], at: usize) -> usize
     requires { at + 4 ≤ length out.old }
     ensures { WroteUpTo 4 out.old at (escape byte) out.new result }
 {
-    if byte == 9 {
-        return append(out, at, b"\\t");
+    match byte {
+        b'\t' => append(out, at, b"\\t"),
+        b'\n' => append(out, at, b"\\n"),
+        b'\r' => append(out, at, b"\\r"),
+        b'\\' => append(out, at, b"\\\\"),
+        b' '..=b'~' => append_byte(out, at, byte),
+        _ => write_hex(byte, out, at),
     }
-    if byte == 10 {
-        return append(out, at, b"\\n");
-    }
-    if byte == 13 {
-        return append(out, at, b"\\r");
-    }
-    if byte == 92 {
-        return append(out, at, b"\\\\");
-    }
-    if byte < 32 {
-        return write_hex(byte, out, at);
-    }
-    if 126 < byte {
-        return write_hex(byte, out, at);
-    }
-    append_byte(out, at, byte)
 }
 
 // Writes a field, or a part of one.
@@ -65,12 +46,9 @@ pub fn write_escaped(field: &[u8], out: &mut [u8], at: usize) -> usize
     requires { at + 4 * length field.now ≤ length out.old }
     ensures { WroteUpTo (4 * length field.now) out.old at (escaped field.now) out.new result }
 {
-    let mut i: usize = 0;
     let mut end = at;
-    while i < field.len() {
-        let next = write_byte(field[i], out, end);
-        end = next;
-        i += 1;
+    for b in field {
+        end = write_byte(*b, out, end);
     }
     end
 }

@@ -1,30 +1,17 @@
 // One read.
-ghost use Rattle.std.specs.Prelude.{length};
-ghost use Rattle.gateway.specs.Counts.{Read};
+ghost use Rattle.std.specs.Prelude.{◌≤◌, length, IfOk, IfSome};
 
 use std::io;
 use std::io::ErrorKind;
 
-// What came of it: so many bytes, the end, a signal in between, or a failure.
-#[derive(Drop)]
-pub enum Input {
-    Bytes(usize),
-    End,
-    Again,
-    Failed(io::Error),
-}
-
-pub(crate) fn read_some<R: io::Read>(reader: &mut R, buffer: &mut [u8]) -> Input
-    ensures { Read (length buffer.old) result }
+// How many bytes came, or none at the end. A signal in between brings no bytes, and is not the end.
+pub(crate) fn read_some<R: io::Read>(reader: &mut R, buffer: &mut [u8]) -> io::Result<Option<usize>>
+    ensures { IfOk result (λ read. IfSome read (λ n. n ≤ length buffer.old)) }
 {
     match reader.read(buffer) {
-        Ok(0) => Input::End,
-        Ok(n) => Input::Bytes(n),
-        Err(e) => {
-            if e.kind() == ErrorKind::Interrupted {
-                return Input::Again;
-            }
-            Input::Failed(e)
-        }
+        Ok(0) => Ok(None),
+        Ok(n) => Ok(Some(n)),
+        Err(why) if why.kind() == ErrorKind::Interrupted => Ok(Some(0)),
+        Err(why) => Err(why),
     }
 }

@@ -14,8 +14,8 @@ ghost use Rattle.gateway_answers.specs.Promises.{Standing};
 use gateway_line::{Readiness, prepare};
 use gateway_text::{write_refusal, write_unreadable};
 use lines::answer_input;
-use output::deliver;
-use rule_file::{Loading, load};
+use output::say_unwritten;
+use rule_file::load;
 use std::fs;
 
 // One byte more than a rule may have: with so many, it is known to be too long.
@@ -36,7 +36,7 @@ fn say_unreadable(rt: &HostRuntime, out: &mut [u8])
     requires { answer_room ≤ length out.old }
 {
     let n = write_unreadable(out, 0);
-    deliver(rt, &out[..n]);
+    say_unwritten(rt, rt.write_all(&out[..n]));
 }
 
 // Says why the rule is refused.
@@ -44,7 +44,7 @@ fn say_refusal(rt: &HostRuntime, f: syntax::Refusal, out: &mut [u8])
     requires { answer_room ≤ length out.old }
 {
     let n = write_refusal(f, out, 0);
-    deliver(rt, &out[..n]);
+    say_unwritten(rt, rt.write_all(&out[..n]));
 }
 
 // Answers standard input by a rule that stands compiled.
@@ -57,7 +57,7 @@ fn serve(rt: &HostRuntime, code: &[u32], entry: u32, groups: u32, out: &mut [u8]
     let mut line = [0u8; LINE_ROOM];
     let mut piece = io::large_buffer();
     let mut input = rt.stdin();
-    answer_input(
+    let answered = answer_input(
         rt,
         &mut input,
         code,
@@ -69,6 +69,7 @@ fn serve(rt: &HostRuntime, code: &[u32], entry: u32, groups: u32, out: &mut [u8]
         &mut results,
         out,
     );
+    say_unwritten(rt, answered);
 }
 
 // Answers standard input by a rule, which is compiled once for all lines, or says why it is refused.
@@ -76,8 +77,7 @@ fn serve_or_refuse(rt: &HostRuntime, rule: &[u8], out: &mut [u8])
     requires { answer_room ≤ length out.old }
 {
     let mut rule_area = [0u32; RULE_AREA];
-    let readiness = prepare(rule, false, &mut rule_area);
-    match readiness {
+    match prepare(rule, false, &mut rule_area) {
         Readiness::Ready(entry, groups) => serve(rt, &rule_area, entry, groups, out),
         Readiness::Refused(f) => say_refusal(rt, f, out),
     }
@@ -90,11 +90,10 @@ fn main(rt: HostRuntime) {
         return;
     };
     let mut rule = [0u8; RULE_ROOM];
-    let loading = load(&mut file, &mut rule);
+    let loaded = load(&mut file, &mut rule);
     drop(file);
-    match loading {
-        Loading::Whole(n) => serve_or_refuse(&rt, &rule[..n], &mut out),
-        Loading::More(_n) => say_unreadable(&rt, &mut out),
-        Loading::Unreadable => say_unreadable(&rt, &mut out),
+    match loaded {
+        Ok(n) => serve_or_refuse(&rt, &rule[..n], &mut out),
+        Err(_) => say_unreadable(&rt, &mut out),
     }
 }

@@ -1,13 +1,10 @@
 // Writing to standard output.
 use office::fail;
+use std::io::Error;
 
-// Writes out answers. No answer is lost in silence: where they cannot be written it says so, and answers false.
-pub(crate) fn deliver(rt: &HostRuntime, answers: &[u8]) -> bool {
-    match rt.write_all(answers) {
-        Ok(()) => true,
-        Err(e) => {
-            fail(rt, b"gateway: the answers could not be written", e);
-            false
-        }
+// No answer is lost in silence: where the answers could not be written it says so.
+pub(crate) fn say_unwritten(rt: &HostRuntime, written: Result<(), Error>) {
+    if let Err(why) = written {
+        fail(rt, b"gateway: the answers could not be written", why);
     }
 }

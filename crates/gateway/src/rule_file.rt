@@ -1,67 +1,30 @@
 // The first line of the rule file, read only as far as it is needed.
-ghost use Rattle.std.specs.Prelude.{◌-◌, ◌≤◌, length};
-ghost use Rattle.gateway.specs.Counts.{Read, Loaded};
+ghost use Rattle.std.specs.Prelude.{◌≤◌, length, IfOk};
 
-use crate::input::{Input, read_some};
+use crate::input::read_some;
 use std::io;
+use std::io::ErrorKind;
+use text::line_end;
 
-// So many bytes are there and the line goes on; it is whole, and has so many; or the file cannot be read.
-#[derive(Drop)]
-pub enum Loading {
-    More(usize),
-    Whole(usize),
-    Unreadable,
-}
-
-// Reads behind the bytes that are there.
-fn read_behind<R: io::Read>(reader: &mut R, rule: &mut [u8], have: usize) -> Input
-    requires { have ≤ length rule.old }
-    ensures { Read (length rule.old - have) result }
+// Reads up to the first 0A, the end of the file or the end of the slice, and says how many bytes that are.
+pub(crate) fn load<R: io::Read>(reader: &mut R, rule: &mut [u8]) -> io::Result<usize>
+    ensures { IfOk result (λ n. n ≤ length rule.old) }
 {
-    read_some(reader, &mut rule[have..])
-}
-
-// Reads once, if there is room, and looks for the end of the line in what came.
-fn load_some<R: io::Read>(reader: &mut R, rule: &mut [u8], have: usize) -> Loading
-    requires { have ≤ length rule.old }
-    ensures { Loaded (length rule.old) result }
-{
-    if have == rule.len() {
-        return Loading::Whole(have);
-    }
-    let input = read_behind(reader, rule, have);
-    match input {
-        Input::Bytes(n) => {
-            let all = have + n;
-            let end = text::line_end(&rule[..all], have);
-            if end < all {
-                return Loading::Whole(end);
-            }
-            Loading::More(all)
+    let mut have = 0;
+    // nothing says that a file ends: the reads are counted
+    for _ in 0..u64::MAX {
+        if have == rule.len() {
+            return Ok(have);
         }
-        Input::End => Loading::Whole(have),
-        Input::Again => Loading::More(have),
-        Input::Failed(_) => Loading::Unreadable,
-    }
-}
-
-// Reads up to the first 0A, the end of the file or the end of the slice. The turns are counted down because a loop has to end, from a
-// number that no run uses up.
-pub(crate) fn load<R: io::Read>(reader: &mut R, rule: &mut [u8]) -> Loading
-    ensures { Loaded (length rule.old) result }
-{
-    let mut turns = u64::MAX;
-    let mut have: usize = 0;
-    while turns > 0 {
-        turns -= 1;
-        let loading = load_some(reader, rule, have);
-        match loading {
-            Loading::More(n) => {
-                have = n;
-            }
-            Loading::Whole(n) => return Loading::Whole(n),
-            Loading::Unreadable => return Loading::Unreadable,
+        let Some(n) = read_some(reader, &mut rule[have..])? else {
+            return Ok(have);
+        };
+        let all = have + n;
+        let end = line_end(&rule[..all], have);
+        if end < all {
+            return Ok(end);
         }
+        have = all;
     }
-    Loading::Unreadable
+    Err(io::Error::from(ErrorKind::TimedOut))
 }

@@ -1,10 +1,10 @@
 // The answer to one line.
-ghost use Rattle.std.specs.Prelude.{◌+◌, ◌≤◌, length};
+ghost use Rattle.std.specs.Prelude.{◌≤◌};
 ghost use Rattle.syntax.specs.Limits.{group_limit};
 ghost use Rattle.syntax.specs.Tree.{Rule};
 ghost use Rattle.machine.specs.Theorem.{Stands};
 
-use crate::proposals::{Sent, blank_at, read_bytes};
+use crate::proposals::{Malformed, read_bytes};
 use checking::{Verdict, check_held};
 use gateway_line::BUDGET;
 use gateway_text::{ANSWER_ROOM, write_exhausted, write_matched, write_refusal, write_unreadable};
@@ -104,25 +104,14 @@ pub(crate) fn answer(
     if LINE_ROOM <= line.len() {
         return put(rt, out, at, b"L\n");
     }
-    let end = blank_at(line);
-    if end == line.len() {
+    let Some(end) = line.iter().position(|byte| *byte == b' ') else {
         return put(rt, out, at, b"H\n");
-    }
-    let from = end + 1;
-    let all = line.len();
+    };
+    let subject = &line[end + 1..];
     let mut proposal = [0u8; PROPOSAL_LIMIT];
     match read_bytes(&line[..end], &mut proposal) {
-        Sent::Bytes(n) => answer_sent(
-            rt,
-            code,
-            entry,
-            groups,
-            &line[from..all],
-            &proposal[..n],
-            out,
-            at,
-        ),
-        Sent::TooLong => put(rt, out, at, b"L\n"),
-        Sent::Wrong => put(rt, out, at, b"H\n"),
+        Ok(n) => answer_sent(rt, code, entry, groups, subject, &proposal[..n], out, at),
+        Err(Malformed::TooLong) => put(rt, out, at, b"L\n"),
+        Err(Malformed::Wrong) => put(rt, out, at, b"H\n"),
     }
 }

@@ -6,23 +6,21 @@ mod answering;
 mod lines;
 mod proposals;
 
-ghost use Rattle.std.specs.Prelude.{List, ℕ, ◌≤◌, length};
-
 use answering::{RULE_AREA, put_refusal, put_unreadable};
 use frame::RULE_LIMIT;
 use gateway_line::{Readiness, prepare};
 use lines::{answer_input, write_out};
-use office::{PIECE, ROOM, Rest, next_line};
+use office::{Lines, ROOM};
 use std::fs;
 
 // One byte more than a rule may have: with so many, it is known to be too long.
 const RULE: usize = RULE_LIMIT + 1;
 
 // Answers standard input by a rule, which is compiled once for all lines, or says why it is refused.
-fn serve_or_refuse(rt: &HostRuntime, rule: &[u8], piece: &mut [u8; PIECE], out: &mut [u8; ROOM]) {
+fn serve_or_refuse(rt: &HostRuntime, rule: &[u8], out: &mut [u8; ROOM]) {
     let mut area = [0u32; RULE_AREA];
     match prepare(rule, true, &mut area) {
-        Readiness::Ready(entry, groups) => answer_input(rt, &area, entry, groups, piece, out),
+        Readiness::Ready(entry, groups) => answer_input(rt, &area, entry, groups, out),
         Readiness::Refused(f) => {
             let at = put_refusal(f, out);
             write_out(rt, out, at);
@@ -38,22 +36,13 @@ fn say_unreadable(rt: &HostRuntime, out: &mut [u8; ROOM]) {
 
 fn main(rt: HostRuntime) {
     let mut out = io::large_buffer();
-    let Ok(mut file) = fs::open(&rt, "rule.txt") else {
+    let Ok(file) = fs::open(&rt, "rule.txt") else {
         say_unreadable(&rt, &mut out);
         return;
     };
-    let mut piece = io::large_buffer();
     let mut rule = [0u8; RULE];
-    let nothing = Rest {
-        at: 0,
-        end: 0,
-        failed: None,
-    };
-    let line = next_line(&mut file, &mut piece, nothing, &mut rule, false);
-    let n = line.have;
-    if line.failed.is_some() {
-        say_unreadable(&rt, &mut out);
-        return;
+    match Lines::new(file).first(&mut rule) {
+        Ok(n) => serve_or_refuse(&rt, &rule[..n], &mut out),
+        Err(_) => say_unreadable(&rt, &mut out),
     }
-    serve_or_refuse(&rt, &rule[..n], &mut piece, &mut out);
 }

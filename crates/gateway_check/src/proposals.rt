@@ -1,76 +1,36 @@
 // A proposal in hexadecimal digits, as it stands in front of a line.
-ghost use Rattle.std.specs.Prelude.{◌≤◌, ◌<◌, length};
-ghost use Rattle.gateway_check.specs.Proposals.{ReadInto};
+ghost use Rattle.std.specs.Prelude.{◌≤◌, length, IfOk};
 
-// What was read: so many bytes; or it is too long, or has a byte that is no digit or a digit too few.
-#[derive(Drop)]
-pub enum Sent {
-    Bytes(usize),
+// Why no proposal could be read: it is too long, or has a byte that is no digit or a digit too few.
+#[derive(Clone, Copy, Debug, PartialEq, Eq)]
+pub enum Malformed {
     TooLong,
     Wrong,
 }
 
-const BLANK: u8 = 32;
-
-// What stands for a byte that is no digit.
-const NO_DIGIT: u8 = 16;
-
-// The value of a hexadecimal digit.
-fn value(b: u8) -> u8
-    ensures { result ≤ 16 }
-{
-    match b {
-        48..=57 => b - 48,
-        65..=70 => b - 55,
-        97..=102 => b - 87,
-        _ => NO_DIGIT,
-    }
-}
-
-// Where the first blank of a line stands, or its end.
-pub fn blank_at(line: &[u8]) -> usize
-    ensures { result ≤ length line.now }
-{
-    let mut i: usize = 0;
-    while i < line.len() {
-        if line[i] == BLANK {
-            return i;
-        }
-        i += 1;
-    }
-    i
-}
-
 // The byte that two digits stand for.
-fn byte_of(high: u8, low: u8) -> u8
-    requires { (high < 16) × (low < 16) }
-{
-    high * 16 + low
+fn byte_of(high: u8, low: u8) -> Option<u8> {
+    let high = char::from(high).to_digit(16)?;
+    let low = char::from(low).to_digit(16)?;
+    u8::try_from(high * 16 + low).ok()
 }
 
-// Reads digits two by two.
-pub fn read_bytes(digits: &[u8], proposal: &mut [u8]) -> Sent
-    ensures { ReadInto proposal.new result }
+// Reads digits two by two, and says how many bytes they stand for.
+pub fn read_bytes(digits: &[u8], proposal: &mut [u8]) -> Result<usize, Malformed>
+    ensures { IfOk result (λ n. n ≤ length proposal.new) }
 {
     let all = digits.len() / 2;
     if proposal.len() < all {
-        return Sent::TooLong;
+        return Err(Malformed::TooLong);
     }
     if digits.len() % 2 == 1 {
-        return Sent::Wrong;
+        return Err(Malformed::Wrong);
     }
-    let mut i: usize = 0;
-    while i < all {
-        let high = value(digits[2 * i]);
-        let low = value(digits[2 * i + 1]);
-        if NO_DIGIT <= high {
-            return Sent::Wrong;
-        }
-        if NO_DIGIT <= low {
-            return Sent::Wrong;
-        }
-        proposal[i] = byte_of(high, low);
-        i += 1;
+    for i in 0..all {
+        let Some(byte) = byte_of(digits[2 * i], digits[2 * i + 1]) else {
+            return Err(Malformed::Wrong);
+        };
+        proposal[i] = byte;
     }
-    Sent::Bytes(all)
+    Ok(all)
 }

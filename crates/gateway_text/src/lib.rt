@@ -37,13 +37,9 @@ fn write_spans(row: &[u32], groups: u32, out: &mut [u8], at: usize) -> usize
     requires { (row_length ≤ length row.now) × (groups ≤ group_limit) × (at + span_room * groups ≤ length out.old) }
     ensures { Wrote out.old at (spans row.now groups) out.new result × (result ≤ at + span_room * groups) }
 {
-    let last = groups as usize;
-    let mut i: usize = 0;
     let mut end = at;
-    while i < last {
-        i += 1;
-        let next = write_span(row[2 * i], row[2 * i + 1], out, end);
-        end = next;
+    for i in 0..groups as usize {
+        end = write_span(row[2 * i + 2], row[2 * i + 3], out, end);
     }
     end
 }
@@ -104,9 +100,7 @@ pub fn write_refusal(f: Refusal, out: &mut [u8], at: usize) -> usize
     requires { at + answer_room ≤ length out.old }
     ensures { WroteLine out.old at (refusal_line (number_of f.reason) f.place) out.new result }
 {
-    let reason = f.reason;
-    let place = f.place;
-    write_refused(u32::from(reason), place, out, at)
+    write_refused(u32::from(f.reason), f.place, out, at)
 }
 
 // The line for a file that cannot be read.

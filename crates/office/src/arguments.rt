@@ -1,8 +1,7 @@
 // What the program is started with. An argument need not be UTF-8.
-ghost use Rattle.std.specs.Prelude.{◌≤◌};
+ghost use Rattle.std.specs.Prelude.{◌≤◌, IfSome};
 ghost use Rattle.io.specs.Counts.{IsPrefixLen};
 
-use check::same;
 use std::env::{Env, FillError};
 
 // How many arguments there are, the program's name among them.
@@ -23,88 +22,84 @@ pub fn arg(rt: &HostRuntime, i: usize, buffer: &mut [u8]) -> usize
     rt.arg(i, buffer).unwrap_or(0)
 }
 
-// What an argument stands for: a number, or nothing that is allowed.
-#[derive(Drop)]
-pub enum Value {
-    Is(u32),
-    Wrong,
-}
-
-// The value of a digit, and 10 for any other byte.
-fn digit(b: u8) -> u32
-    ensures { result ≤ 10 }
-{
-    match b {
-        48..=57 => b as u32 - 48,
-        _ => 10,
-    }
-}
-
 // The decimal number that a text is, if it is one and at most a limit.
-pub fn decimal(text: &[u8], limit: u32) -> Value
-    requires { limit ≤ 100000 }
+pub fn decimal(text: &[u8], limit: u32) -> Option<u32>
+    ensures { IfSome result (λ n. n ≤ limit) }
 {
-    if text.len() == 0 {
-        return Value::Wrong;
+    if text.is_empty() {
+        return None;
     }
     let mut n: u32 = 0;
-    let mut i: usize = 0;
-    while i < text.len() {
-        let d = digit(text[i]);
-        if d == 10 {
-            return Value::Wrong;
-        }
-        n = n * 10 + d;
+    for byte in text {
+        let digit = char::from(*byte).to_digit(10)?;
+        n = n.checked_mul(10)?.checked_add(digit)?;
         if limit < n {
-            return Value::Wrong;
+            return None;
         }
-        i += 1;
     }
-    Value::Is(n)
+    Some(n)
+}
+
+// The flag that a letter stands for.
+fn flag(letter: u8) -> Option<u32> {
+    match letter {
+        b's' => Some(1),
+        b'm' => Some(2),
+        b'i' => Some(4),
+        b'x' => Some(8),
+        b'D' => Some(16),
+        _ => None,
+    }
 }
 
 // The flags that letters stand for.
-fn letters(text: &[u8]) -> Value {
-    let mut flags: u32 = 0;
-    let mut i: usize = 0;
-    while i < text.len() {
-        if text[i] == b's' {
-            flags = flags | 1;
-        } else if text[i] == b'm' {
-            flags = flags | 2;
-        } else if text[i] == b'i' {
-            flags = flags | 4;
-        } else if text[i] == b'x' {
-            flags = flags | 8;
-        } else if text[i] == b'D' {
-            flags = flags | 16;
-        } else {
-            return Value::Wrong;
-        }
-        i += 1;
+fn letters(text: &[u8]) -> Option<u32> {
+    let mut flags = 0;
+    for letter in text {
+        flags |= flag(*letter)?;
     }
-    Value::Is(flags)
+    Some(flags)
 }
 
 // Flags: a number from 0 to 31, letters out of `s`, `m`, `i`, `x` and `D`, or `-` for none.
-pub fn flags(text: &[u8]) -> Value {
-    if text.len() == 0 {
-        return Value::Wrong;
+pub fn flags(text: &[u8]) -> Option<u32> {
+    match text {
+        b"" => None,
+        b"-" => Some(0),
+        _ => decimal(text, 31).or(letters(text)),
     }
-    if text.len() == 1 {
-        if text[0] == b'-' {
-            return Value::Is(0);
-        }
+}
+
+// The flags that an argument stands for; where it is missing, none.
+pub fn flags_at(rt: &HostRuntime, argument: usize) -> Option<u32> {
+    let mut text = io::buffer();
+    match rt.arg(argument, &mut text) {
+        Ok(n) => flags(&text[..n]),
+        Err(FillError::NotPresent) => Some(0),
+        Err(FillError::TooLong) => None,
     }
-    match decimal(text, 31) {
-        Value::Is(n) => Value::Is(n),
-        Value::Wrong => letters(text),
+}
+
+// The budget that an argument stands for; where it is missing, the largest.
+pub fn budget_at(rt: &HostRuntime, argument: usize, largest: u32) -> Option<u32>
+    ensures { IfSome result (λ n. n ≤ largest) }
+{
+    let mut text = io::buffer();
+    match rt.arg(argument, &mut text) {
+        Ok(n) => decimal(&text[..n], largest),
+        Err(FillError::NotPresent) => Some(largest),
+        Err(FillError::TooLong) => None,
     }
+}
+
+// Whether an argument is this word.
+pub fn is_word(rt: &HostRuntime, argument: usize, word: &[u8]) -> bool {
+    let mut text = io::buffer();
+    let n = arg(rt, argument, &mut text);
+    &text[..n] == word
 }
 
 // Whether the arguments begin with the word that asks for a page.
 pub fn asks_for_page(rt: &HostRuntime) -> bool {
-    let mut text = io::buffer();
-    let n = arg(rt, 1, &mut text);
-    same(&text[..n], b"--page")
+    is_word(rt, 1, b"--page")
 }

@@ -1,15 +1,19 @@
-// What the office programs share: what they are started with, lines of a file that is read in large pieces, a buffer for what they write, messages, and
-// why a rule or a card is refused.
+// What the office programs share: what they are started with, files and their lines, a buffer for what they write, what they count, messages, and why a
+// rule or a card is refused.
 #![tactic(auto)]
 
 mod arguments;
-mod input;
+mod counts;
+mod files;
+mod lines;
 mod messages;
 mod output;
 mod refusals;
 
-pub use arguments::{Value, arg, arg_count, asks_for_page, decimal, flags};
-pub use input::{Line, PIECE, Rest, next_line, no_text, open, unnamed};
-pub use messages::{fail, say, say_number, say_progress};
-pub use output::{CLOSED, ROOM, flush, put, put_number};
+pub use arguments::{arg, arg_count, asks_for_page, budget_at, decimal, flags, flags_at, is_word};
+pub use counts::{Counts, count};
+pub use files::{open, path_at, read_rule};
+pub use lines::{CutShort, Lines};
+pub use messages::{fail, fail_at, say, say_progress};
+pub use output::{CLOSED, ROOM, Told, flush, put, put_number};
 pub use refusals::say_refusal;

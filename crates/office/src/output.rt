@@ -1,4 +1,5 @@
 // What a program writes: a report or a table, through a buffer that goes to standard output in large pieces.
+use std::io::{Error, ErrorKind};
 use text::append;
 
 // The room of the buffer.
@@ -46,4 +47,37 @@ pub fn put_number(
     let p = put(rt, out, at, before);
     let q = put(rt, out, p, &digits[..k]);
     put(rt, out, q, behind)
+}
+
+// How the telling of lines ended: how many bytes wait to be written out, and why the file could not be read to its end, if so.
+#[derive(Drop)]
+pub struct Told {
+    pub at: usize,
+    pub failed: Option<Error>,
+}
+
+impl Told {
+    // All lines were told, or nothing can be written any more.
+    pub fn ended(at: usize) -> Told {
+        Told { at, failed: None }
+    }
+
+    // The file could not be read: what was told is written out before the message that says so.
+    pub fn broken_off(rt: &HostRuntime, why: Error, out: &[u8; ROOM], at: usize) -> Told {
+        if flush(rt, out, at) {
+            return Told {
+                at: 0,
+                failed: Some(why),
+            };
+        }
+        Told::ended(CLOSED)
+    }
+
+    // The lines were counted to their end, which no file reaches.
+    pub fn endless(at: usize) -> Told {
+        Told {
+            at,
+            failed: Some(Error::from(ErrorKind::TimedOut)),
+        }
+    }
 }

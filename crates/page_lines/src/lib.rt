@@ -4,10 +4,12 @@
 // a day's lines. Each line is judged as the program does that writes the page; what is shown of it is the same.
 #![tactic(auto)]
 
-mod counts;
-mod lines;
+mod counted;
+mod job;
+mod judging;
+mod shown_lines;
 mod shown_parts;
 mod whole;
 
-pub use lines::{LINE, RESULT_AREA, RULE_AREA, Setting, WORK_AREA};
+pub use job::{Job, LINE, RESULT_AREA, RULE_AREA, Table, WORK_AREA};
 pub use whole::write_page;

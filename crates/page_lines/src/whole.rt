@@ -1,216 +1,140 @@
 // The page as a whole: what stands above its lines, the lines, and its end.
-ghost use Rattle.std.specs.Prelude.{◌≤◌, length};
-ghost use Rattle.syntax.specs.Limits.{group_limit};
 ghost use Rattle.page_lines.specs.Rules.{Holds};
 
-use crate::counts::{AMBIGUOUS, EXHAUSTED, KINDS, LINES, MATCHED, TOO_LONG, UNDECIDED, UNMATCHED};
-use crate::lines::{RESULT_AREA, RULE_AREA, Setting, WORK_AREA, take_lines};
-use frame::NAME_INDEX_NEED;
-use office::{CLOSED, PIECE, ROOM, fail, flush, say};
+use crate::counted::count_lines;
+use crate::job::{Job, RESULT_AREA, Table, WORK_AREA};
+use crate::judging::program;
+use crate::shown_lines::show_lines;
+use office::{CLOSED, Counts, Lines, ROOM, fail_at, flush};
 use page::{put_columns, put_counts, put_head, put_legend, put_note, put_rule, put_tail};
 use std::fs::File;
-use std::io::{Seek, SeekFrom};
-
-// Says which program it is that has something to say.
-fn say_program(rt: &HostRuntime, by_fields: bool) {
-    if by_fields {
-        say(rt, b"fields");
-    } else {
-        say(rt, b"readings");
-    }
-}
+use std::io::Error;
 
 // By which columns lines are judged, if they are.
 fn put_judged(
     rt: &HostRuntime,
     out: &mut [u8; ROOM],
     at: usize,
-    setting: Setting,
-    columns: &[u8; NAME_INDEX_NEED],
-) -> usize
-    requires { setting.count ≤ group_limit }
-{
-    if setting.by_fields {
-        return put_columns(rt, out, at, columns, setting.count);
+    table: Option<Table<'_>>,
+) -> usize {
+    match table {
+        Some(table) => put_columns(rt, out, at, table.columns, table.count),
+        None => at,
     }
-    at
 }
 
 // The page up to its lines.
 fn put_opening(
     rt: &HostRuntime,
-    rule: &[u8],
-    setting: Setting,
-    columns: &[u8; NAME_INDEX_NEED],
-    names: &[u8; NAME_INDEX_NEED],
-    counts: &[u64; KINDS],
+    job: Job<'_>,
+    table: Option<Table<'_>>,
+    counts: Counts,
     out: &mut [u8; ROOM],
-) -> usize
-    requires { setting.count ≤ group_limit }
-{
+) -> usize {
+    let by_fields = table.is_some();
     let mut p = put_head(rt, out, 0);
     p = put_counts(
         rt,
         out,
         p,
-        setting.by_fields,
-        counts[LINES],
-        counts[MATCHED],
-        counts[AMBIGUOUS],
-        counts[UNDECIDED],
-        counts[UNMATCHED],
-        counts[EXHAUSTED],
-        counts[TOO_LONG],
+        by_fields,
+        counts.lines,
+        counts.once,
+        counts.ambiguous,
+        counts.undecided,
+        counts.unmatched,
+        counts.exhausted,
+        counts.too_long,
     );
-    p = put_rule(rt, out, p, rule, setting.flags, setting.budget);
-    p = put_legend(rt, out, p, names, setting.groups);
-    p = put_judged(rt, out, p, setting, columns);
-    put_note(
-        rt,
-        out,
-        p,
-        setting.by_fields,
-        counts[LINES],
-        counts[MATCHED],
-    )
+    p = put_rule(rt, out, p, job.rule, job.flags, job.budget);
+    p = put_legend(rt, out, p, job.names, job.groups);
+    p = put_judged(rt, out, p, table);
+    put_note(rt, out, p, by_fields, counts.lines, counts.once)
 }
 
-// Writes out what waits in the buffer.
-fn flush_all(rt: &HostRuntime, out: &[u8; ROOM], at: usize) -> bool {
-    flush(rt, out, at)
+// Says why the lines could not be read to their end.
+fn say_cut_short(rt: &HostRuntime, table: Option<Table<'_>>, why: Error) {
+    let what = b"the lines could not be read to their end";
+    fail_at(rt, program(table), what, why);
 }
 
-// Counts the lines of a file. It says whether they could be read to their end, and can be read again.
-fn count_lines(
+// Counts the lines of a file, if they can be read to their end, and again. Where that cannot be, it is said why.
+fn count_first(
     rt: &HostRuntime,
-    file: &mut File,
-    rule: &[u8],
-    area: &[u32; RULE_AREA],
-    setting: Setting,
-    columns: &[u8; NAME_INDEX_NEED],
-    names: &[u8; NAME_INDEX_NEED],
-    standing: &[u8],
-    piece: &mut [u8; PIECE],
+    lines: &mut Lines<File>,
+    job: Job<'_>,
+    table: Option<Table<'_>>,
     work: &mut [u32; WORK_AREA],
     results: &mut [u32; RESULT_AREA],
-    counts: &mut [u64; KINDS],
-    out: &mut [u8; ROOM],
-) -> bool
-    requires holds { Holds area.now setting.entry setting.budget × (setting.count ≤ group_limit) }
-    requires rule_len_bound { length rule.now ≤ 1001 }
+) -> Option<Counts>
+    requires { Holds job.area.now job.entry job.budget }
 {
     // before the lines are counted, which may take long
-    if let Err(e) = file.seek(SeekFrom::Start(0)) {
-        say_program(rt, setting.by_fields);
-        fail(rt, b": a page needs lines that can be read twice", e);
-        return false;
+    if let Err(why) = lines.rewind() {
+        let what = b"a page needs lines that can be read twice";
+        fail_at(rt, program(table), what, why);
+        return None;
     }
-    let told = take_lines(
-        rt, file, false, rule, area, setting, columns, names, standing, piece, work, results,
-        counts, out,
-    );
-    if let Some(e) = told.failed {
-        say_program(rt, setting.by_fields);
-        fail(rt, b": the lines could not be read to their end", e);
-        return false;
+    match count_lines(rt, lines, job, table, work, results) {
+        Ok(counts) => {
+            lines.rewind().ok()?;
+            Some(counts)
+        }
+        Err(why) => {
+            say_cut_short(rt, table, why);
+            None
+        }
     }
-    file.seek(SeekFrom::Start(0)).is_ok()
 }
 
 // Shows the lines that need a person, and ends the page. It says whether the page could be written.
-fn show_lines(
+fn show_and_end(
     rt: &HostRuntime,
-    file: &mut File,
-    rule: &[u8],
-    area: &[u32; RULE_AREA],
-    setting: Setting,
-    columns: &[u8; NAME_INDEX_NEED],
-    names: &[u8; NAME_INDEX_NEED],
-    standing: &[u8],
-    piece: &mut [u8; PIECE],
+    lines: &mut Lines<File>,
+    job: Job<'_>,
+    table: Option<Table<'_>>,
     work: &mut [u32; WORK_AREA],
     results: &mut [u32; RESULT_AREA],
     counted: u64,
     out: &mut [u8; ROOM],
 ) -> bool
-    requires holds { Holds area.now setting.entry setting.budget × (setting.count ≤ group_limit) }
-    requires rule_len_bound { length rule.now ≤ 1001 }
+    requires { Holds job.area.now job.entry job.budget }
 {
-    let mut again = [0u64; KINDS];
-    let told = take_lines(
-        rt, file, true, rule, area, setting, columns, names, standing, piece, work, results,
-        &mut again, out,
-    );
-    if told.at == CLOSED {
+    let shown = show_lines(rt, lines, job, table, work, results, out);
+    if shown.told.at == CLOSED {
         return false;
     }
-    if let Some(e) = told.failed {
-        say_program(rt, setting.by_fields);
-        fail(rt, b": the lines could not be read to their end", e);
+    if let Some(why) = shown.told.failed {
+        say_cut_short(rt, table, why);
     }
-    if again[LINES] != counted {
-        say_program(rt, setting.by_fields);
-        say(rt, b": the lines changed while the page was written\n");
+    if shown.lines != counted {
+        let name = program(table);
+        let _ = eprintln!(rt; "{name}: the lines changed while the page was written");
     }
-    let end = put_tail(rt, out, told.at, counted, again[LINES]);
+    let end = put_tail(rt, out, shown.told.at, counted, shown.lines);
     flush(rt, out, end)
 }
 
-// Writes a page of the lines of a file, with a rule that stands compiled. It says whether all of it could be written.
+// Writes a page of the lines of a file, with a rule that stands compiled: judged by the columns of a table, or by all their readings. It says whether all
+// of it could be written.
 pub fn write_page(
     rt: &HostRuntime,
-    file: &mut File,
-    rule: &[u8],
-    area: &[u32; RULE_AREA],
-    setting: Setting,
-    columns: &[u8; NAME_INDEX_NEED],
-    names: &[u8; NAME_INDEX_NEED],
-    standing: &[u8],
-    piece: &mut [u8; PIECE],
+    lines: &mut Lines<File>,
+    job: Job<'_>,
+    table: Option<Table<'_>>,
     work: &mut [u32; WORK_AREA],
     results: &mut [u32; RESULT_AREA],
 ) -> bool
-    requires holds { Holds area.now setting.entry setting.budget × (setting.count ≤ group_limit) }
-    requires rule_len_bound { length rule.now ≤ 1001 }
+    requires { Holds job.area.now job.entry job.budget }
 {
-    let mut counts = [0u64; KINDS];
     let mut out = io::large_buffer();
-    let counted = count_lines(
-        rt,
-        file,
-        rule,
-        area,
-        setting,
-        columns,
-        names,
-        standing,
-        piece,
-        work,
-        results,
-        &mut counts,
-        &mut out,
-    );
-    // nothing is written, and why was said
-    if !counted {
+    let Some(counts) = count_first(rt, lines, job, table, work, results) else {
+        // nothing is written, and why was said
         return true;
-    }
-    let opened = put_opening(rt, rule, setting, columns, names, &counts, &mut out);
-    if !flush_all(rt, &out, opened) {
+    };
+    let opened = put_opening(rt, job, table, counts, &mut out);
+    if !flush(rt, &out, opened) {
         return false;
     }
-    show_lines(
-        rt,
-        file,
-        rule,
-        area,
-        setting,
-        columns,
-        names,
-        standing,
-        piece,
-        work,
-        results,
-        counts[LINES],
-        &mut out,
-    )
+    show_and_end(rt, lines, job, table, work, results, counts.lines, &mut out)
 }

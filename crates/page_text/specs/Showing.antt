@@ -3,7 +3,8 @@
 -- docs/REFERENCE.md, 19.5
 use Rattle.std.specs.Prelude.{List, [], ◌∷◌, ◌++◌, ℕ, ◌/◌, ◌%◌, eqb, if◌then◌else◌}
 use Rattle.syntax.specs.Read.{bytes}
-use Rattle.fields_text.specs.Escaping.{hex_digit, is_plain}
+use Rattle.text.specs.Numbers.{hex_digit}
+use Rattle.fields_text.specs.Escaping.{is_plain}
 
 -- A byte by its number, between ‹ and ›, which no byte is shown as: so a backslash, of which rules are full, stands for itself.
 unfoldable pub numbered : ℕ → List ℕ

@@ -8,8 +8,7 @@ ghost use Rattle.std.specs.Prelude.{◌≡◌, ◌+◌, ◌*◌, ◌≤◌, leng
 ghost use Rattle.fields_text.specs.Promises.{WroteUpTo};
 ghost use Rattle.page_text.specs.Showing.{numbered, show, shown};
 
-use fields_text::hex_digit;
-use text::{append, append_byte};
+use text::{append, append_byte, hex_digit};
 
 // The bytes that are written for one byte, at most.
 pub const SHOWN_ROOM: usize = 16;
@@ -30,28 +29,15 @@ fn write_byte(byte: u8, out: &mut [u8], at: usize) -> usize
     requires { at + 16 ≤ length out.old }
     ensures { WroteUpTo 16 out.old at (show byte) out.new result }
 {
-    if byte == 60 {
-        return append(out, at, b"&lt;");
+    match byte {
+        b'<' => append(out, at, b"&lt;"),
+        b'>' => append(out, at, b"&gt;"),
+        b'&' => append(out, at, b"&amp;"),
+        b'"' => append(out, at, b"&quot;"),
+        b'\'' => append(out, at, b"&#39;"),
+        b' '..=b'~' => append_byte(out, at, byte),
+        _ => write_numbered(byte, out, at),
     }
-    if byte == 62 {
-        return append(out, at, b"&gt;");
-    }
-    if byte == 38 {
-        return append(out, at, b"&amp;");
-    }
-    if byte == 34 {
-        return append(out, at, b"&quot;");
-    }
-    if byte == 39 {
-        return append(out, at, b"&#39;");
-    }
-    if byte < 32 {
-        return write_numbered(byte, out, at);
-    }
-    if 126 < byte {
-        return write_numbered(byte, out, at);
-    }
-    append_byte(out, at, byte)
 }
 
 // Writes a text as it is shown.
@@ -59,12 +45,9 @@ pub fn write_shown(text: &[u8], out: &mut [u8], at: usize) -> usize
     requires { at + 16 * length text.now ≤ length out.old }
     ensures { WroteUpTo (16 * length text.now) out.old at (shown text.now) out.new result }
 {
-    let mut i: usize = 0;
     let mut end = at;
-    while i < text.len() {
-        let next = write_byte(text[i], out, end);
-        end = next;
-        i += 1;
+    for b in text {
+        end = write_byte(*b, out, end);
     }
     end
 }

@@ -5,12 +5,12 @@ ghost use Rattle.propose.specs.Rules.{Holds};
 use finding::{Outcome, match_held};
 use frame::{BUDGET_LIMIT, SUBJECT_LIMIT};
 use index::ROW_LENGTH;
-use office::{CLOSED, PIECE, ROOM, Rest, flush, next_line, put, put_number};
+use office::{CLOSED, Lines, ROOM, Told, put, put_number};
 use proposing::{Proposal, Unmade, propose_held};
 use std::fs::File;
-use std::io::{Error, ErrorKind};
 
 // What is lent to the calls: 16 numbers for each step of the largest budget, and of a proposal two bytes of start and one for each of those steps.
+// They are arrays: with a `Vec` the program could find no memory, and would say so, where what it says may not change.
 pub const RULE_AREA: usize = frame::RULE_AREA_NEED;
 
 pub const WORK_AREA: usize = frame::WORK_PER_STEP * BUDGET_LIMIT as usize;
@@ -27,25 +27,13 @@ pub struct Setting {
     pub budget: u32,
 }
 
-// A hexadecimal digit.
-fn digit(n: u8) -> u8
-    requires { n < 16 }
-{
-    if n < 10 {
-        return 48 + n;
-    }
-    87 + n
-}
-
 // Bytes in hexadecimal digits.
 fn put_bytes(rt: &HostRuntime, out: &mut [u8; ROOM], at: usize, bytes: &[u8]) -> usize {
     let mut p = at;
-    let mut i: usize = 0;
-    while i < bytes.len() {
-        let b = bytes[i];
-        let pair = [digit(b / 16), digit(b % 16)];
-        p = put(rt, out, p, &pair);
-        i += 1;
+    for byte in bytes {
+        let mut pair = [0u8; 16];
+        let n = io::hex(u64::from(*byte), 2, &mut pair);
+        p = put(rt, out, p, &pair[..n]);
     }
     p
 }
@@ -114,20 +102,12 @@ fn tell_line(
     }
 }
 
-// How the telling of lines ended: how many bytes wait to be written out, and why the file could not be read to its end, if so.
-#[derive(Drop)]
-pub struct Told {
-    pub at: usize,
-    pub failed: Option<Error>,
-}
-
 // Tells of all lines of a file, up to its end or to where nothing can be written any more.
 pub(crate) fn tell_lines(
     rt: &HostRuntime,
-    file: &mut File,
+    lines: &mut Lines<File>,
     area: &[u32; RULE_AREA],
     setting: Setting,
-    piece: &mut [u8; PIECE],
     work: &mut [u32; WORK_AREA],
     ways: &mut [u8; CHOICES],
     proposal: &mut [u8; CHOICES],
@@ -136,62 +116,30 @@ pub(crate) fn tell_lines(
     requires { Holds area.now setting.entry setting.budget }
 {
     let mut line = [0u8; LINE];
-    let mut rest = Rest {
-        at: 0,
-        end: 0,
-        failed: None,
-    };
     let mut at: usize = 0;
     // nothing says that a file ends: the lines are counted
-    let mut number: u64 = 0;
-    while number < 18446744073709551615 {
-        let next = next_line(file, piece, rest, &mut line, true);
-        let n = next.have;
-        if next.failed.is_some() {
-            // what was told comes before the message that says what failed
-            if flush(rt, out, at) {
-                return Told {
-                    at: 0,
-                    failed: next.failed,
-                };
+    for number in 1..u64::MAX {
+        match lines.next(&mut line) {
+            Ok(Some(n)) => {
+                at = tell_line(
+                    rt,
+                    number,
+                    area,
+                    setting,
+                    &line[..n],
+                    work,
+                    ways,
+                    proposal,
+                    out,
+                    at,
+                );
             }
-            return Told {
-                at: CLOSED,
-                failed: None,
-            };
-        }
-        if next.last {
-            if n == 0 {
-                return Told { at, failed: None };
-            }
-        }
-        number += 1;
-        at = tell_line(
-            rt,
-            number,
-            area,
-            setting,
-            &line[..n],
-            work,
-            ways,
-            proposal,
-            out,
-            at,
-        );
-        if next.last {
-            return Told { at, failed: None };
+            Ok(None) => return Told::ended(at),
+            Err(cut) => return Told::broken_off(rt, cut.why, out, at),
         }
         if at == CLOSED {
-            return Told { at, failed: None };
+            return Told::ended(at);
         }
-        rest = Rest {
-            at: next.at,
-            end: next.end,
-            failed: None,
-        };
     }
-    Told {
-        at,
-        failed: Some(Error::from(ErrorKind::TimedOut)),
-    }
+    Told::endless(at)
 }

@@ -1,11 +1,10 @@
 // What is said of a line that has readings, or may have some.
 ghost use Rattle.std.specs.Prelude.{◌≤◌, length};
 
-use crate::counts::{AMBIGUOUS, DOTTED, EXHAUSTED, KINDS, MANY, ONCE, UNSETTLED, count};
 use frame::NAME_INDEX_NEED;
 use index::ROW_LENGTH;
 use listing::Listing;
-use office::{ROOM, put, put_number};
+use office::{Counts, ROOM, count, put, put_number};
 use report_line::put_line;
 
 // How many readings there are, between two texts.
@@ -34,12 +33,12 @@ fn show(
     line: &[u8],
     results: &[u32],
     rows: usize,
-    counts: &mut [u64; KINDS],
+    counts: &mut Counts,
 ) -> usize
     requires { length line.now ≤ 65536 }
 {
     if report::is_odd(line) {
-        count(counts, DOTTED);
+        count(&mut counts.dotted);
     }
     // a listing has written as many rows as it says, so that this does not happen
     if results.len() / ROW_LENGTH < rows {
@@ -51,11 +50,7 @@ fn show(
 
 // Whether a listing is complete, and has no readings.
 pub(crate) fn is_unmatched(listing: Listing) -> bool {
-    match listing {
-        Listing::Complete(rows, _) => rows == 0,
-        Listing::Full(_, _) => false,
-        Listing::Exhausted(_, _, _) => false,
-    }
+    matches!(listing, Listing::Complete(0, _))
 }
 
 // A listing that is complete, with one reading or more. One is as it should be, and is not shown.
@@ -68,16 +63,16 @@ fn tell_complete(
     line: &[u8],
     results: &[u32],
     rows: usize,
-    counts: &mut [u64; KINDS],
+    counts: &mut Counts,
 ) -> usize
     requires { length line.now ≤ 65536 }
 {
     let p = put_readings(rt, out, at, b"", rows, b"\n");
     if rows == 1 {
-        count(counts, ONCE);
+        count(&mut counts.once);
         return p;
     }
-    count(counts, AMBIGUOUS);
+    count(&mut counts.ambiguous);
     show(rt, out, p, margin, names, line, results, rows, counts)
 }
 
@@ -92,7 +87,7 @@ pub(crate) fn tell(
     line: &[u8],
     results: &[u32],
     listing: Listing,
-    counts: &mut [u64; KINDS],
+    counts: &mut Counts,
 ) -> usize
     requires { length line.now ≤ 65536 }
 {
@@ -101,15 +96,15 @@ pub(crate) fn tell(
             rt, out, at, margin, names, line, results, rows, counts,
         ),
         Listing::Full(rows, _) => {
-            count(counts, AMBIGUOUS);
-            count(counts, MANY);
+            count(&mut counts.ambiguous);
+            count(&mut counts.many);
             let p = put_readings(rt, out, at, b"more than ", rows, b", the first are shown\n");
             show(rt, out, p, margin, names, line, results, rows, counts)
         }
         Listing::Exhausted(start, rows, _) => {
-            count(counts, EXHAUSTED);
+            count(&mut counts.exhausted);
             if 1 < rows {
-                count(counts, UNSETTLED);
+                count(&mut counts.unsettled);
             }
             let p = put_number(rt, out, at, b"exhausted at start ", start as u64, b", ");
             let q = put_readings(rt, out, p, b"", rows, b" until then\n");

@@ -20,10 +20,8 @@ fn sign(mark: u8, from: u64, to: u64, column: u64) -> u8
 pub fn mark(with: u8, from: u32, to: u32, column: u32, out: &mut [u8])
     ensures { out.new ≡ marks with from to column (length out.old) }
 {
-    let mut i: usize = 0;
-    while i < out.len() {
+    for i in 0..out.len() {
         out[i] = sign(with, from as u64, to as u64, column as u64 + i as u64);
-        i += 1;
     }
 }
 

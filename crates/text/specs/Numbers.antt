@@ -1,6 +1,6 @@
 -- Numbers as text.
 -- docs/REFERENCE.md, 19.1
-use Rattle.std.specs.Prelude.{List, [], ◌∷◌, ◌++◌, cond, ℕ, zero, suc, ◌+◌, ◌/◌, ◌%◌, ltb}
+use Rattle.std.specs.Prelude.{List, [], ◌∷◌, ◌++◌, cond, ℕ, zero, suc, ◌+◌, ◌/◌, ◌%◌, ltb, if◌then◌else◌}
 
 -- the ASCII code of a decimal digit
 abbrev pub digit : ℕ → ℕ
@@ -15,3 +15,7 @@ decimal_within (suc tenths) n = cond (ltb n 10) (digit n ∷ []) (decimal_within
 -- the decimal digits of a number, with no zero in front
 unfoldable pub decimal : ℕ → List ℕ
 decimal n = decimal_within n n
+
+-- `0` to `9`, then `A` to `F`
+unfoldable pub hex_digit : ℕ → ℕ
+hex_digit d = if ltb d 10 then 48 + d else 55 + d

@@ -4,10 +4,10 @@
 ghost use Rattle.std.specs.Prelude.{◌≡◌, false, [], ◌∷◌, ◌+◌, ◌≤◌, ◌<◌, length, drop};
 ghost use Rattle.text.specs.Gathering.{Gathered};
 ghost use Rattle.text.specs.Lines.{newline, line_length};
-ghost use Rattle.text.specs.Numbers.{decimal};
+ghost use Rattle.text.specs.Numbers.{decimal, hex_digit};
 ghost use Rattle.text.specs.Writing.{Wrote};
 
-pub const NEWLINE: u8 = 10;
+pub const NEWLINE: u8 = b'\n';
 
 // the bytes that are looked at together
 const BLOCK: usize = 16;
@@ -57,14 +57,13 @@ fn skip_blocks(input: &[u8], from: usize) -> usize
 pub fn line_end(input: &[u8], from: usize) -> usize
     ensures { result ≡ from + line_length (drop from input.now) }
 {
-    let mut i = skip_blocks(input, from);
-    while i < input.len() {
+    let first = skip_blocks(input, from);
+    for i in first..input.len() {
         if input[i] == NEWLINE {
             return i;
         }
-        i += 1;
     }
-    i
+    first.max(input.len())
 }
 
 // Writes a text at a position, and answers the position behind it.
@@ -72,12 +71,9 @@ pub fn append(out: &mut [u8], at: usize, text: &[u8]) -> usize
     requires { at + length text.now ≤ length out.old }
     ensures { Wrote out.old at text.now out.new result }
 {
-    let mut i: usize = 0;
-    while i < text.len() {
-        out[at + i] = text[i];
-        i += 1;
-    }
-    at + i
+    let end = at + text.len();
+    out[at..end].copy_from_slice(text);
+    end
 }
 
 // Writes one byte.
@@ -95,10 +91,18 @@ pub fn append_number(out: &mut [u8], at: usize, n: u64) -> usize
     ensures { Wrote out.old at (decimal n) out.new result }
 {
     if n < 10 {
-        return append_byte(out, at, 48 + n as u8);
+        return append_byte(out, at, b'0' + n as u8);
     }
     let behind = append_number(out, at, n / 10);
-    append_byte(out, behind, 48 + (n % 10) as u8)
+    append_byte(out, behind, b'0' + (n % 10) as u8)
+}
+
+// A hexadecimal digit.
+pub fn hex_digit(d: u8) -> u8
+    requires { d < 16 }
+    ensures { result ≡ hex_digit d }
+{
+    if d < 10 { b'0' + d } else { b'A' + (d - 10) }
 }
 
 // Puts a piece behind the bytes of a line that are held, and answers how many are held now: never more than the limit.
@@ -106,9 +110,6 @@ pub fn gather(line: &mut [u8], limit: usize, have: usize, piece: &[u8]) -> usize
     requires { (have ≤ limit) × (limit ≤ length line.old) }
     ensures { Gathered limit line.old have piece.now line.new result }
 {
-    let room = limit - have;
-    if piece.len() <= room {
-        return append(line, have, piece);
-    }
-    append(line, have, &piece[..room])
+    let fitting = (limit - have).min(piece.len());
+    append(line, have, &piece[..fitting])
 }

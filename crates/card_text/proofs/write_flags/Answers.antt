@@ -2,7 +2,7 @@
 use native.Mathlib.Omega.{arith}
 use Rattle.card_text.specs.Text.{set_lines}
 use Rattle.card_text.specs.Room.{flags_room}
-use Rattle.card_text.specs.Laws.Writing.{behind, dot_all-is, multiline-is, ignore_case-is, extended-is, depot-is, none-lined, flags-lined}
+use Rattle.card_text.specs.Laws.Writing.{behind, none-lined, flags-lined}
 use Rattle.card_text.proofs.write_flags.Goals as goal
 
 pub append-requires : goal.append-requires
@@ -36,4 +36,4 @@ pub returns : goal.returns
 unfolding flags_room set_lines
 returns c = let flags = c.args.flags in
     let w = behind (omega arith) (behind (omega arith) (behind (omega arith) (behind (omega arith) c.write_flag-s.ensures c.write_flag-m.ensures) c.write_flag-i.ensures) c.write_flag-x.ensures) c.write_flag.ensures in
-    flags-lined flags c.if-flags-eq0.false (rw (dot_all-is flags, multiline-is flags, ignore_case-is flags, extended-is flags, depot-is flags) at w) (omega arith)
+    flags-lined flags c.if-flags-eq0.false (rw (c.dot_takes_all.ensures, c.is_multiline.ensures, c.ignores_case.ensures, c.is_extended.ensures, c.in_depot.ensures) at w) (omega arith)

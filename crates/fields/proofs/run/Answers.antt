@@ -2,15 +2,11 @@
 use mathlib.Core.Path.{refl}
 use mathlib.Core.List.{[]}
 use native.Mathlib.Omega.{arith}
-use lib.ListN.{length-take}
 use Rattle.syntax.specs.Limits.{rule_area_need}
 use Rattle.frame.specs.Laws.Preparing.{is-ready}
 use Rattle.page_lines.specs.Laws.Holding.{readied-holds}
 use Rattle.fields.proofs.run.Goals as goal
 
-pub slice_bounds-look_on-end : goal.slice_bounds-look_on-end
-slice_bounds-look_on-end c = simp length-take (omega arith)
-
 pub look_on-requires : goal.look_on-requires
 unfolding rule_area_need
-look_on-requires c = (readied-holds (is-ready (c.prepare.ensures 0 [] [] refl refl) _ _ c.in-Ready.is) (omega arith), c.requires.1, c.requires.0)
+look_on-requires c = (readied-holds (is-ready (c.prepare.ensures 0 [] [] refl refl) _ c.in-Ok.is) (omega arith), c.requires.1)

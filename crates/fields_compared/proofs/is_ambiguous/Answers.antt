@@ -12,7 +12,7 @@ use Rattle.fields_compared.proofs.is_ambiguous.Goals as goal
 pub loop-i-init : goal.loop-i-init
 loop-i-init c = let e : c.args.rows - 0 ≡ c.args.rows = omega arith in
     let z : 0 * row_length ≡ 0 = omega arith in
-    (omega arith, rw (e, z))
+    rw (e, z)
 
 pub overflow_mul-from : goal.overflow_mul-from
 unfolding row_length spans_length group_limit
@@ -50,16 +50,16 @@ unfolding row_length
 returns-then-is_other c = let a = c.args in
     let l = c.loop-i in
     let e = sym (rw (row-part l.i a.results.now) at c.is_other.ensures) ∙ c.if-is_other.true in
-    sym (l.invariant.1 ∙ ambiguous-here a.names.now a.line.now a.standing.now (names_from a.columns.now 0 a.count) a.x.now a.results.now l.i a.rows (omega arith) e)
+    sym (l.invariant ∙ ambiguous-here a.names.now a.line.now a.standing.now (names_from a.columns.now 0 a.count) a.x.now a.results.now l.i a.rows (omega arith) e)
 
 pub loop-i-preserved : goal.loop-i-preserved
 unfolding row_length
 loop-i-preserved c = let a = c.args in
     let l = c.loop-i in
     let e = sym (rw (row-part l.i a.results.now) at c.is_other.ensures) ∙ c.if-is_other.false in
-    (omega arith, rw (add-one l.i) (l.invariant.1 ∙ ambiguous-on a.names.now a.line.now a.standing.now (names_from a.columns.now 0 a.count) a.x.now a.results.now l.i a.rows (omega arith) e))
+    rw (add-one l.i) (l.invariant ∙ ambiguous-on a.names.now a.line.now a.standing.now (names_from a.columns.now 0 a.count) a.x.now a.results.now l.i a.rows (omega arith) e)
 
 pub returns : goal.returns
 returns c = let a = c.args in
     let l = c.loop-i in
-    sym (l.invariant.1 ∙ ambiguous-none a.names.now a.line.now a.standing.now (names_from a.columns.now 0 a.count) a.x.now a.results.now l.i a.rows (omega arith))
+    sym (l.invariant ∙ ambiguous-none a.names.now a.line.now a.standing.now (names_from a.columns.now 0 a.count) a.x.now a.results.now l.i a.rows (omega arith))

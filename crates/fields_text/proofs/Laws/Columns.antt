@@ -5,8 +5,8 @@ use Rattle.std.specs.Prelude.{◌≡◌, refl, List, [], ◌∷◌, ◌++◌, Bo
 use Rattle.std.proofs.Common.{ap, ◌∙◌, arith, ne_eqb}
 use Rattle.syntax.specs.Read.{bytes}
 use Rattle.text.specs.Lines.{newline}
-use Rattle.text.specs.Numbers.{digit, decimal_within, decimal}
-use Rattle.fields_text.specs.Escaping.{hex_digit, hexed, escape, escaped}
+use Rattle.text.specs.Numbers.{hex_digit, digit, decimal_within, decimal}
+use Rattle.fields_text.specs.Escaping.{hexed, escape, escaped}
 use Rattle.fields_text.specs.Table.{tab, cells, opening, table_row, head_line}
 use Rattle.fields_text.proofs.Laws.Cases.{Case, as_tab, as_newline, as_return, as_backslash, as_itself, as_hex, case-of}
 

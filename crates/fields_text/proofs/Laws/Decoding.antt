@@ -3,7 +3,8 @@
 use Rattle.std.specs.Prelude.{◌≡◌, refl, List, [], ◌∷◌, ◌++◌, Bool, true, false, ℕ, ◌+◌, ◌-◌, ◌*◌, ◌/◌, ◌%◌, ◌≤◌, ◌<◌, ltb, eqb, length, get_or, drop, if◌then◌else◌}
 use Rattle.std.proofs.Common.{sym, ap, ◌∙◌, arith, ne_eqb, lt-ltb, le-ltb, ltb-true, ltb-false, length-append}
 use Rattle.syntax.specs.Read.{is}
-use Rattle.fields_text.specs.Escaping.{hex_digit, hexed, escape, escaped}
+use Rattle.text.specs.Numbers.{hex_digit}
+use Rattle.fields_text.specs.Escaping.{hexed, escape, escaped}
 use Rattle.fields_text.proofs.Laws.Cases.{Case, as_tab, as_newline, as_return, as_backslash, as_itself, as_hex, case-of}
 
 -- the number that a hexadecimal digit stands for

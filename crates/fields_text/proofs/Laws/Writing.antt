@@ -4,11 +4,11 @@ use Rattle.std.proofs.Common.{sym, ap, ◌∙◌, append_assoc, append-nil, add-
 use native.Mathlib.Omega.{arith}
 use borrow.Author.Tests.{eq-eqb, ne_eqb, lt-leb, le-leb}
 use Rattle.syntax.specs.Read.{bytes}
-use Rattle.text.specs.Numbers.{decimal}
+use Rattle.text.specs.Numbers.{hex_digit, decimal}
 use Rattle.text.specs.Writing.{Wrote}
 use Rattle.text.specs.Laws.Numbers.{twenty_digits}
 use Rattle.text.specs.Laws.Writing.{wrote_both, wrote_nothing}
-use Rattle.fields_text.specs.Escaping.{hex_digit, hexed, is_plain, escape, escaped}
+use Rattle.fields_text.specs.Escaping.{hexed, is_plain, escape, escaped}
 use Rattle.fields_text.specs.Table.{tab, opening}
 use Rattle.fields_text.specs.Promises.{WroteUpTo}
 

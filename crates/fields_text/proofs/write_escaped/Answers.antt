@@ -1,22 +1,22 @@
--- The loop's invariant: the first i bytes are written, escaped, and took four bytes each at most.
+-- The loop's invariant: the bytes so far are written, escaped, and took four bytes each at most.
 use mathlib.Core.Path.{refl}
 use native.Mathlib.Omega.{arith}
 use Rattle.fields_text.proofs.Laws.Writing.{wrote_none, wrote_more, wrote_all}
 use Rattle.fields_text.proofs.write_escaped.Goals as goal
 
-pub loop-i-init : goal.loop-i-init
-loop-i-init c = let a = c.args in (omega arith, refl, omega arith, wrote_none a.field.now a.out.now a.at)
+pub loop-b-init : goal.loop-b-init
+loop-b-init c = let a = c.args in (refl, omega arith, wrote_none a.field.now a.out.now a.at)
 
-pub loop-i-preserved : goal.loop-i-preserved
-loop-i-preserved c = let a = c.args in
-    let l = c.loop-i in
-    let w = c.write_byte-next.ensures in
-    (omega arith, omega arith, omega (arith, w.near), wrote_more a.field.now l.i (omega arith) (omega arith) l.invariant.3 w)
+pub loop-b-preserved : goal.loop-b-preserved
+loop-b-preserved c = let a = c.args in
+    let l = c.loop-b in
+    let w = c.write_byte-end.ensures in
+    (omega arith, omega (arith, w.near), wrote_more a.field.now l.b-index (omega arith) (omega arith) l.invariant.2 w)
 
 pub shape_of-out : goal.shape_of-out
-shape_of-out c = c.loop-i.invariant.1
+shape_of-out c = c.loop-b.invariant.0
 
 pub returns : goal.returns
 returns c = let a = c.args in
-    let l = c.loop-i in
-    record { wrote = wrote_all a.field.now l.i (omega arith) l.invariant.3; near = omega arith }
+    let l = c.loop-b in
+    record { wrote = wrote_all a.field.now l.b-index (omega arith) l.invariant.2; near = omega arith }

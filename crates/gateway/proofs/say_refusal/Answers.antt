@@ -4,6 +4,6 @@ use lib.ListN.{length-take}
 use Rattle.gateway_text.specs.Limits.{answer_room}
 use Rattle.gateway.proofs.say_refusal.Goals as goal
 
-pub slice_bounds-deliver-end-2 : goal.slice_bounds-deliver-end-2
+pub slice_bounds-write_all-end-2 : goal.slice_bounds-write_all-end-2
 unfolding answer_room
-slice_bounds-deliver-end-2 c = simp length-take (omega (arith, c.write_refusal-n.ensures.near))
+slice_bounds-write_all-end-2 c = simp length-take (omega (arith, c.write_refusal-n.ensures.near))

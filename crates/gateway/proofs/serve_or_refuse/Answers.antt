@@ -3,13 +3,13 @@ use native.Mathlib.Omega.{arith}
 use Rattle.syntax.specs.Limits.{rule_area_need}
 use Rattle.gateway.proofs.serve_or_refuse.Goals as goal
 
-pub prepare-readiness-requires : goal.prepare-readiness-requires
+pub prepare-requires : goal.prepare-requires
 unfolding rule_area_need
-prepare-readiness-requires c = omega arith
+prepare-requires c = omega arith
 
 pub serve-requires : goal.serve-requires
 unfolding rule_area_need
 serve-requires c = record {
-  by_index = (_, rw c.in-Ready.is at c.prepare-readiness.ensures);
+  by_index = (_, rw c.in-Ready.is at c.prepare.ensures);
   code_len = (omega arith, omega arith);
 }

@@ -2,4 +2,4 @@
 use Rattle.gateway_text.proofs.write_refusal.Goals as goal
 
 pub returns : goal.returns
-returns c = rw c.number.ensures at c.write_refused.ensures
+returns c = rw c.from.ensures at c.write_refused.ensures

@@ -4,7 +4,7 @@
 use Rattle.std.specs.Prelude.{◌≡◌, refl, List, [], ◌∷◌, ◌++◌, Bool, true, false, not, ◌&&◌, ◌||◌, ℕ, ◌+◌, ◌/◌, ◌%◌, ◌≤◌, ◌<◌, leb, ltb, eqb, if◌then◌else◌}
 use Rattle.std.proofs.Common.{◌∙◌, arith, ne_eqb, le-leb, ltb-true, ltb-false}
 use Rattle.syntax.specs.Read.{bytes}
-use Rattle.fields_text.specs.Escaping.{hex_digit}
+use Rattle.text.specs.Numbers.{hex_digit}
 use Rattle.page_text.specs.Showing.{numbered, show, shown}
 use Rattle.page_text.proofs.Laws.Cases.{Case, as_less, as_greater, as_and, as_double, as_single, as_itself, as_number, case-of}
 

@@ -5,7 +5,8 @@ use borrow.Author.Tests.{eq-eqb, ne_eqb, lt-leb, le-leb}
 use Rattle.syntax.specs.Read.{bytes}
 use Rattle.text.specs.Writing.{Wrote}
 use Rattle.text.specs.Laws.Writing.{wrote_both, wrote_nothing}
-use Rattle.fields_text.specs.Escaping.{hex_digit, is_plain}
+use Rattle.text.specs.Numbers.{hex_digit}
+use Rattle.fields_text.specs.Escaping.{is_plain}
 use Rattle.fields_text.specs.Promises.{WroteUpTo}
 use Rattle.page_text.specs.Showing.{numbered, show, shown}
 

@@ -9,4 +9,4 @@ use Rattle.propose.proofs.run.Goals as goal
 
 pub propose_lines-requires : goal.propose_lines-requires
 unfolding rule_area_need
-propose_lines-requires c = readied-holds (is-ready (c.prepare.ensures 0 [] [] refl refl) _ _ c.in-Ready.is) (omega arith)
+propose_lines-requires c = readied-holds (is-ready (c.prepare.ensures 0 [] [] refl refl) _ c.in-Ok.is) (omega arith)

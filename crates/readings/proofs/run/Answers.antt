@@ -7,9 +7,10 @@ use Rattle.frame.specs.Laws.Preparing.{is-ready}
 use Rattle.page_lines.specs.Laws.Holding.{readied-holds}
 use Rattle.readings.proofs.run.Goals as goal
 
-pub write_report-requires : goal.write_report-requires
+pub report_as_page-requires : goal.report_as_page-requires
 unfolding rule_area_need
-write_report-requires c = record {
-  holds = readied-holds (is-ready (c.prepare.ensures 0 [] [] refl refl) _ _ c.in-Ready.is) (omega arith);
-  rule_len_bound = c.requires.0;
-}
+report_as_page-requires c = readied-holds (is-ready (c.prepare.ensures 0 [] [] refl refl) _ c.in-Ok.is) (omega arith)
+
+pub report_lines-requires : goal.report_lines-requires
+unfolding rule_area_need
+report_lines-requires c = readied-holds (is-ready (c.prepare.ensures 0 [] [] refl refl) _ c.in-Ok.is) (omega arith)

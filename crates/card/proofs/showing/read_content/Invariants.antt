@@ -1,10 +1,6 @@
-use mathlib.Core.Path.{◌≡◌}
-use Prim.Native.Nat.{◌≤◌}
-use lib.ListN.{length}
+-- What was read is within what is lent for it.
+use Rattle.std.proofs.Common.{◌≤◌, length, ◌≡◌}
 use Rattle.card.proofs.showing.read_content.Given as goal
 
-abbrev pub invariant-loop-left : goal.invariant-loop-left
-invariant-loop-left l = (length l.piece ≡ length l.initial.piece) × (length l.content ≡ length l.initial.content) × (l.have ≤ length l.initial.content)
-
-abbrev pub decreases-loop-left : goal.decreases-loop-left
-decreases-loop-left l = l.left
+abbrev pub invariant-loop : goal.invariant-loop
+invariant-loop l = (l.have ≤ length l.fn.content) × (length l.content ≡ length l.fn.content)

@@ -2,21 +2,12 @@
 use native.Mathlib.Omega.{arith}
 use Rattle.syntax.specs.Limits.{group_limit, name_limit, name_entry, name_index_need}
 use lib.ListN.{length-take}
-use borrow.Author.Rules.{rules}
 use Rattle.fields.proofs.columns.ask_for.Goals as goal
-
-pub returns-then-n-gt-NAME_LIMIT : goal.returns-then-n-gt-NAME_LIMIT
-unfolding group_limit
-returns-then-n-gt-NAME_LIMIT c = search rules
-
-pub returns-then-not-is_named : goal.returns-then-not-is_named
-unfolding group_limit
-returns-then-not-is_named c = search rules
-
-pub returns-then-count-eq-COLUMN_LIMIT : goal.returns-then-count-eq-COLUMN_LIMIT
-unfolding group_limit
-returns-then-count-eq-COLUMN_LIMIT c = search rules
 
 pub add_column-requires : goal.add_column-requires
 unfolding group_limit name_index_need name_entry name_limit
 add_column-requires c = (simp length-take (omega arith), omega arith, omega arith)
+
+pub returns : goal.returns
+unfolding group_limit
+returns c = omega (arith, c.requires, c.add_column.ensures.0)

@@ -7,10 +7,7 @@ use Rattle.fields.proofs.lines.tell_line.Goals as goal
 pub ask-word-requires : goal.ask-word-requires
 unfolding budget_limit rule_area_need work_per_step group_limit spans_length row_length name_index_need name_entry name_limit
 ask-word-requires c = record {
-  lent = holds-lent _ c.requires.0 (omega arith) (omega arith);
-  columned = record { few = omega (arith, c.requires.1); fits = omega arith };
+  lent = holds-lent _ c.requires (omega arith) (omega arith);
+  columned = record { few = omega (arith, c.args.table.few); fits = omega arith };
   row_len = omega arith;
 }
-
-pub put_row-requires : goal.put_row-requires
-put_row-requires c = c.requires.1

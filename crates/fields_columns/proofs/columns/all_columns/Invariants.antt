@@ -7,7 +7,4 @@ use Rattle.fields_columns.specs.Columns.{names_from, named}
 use Rattle.fields_columns.proofs.columns.all_columns.Given as goal
 
 abbrev pub invariant-loop-i : goal.invariant-loop-i
-invariant-loop-i l = (l.i ≤ group_limit) × (l.count ≤ l.i) × (length l.columns ≡ length l.initial.columns) × (names_from l.columns 0 l.count ++ named (names_from l.names l.i (group_limit - l.i)) ≡ named (names_from l.names 0 group_limit))
-
-abbrev pub decreases-loop-i : goal.decreases-loop-i
-decreases-loop-i l = group_limit - l.i
+invariant-loop-i l = (l.count ≤ l.i) × (length l.columns ≡ length l.initial.columns) × (names_from l.columns 0 l.count ++ named (names_from l.names l.i (group_limit - l.i)) ≡ named (names_from l.names 0 group_limit))

@@ -24,12 +24,12 @@ overflow_add-first c = omega arith
 
 pub overflow_add-end : goal.overflow_add-end
 unfolding group_limit name_index_need name_entry name_limit
-overflow_add-end c = omega (arith, c.least-size.ensures)
+overflow_add-end c = omega (arith, c.min-size.ensures)
 
 pub slice_bounds-result-end : goal.slice_bounds-result-end
 unfolding group_limit name_index_need name_entry name_limit
-slice_bounds-result-end c = omega (arith, c.least-size.ensures)
+slice_bounds-result-end c = omega (arith, c.min-size.ensures)
 
 pub returns : goal.returns
 unfolding name_entry
-returns c = let a = c.args in name-at a.columns.now a.i _ refl _ _ c.least-size.ensures refl
+returns c = let a = c.args in name-at a.columns.now a.i _ refl _ _ c.min-size.ensures refl

@@ -4,8 +4,5 @@ use lib.ListN.{length}
 use Rattle.gateway_answers.specs.Limits.{held_limit}
 use Rattle.gateway.proofs.lines.answer_input.Given as goal
 
-abbrev pub invariant-loop-turns : goal.invariant-loop-turns
-invariant-loop-turns g l = (l.have ≤ held_limit) × (length l.piece ≡ length l.initial.piece) × (length l.line ≡ length l.initial.line) × (length l.work_area ≡ length l.initial.work_area) × (length l.results ≡ length l.initial.results) × (length l.out ≡ length l.initial.out)
-
-abbrev pub decreases-loop-turns : goal.decreases-loop-turns
-decreases-loop-turns g l = l.turns
+abbrev pub invariant-loop : goal.invariant-loop
+invariant-loop g l = (l.have ≤ held_limit) × (length l.piece ≡ length l.initial.piece) × (length l.line ≡ length l.initial.line) × (length l.work_area ≡ length l.initial.work_area) × (length l.results ≡ length l.initial.results) × (length l.out ≡ length l.initial.out)

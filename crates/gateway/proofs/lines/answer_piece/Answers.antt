@@ -11,14 +11,10 @@ advance-q-requires c = let v = c.loop-at.invariant in
       at_in_bounds = (omega arith, omega arith, omega arith, omega arith);
     }
 
-pub make_room-w-requires : goal.make_room-w-requires
-make_room-w-requires c = let v = c.loop-at.invariant in
+pub make_room-requires : goal.make_room-requires
+make_room-requires c = let v = c.loop-at.invariant in
     let o = c.advance-q.ensures.onward in
     (omega arith, omega arith)
-
-pub returns-then-not-w : goal.returns-then-not-w
-returns-then-not-w c = let o = c.advance-q.ensures.onward in
-    o.fits
 
 pub loop-at-smaller : goal.loop-at-smaller
 loop-at-smaller c = let o = c.advance-q.ensures.onward in
@@ -27,10 +23,10 @@ loop-at-smaller c = let o = c.advance-q.ensures.onward in
 
 pub loop-at-preserved : goal.loop-at-preserved
 loop-at-preserved c = let o = c.advance-q.ensures.onward in
-    (o.within, o.fits, omega (arith, c.make_room-w.ensures), omega arith, omega arith, omega arith, omega arith)
+    (o.within, o.fits, omega (arith, c.in_ok-put.ensures), omega arith, omega arith, omega arith, omega arith)
 
-pub slice_bounds-deliver-end-2 : goal.slice_bounds-deliver-end-2
-slice_bounds-deliver-end-2 c = simp length-take (omega arith)
+pub slice_bounds-write_all-end-2 : goal.slice_bounds-write_all-end-2
+slice_bounds-write_all-end-2 c = simp length-take (omega arith)
 
 pub shape_of-line : goal.shape_of-line
 shape_of-line c = c.loop-at.invariant.3

@@ -8,5 +8,5 @@ pub returns-then-out-put-ge-ANSWER_ROOM : goal.returns-then-out-put-ge-ANSWER_RO
 unfolding answer_room
 returns-then-out-put-ge-ANSWER_ROOM c = omega arith
 
-pub slice_bounds-deliver-end : goal.slice_bounds-deliver-end
-slice_bounds-deliver-end c = simp length-take (omega arith)
+pub slice_bounds-write_all-end : goal.slice_bounds-write_all-end
+slice_bounds-write_all-end c = simp length-take (omega arith)

@@ -1,10 +1,6 @@
-use mathlib.Core.Path.{◌≡◌}
-use Prim.Native.Nat.{◌≤◌}
-use lib.ListN.{length}
+-- The bytes that are there fit the slice.
+use Rattle.std.proofs.Common.{◌≤◌, length, ◌≡◌}
 use Rattle.gateway.proofs.rule_file.load.Given as goal
 
-abbrev pub invariant-loop-turns : goal.invariant-loop-turns
-invariant-loop-turns g l = (l.have ≤ length l.initial.rule) × (length l.rule ≡ length l.initial.rule)
-
-abbrev pub decreases-loop-turns : goal.decreases-loop-turns
-decreases-loop-turns g l = l.turns
+abbrev pub invariant-loop : goal.invariant-loop
+invariant-loop g l = (l.have ≤ length l.fn.rule) × (length l.rule ≡ length l.fn.rule)

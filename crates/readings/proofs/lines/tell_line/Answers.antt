@@ -11,5 +11,5 @@ list_held-r-requires c = holds-held _ _ c.requires.holds (omega arith) (omega ar
 pub tell_unmatched-requires : goal.tell_unmatched-requires
 tell_unmatched-requires c = record {
   holds = c.requires.holds;
-  rule_len_bound = (c.requires.rule_len_bound.0, omega arith);
+  line_len_bound = omega arith;
 }

@@ -10,8 +10,8 @@ unfolding subject_limit budget_limit rule_area_need work_per_step
 explain_held-told-requires c = holds-held _ _ c.requires.holds (omega arith) (omega arith) (omega arith)
 
 pub put_reason-requires : goal.put_reason-requires
-put_reason-requires c = let z = told-inside c.args.area.now c.args.line.now _ _ _ _ _ c.explain_held-told.result c.requires.holds c.explain_held-told.ensures.explains c.in-NotMatched.is in
+put_reason-requires c = let z = told-inside c.args.job.area.now c.args.line.now _ _ _ _ _ c.explain_held-told.result c.requires.holds c.explain_held-told.ensures.explains c.in-NotMatched.is in
     record {
-      rule_len_bound = (c.requires.rule_len_bound.0, omega arith);
-      start_le_stop = (z.0, z.1, omega (arith, c.requires.rule_len_bound.1));
+      rule_len_bound = (omega (arith, c.args.job.rule_fits), omega arith);
+      start_le_stop = (z.0, z.1, omega (arith, c.requires.line_len_bound));
     }

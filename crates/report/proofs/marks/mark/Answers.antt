@@ -13,7 +13,7 @@ use Rattle.report.proofs.marks.mark.Goals as goal
 
 pub loop-i-init : goal.loop-i-init
 loop-i-init c = let a = c.args in
-    (omega arith, refl, paste-zero a.out.now 0 (marks a.with a.from a.to a.column (length a.out.now)))
+    (refl, paste-zero a.out.now 0 (marks a.with a.from a.to a.column (length a.out.now)))
 
 pub loop-i-preserved : goal.loop-i-preserved
 loop-i-preserved c = let l = c.loop-i in
@@ -23,15 +23,14 @@ loop-i-preserved c = let l = c.loop-i in
     let h : l.i < length out₀ = omega arith in
     let m : l.i < length ms = omega (arith, marks-length a.with a.from a.to a.column (length out₀)) in
     let e = c.sign.ensures ∙ sym (marks-at a.with a.from a.to a.column (length out₀) l.i h) in (
-      omega arith,
-      simp length-set l.invariant.1,
-      rw (e, l.invariant.2, add-one l.i) (front-more out₀ ms l.i 0 h m),
+      simp length-set l.invariant.0,
+      rw (e, l.invariant.1, add-one l.i) (front-more out₀ ms l.i 0 h m),
     )
 
 pub shape_of-out : goal.shape_of-out
-shape_of-out c = c.loop-i.invariant.1
+shape_of-out c = c.loop-i.invariant.0
 
 pub returns : goal.returns
 returns c = let a = c.args in
     let h : length a.out.now ≤ c.loop-i.i = omega arith in
-    c.loop-i.invariant.2 ∙ marks-whole a.with a.from a.to a.column a.out.now _ h
+    c.loop-i.invariant.1 ∙ marks-whole a.with a.from a.to a.column a.out.now _ h

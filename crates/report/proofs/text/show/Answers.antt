@@ -13,7 +13,7 @@ use Rattle.report.proofs.text.show.Goals as goal
 
 pub loop-i-init : goal.loop-i-init
 loop-i-init c = let a = c.args in
-    (omega arith, refl, paste-zero a.out.now 0 (shown_text a.line.now))
+    (refl, paste-zero a.out.now 0 (shown_text a.line.now))
 
 pub loop-i-preserved : goal.loop-i-preserved
 loop-i-preserved c = let l = c.loop-i in
@@ -22,17 +22,16 @@ loop-i-preserved c = let l = c.loop-i in
     let k : l.i < length out₀ = omega arith in
     let m : l.i < length (shown_text line) = omega (arith, shown-length line) in
     let e = c.shown.ensures ∙ sym (shown-at line l.i) in (
-      omega arith,
-      simp length-set l.invariant.1,
-      rw (e, l.invariant.2, add-one l.i) (front-more out₀ (shown_text line) l.i (shown_byte 0) k m),
+      simp length-set l.invariant.0,
+      rw (e, l.invariant.1, add-one l.i) (front-more out₀ (shown_text line) l.i (shown_byte 0) k m),
     )
 
 pub shape_of-out : goal.shape_of-out
-shape_of-out c = c.loop-i.invariant.1
+shape_of-out c = c.loop-i.invariant.0
 
 pub returns : goal.returns
 returns c = let a = c.args in
-    let e : c.loop-i.i ≡ c.least-count.result = omega arith in (
-      c.least-count.ensures,
-      c.loop-i.invariant.2 ∙ ap (paste a.out.now 0 (shown_text a.line.now)) e ∙ shown-whole a.line.now a.out.now c.least-count.result c.least-count.ensures,
+    let e : c.loop-i.i ≡ c.min-count.result = omega arith in (
+      c.min-count.ensures,
+      c.loop-i.invariant.1 ∙ ap (paste a.out.now 0 (shown_text a.line.now)) e ∙ shown-whole a.line.now a.out.now c.min-count.result c.min-count.ensures,
     )

@@ -1,2 +1,0 @@
--- What the contracts speak of.
-pub mod Proposals

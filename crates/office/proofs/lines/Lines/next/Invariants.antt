@@ -1,0 +1,6 @@
+-- What is gathered of the line is within its buffer.
+use Rattle.std.proofs.Common.{◌≤◌, length, ◌≡◌}
+use Rattle.office.proofs.lines.Lines.next.Given as goal
+
+abbrev pub invariant-loop : goal.invariant-loop
+invariant-loop g l = (l.have ≤ length l.fn.line) × (length l.line ≡ length l.fn.line)

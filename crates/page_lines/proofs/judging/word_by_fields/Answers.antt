@@ -1,0 +1,13 @@
+-- The rule is held, so that it can be asked; the areas are as long as their arrays.
+use native.Mathlib.Omega.{arith}
+use Rattle.syntax.specs.Limits.{budget_limit, rule_area_need, work_per_step, group_limit, spans_length, row_length, name_limit, name_entry, name_index_need}
+use Rattle.page_lines.specs.Laws.Holding.{holds-lent}
+use Rattle.page_lines.proofs.judging.word_by_fields.Goals as goal
+
+pub ask-requires : goal.ask-requires
+unfolding budget_limit rule_area_need work_per_step group_limit spans_length row_length name_index_need name_entry name_limit
+ask-requires c = record {
+  lent = holds-lent _ c.requires (omega arith) (omega arith);
+  columned = record { few = omega (arith, c.args.table.few); fits = omega arith };
+  row_len = omega arith;
+}
