@@ -62,34 +62,21 @@ fn put_spans(
     requires { shown ≤ 64 }
 {
     let mut p = at;
-    let mut i: usize = 0;
-    while 1 < rows.len() - i {
+    for i in 0..rows.len() / 2 {
         p = put_span(
             rt,
             out,
             p,
             margin,
             names,
-            i,
-            rows[i],
-            rows[i + 1],
+            2 * i,
+            rows[2 * i],
+            rows[2 * i + 1],
             column,
             shown,
         );
-        i += 2;
     }
     p
-}
-
-// How many bytes a window shows of what is left of a text.
-pub(crate) fn shown_of(rest: usize) -> usize
-    ensures { (result ≤ 64) × (result ≤ rest) }
-{
-    if rest < report::WIDTH {
-        rest
-    } else {
-        report::WIDTH
-    }
 }
 
 // The window of a text that begins at a position. It is labelled by its first column; a text of one window needs no column named.
@@ -131,7 +118,7 @@ fn put_window(
     requires { (from ≤ length line.now) × (length line.now ≤ 65536) }
 {
     let p = put_text(rt, out, at, margin, b"", b"column ", line, from);
-    let n = shown_of(line.len() - from);
+    let n = (line.len() - from).min(report::WIDTH);
     put_spans(rt, out, p, margin, names, rows, from as u32, n)
 }
 

@@ -14,30 +14,30 @@ const GROUPS: usize = syntax::GROUP_LIMIT as usize;
 // The longest label that is no name is `column 65472`.
 const LEAST_MARGIN: usize = 12;
 
-fn wide(b: u8) -> usize {
-    b as usize
-}
-
-// How long the name of the group is that so many others come before; 0 where it has none.
-fn name_length(names: &[u8; NAME_INDEX_NEED], passed: usize) -> usize
+// The name of the group that so many others come before, if it has one.
+fn name_of(names: &[u8; NAME_INDEX_NEED], passed: usize) -> Option<&[u8]>
     requires { passed < group_limit }
-    ensures { result ≤ name_limit }
 {
-    let n = wide(names[passed * NAME_ENTRY]);
+    let from = passed * NAME_ENTRY;
+    let to = from + NAME_ENTRY;
+    let entry = &names[from..to];
+    let [size, name @ ..] = entry else {
+        return None;
+    };
     // the entries of a rule hold no longer ones
-    if NAME_LIMIT < n { 0 } else { n }
+    match *size {
+        0 => None,
+        n => name.get(..n as usize),
+    }
 }
 
 // How wide the labels of a rule with these names are.
 pub fn margin_for(names: &[u8; NAME_INDEX_NEED]) -> usize {
     let mut margin = LEAST_MARGIN;
-    let mut passed: usize = 0;
-    while passed < GROUPS {
-        let n = name_length(names, passed);
-        if margin < n {
-            margin = n;
+    for passed in 0..GROUPS {
+        if let Some(name) = name_of(names, passed) {
+            margin = margin.max(name.len());
         }
-        passed += 1;
     }
     margin
 }
@@ -50,15 +50,11 @@ fn put_blanks(
     margin: usize,
     size: usize,
 ) -> usize {
-    if margin < size {
-        return at;
-    }
-    let n = margin - size;
-    if NAME_LIMIT < n {
-        return at;
-    }
     let blanks = [b' '; NAME_LIMIT];
-    put(rt, out, at, &blanks[..n])
+    match blanks.get(..margin.saturating_sub(size)) {
+        Some(some) => put(rt, out, at, some),
+        None => at,
+    }
 }
 
 // A label.
@@ -104,14 +100,10 @@ fn put_group(
 ) -> usize
     requires { passed < group_limit }
 {
-    let n = name_length(names, passed);
-    if n == 0 {
-        return put_numbered(rt, out, at, margin, b"group ", passed as u64 + 1);
+    match name_of(names, passed) {
+        Some(name) => put_label(rt, out, at, margin, name),
+        None => put_numbered(rt, out, at, margin, b"group ", passed as u64 + 1),
     }
-    let from = passed * NAME_ENTRY + 1;
-    let to = from + n;
-    let index = &names[..];
-    put_label(rt, out, at, margin, &index[from..to])
 }
 
 // The label of the span that stands at a place of the rows: a reading's, or that of a group of it.

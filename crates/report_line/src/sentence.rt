@@ -3,6 +3,7 @@ ghost use Rattle.std.specs.Prelude.{◌≡◌, ◌≤◌, ◌<◌, length};
 
 use office::{ROOM, put, put_number};
 use reasons::{item_end, next_new};
+use text::hex_digit;
 
 // How much of a text is quoted.
 const QUOTED: usize = 32;
@@ -12,7 +13,7 @@ const NAMED: usize = 3;
 
 const BLANK: u8 = b' ';
 
-const TAB: u8 = 9;
+const TAB: u8 = b'\t';
 
 // A text in quotes, as it is shown, or its beginning.
 fn put_quoted(rt: &HostRuntime, out: &mut [u8; ROOM], at: usize, text: &[u8]) -> usize {
@@ -33,13 +34,6 @@ fn put_end(rt: &HostRuntime, out: &mut [u8; ROOM], at: usize, text: &[u8]) -> us
     put_quoted(rt, out, p, &text[from..])
 }
 
-// A digit of a byte that cannot be shown.
-fn digit(n: u8) -> u8
-    requires { n < 16 }
-{
-    if n < 10 { b'0' + n } else { b'A' + (n - 10) }
-}
-
 // A byte, by what it is called or shown as.
 fn put_byte(rt: &HostRuntime, out: &mut [u8; ROOM], at: usize, b: u8) -> usize {
     if b == BLANK {
@@ -52,7 +46,7 @@ fn put_byte(rt: &HostRuntime, out: &mut [u8; ROOM], at: usize, b: u8) -> usize {
     if !report::is_odd(&one) {
         return put_quoted(rt, out, at, &one);
     }
-    let digits = [digit(b / 16), digit(b % 16)];
+    let digits = [hex_digit(b / 16), hex_digit(b % 16)];
     let p = put(rt, out, at, b"the byte ");
     put(rt, out, p, &digits)
 }

@@ -10,7 +10,7 @@
 // line's end. Under the rule ^ stands under the whole text of each item that was tried there, of which none fitted.
 ghost use Rattle.std.specs.Prelude.{◌≡◌, ◌≤◌, length};
 
-use crate::display::{put_text, shown_of};
+use crate::display::put_text;
 use crate::labels::put_label;
 use crate::sentence::put_sentence;
 use office::{ROOM, put};
@@ -70,7 +70,7 @@ fn put_reach(
             start,
             stop,
             column,
-            shown_of(rest),
+            rest.min(report::WIDTH),
             b"^\n",
         );
     }
@@ -119,12 +119,10 @@ fn put_attempt(
 fn signs_end(signs: &[u8]) -> usize
     ensures { result ≤ length signs.now }
 {
-    let mut n = signs.len();
-    while 0 < n {
-        if signs[n - 1] != BLANK {
-            return n;
+    for i in (0..signs.len()).rev() {
+        if signs[i] != BLANK {
+            return i + 1;
         }
-        n -= 1;
     }
     0
 }
@@ -162,7 +160,7 @@ fn put_rule(
     loop {
         p = put_text(rt, out, p, margin, b"rule", b"rule ", rule, from);
         let rest = rule.len() - from;
-        let to = from + shown_of(rest);
+        let to = from + rest.min(report::WIDTH);
         p = put_signs(rt, out, p, margin, &signs[from..to]);
         if rest <= report::WIDTH {
             return p;
