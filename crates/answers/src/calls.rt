@@ -8,10 +8,10 @@ ghost use Rattle.answers.specs.Answers.{match_numbers, list_numbers, batch_numbe
 ghost use Rattle.answers.specs.Laws.{MatchPlaced, ListPlaced, BatchPlaced, CheckPlaced};
 
 use crate::{tell, tell_refusal};
-use batching::Batch;
 use checking::Verdict;
 use finding::Outcome;
 use gathering::Listing;
+use syntax::Refusal;
 
 pub fn tell_match(answer: &mut [u32; 6], outcome: Outcome)
     requires { MatchPlaced (outcome_of outcome) }
@@ -25,36 +25,36 @@ pub fn tell_match(answer: &mut [u32; 6], outcome: Outcome)
     }
 }
 
-pub fn tell_listing(answer: &mut [u32; 6], outcome: Listing)
+pub fn tell_listing(answer: &mut [u32; 6], outcome: Result<Listing, Refusal>)
     requires { ListPlaced (listing_of outcome) }
     ensures { answer.new ≡ list_numbers (listing_of outcome) }
 {
     match outcome {
-        Listing::Complete(rows, steps) => tell(answer, 0, 0, 0, steps, rows),
-        Listing::Full(rows, steps) => tell(answer, 1, 0, 0, steps, rows),
-        Listing::Exhausted(start, rows, steps) => tell(answer, 2, start, 0, steps, rows),
-        Listing::Refused(f) => tell_refusal(answer, f),
+        Ok(Listing::Complete(rows, steps)) => tell(answer, 0, 0, 0, steps, rows),
+        Ok(Listing::Full(rows, steps)) => tell(answer, 1, 0, 0, steps, rows),
+        Ok(Listing::Exhausted(start, rows, steps)) => tell(answer, 2, start, 0, steps, rows),
+        Err(f) => tell_refusal(answer, f),
     }
 }
 
-pub fn tell_batch(answer: &mut [u32; 6], outcome: Batch)
+pub fn tell_batch(answer: &mut [u32; 6], outcome: Result<usize, Refusal>)
     requires { BatchPlaced (batch_of outcome) }
     ensures { answer.new ≡ batch_numbers (batch_of outcome) }
 {
     match outcome {
-        Batch::Done(lines) => tell(answer, 0, 0, 0, 0, lines),
-        Batch::Refused(f) => tell_refusal(answer, f),
+        Ok(lines) => tell(answer, 0, 0, 0, 0, lines),
+        Err(f) => tell_refusal(answer, f),
     }
 }
 
-pub fn tell_check(answer: &mut [u32; 6], outcome: Verdict)
+pub fn tell_check(answer: &mut [u32; 6], outcome: Result<Verdict, Refusal>)
     requires { CheckPlaced (verdict_of outcome) }
     ensures { answer.new ≡ check_numbers (verdict_of outcome) }
 {
     match outcome {
-        Verdict::Reading(steps) => tell(answer, 0, 0, 0, steps, 1),
-        Verdict::Nothing(steps) => tell(answer, 1, 0, 0, steps, 0),
-        Verdict::Exhausted(start, steps) => tell(answer, 2, start, 0, steps, 0),
-        Verdict::Refused(f) => tell_refusal(answer, f),
+        Ok(Verdict::Reading(steps)) => tell(answer, 0, 0, 0, steps, 1),
+        Ok(Verdict::Nothing(steps)) => tell(answer, 1, 0, 0, steps, 0),
+        Ok(Verdict::Exhausted(start, steps)) => tell(answer, 2, start, 0, steps, 0),
+        Err(f) => tell_refusal(answer, f),
     }
 }

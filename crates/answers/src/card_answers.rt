@@ -6,32 +6,31 @@ ghost use Rattle.answers.specs.CardLaws.{WritePlaced, ReadPlaced};
 
 use crate::{tell, tell_refusal};
 use batching::low_half;
-use cards::{ReadAnswer, WriteAnswer};
+use cards::Card;
+use syntax::Refusal;
 
-pub fn tell_written(answer: &mut [u32; 6], outcome: WriteAnswer)
+pub fn tell_written(answer: &mut [u32; 6], outcome: Result<usize, Refusal>)
     requires { WritePlaced (written_of outcome) }
     ensures { answer.new ≡ write_numbers (written_of outcome) }
 {
     match outcome {
-        WriteAnswer::Wrote(n) => tell(answer, 0, 0, 0, 0, n),
-        WriteAnswer::Refused(f) => tell_refusal(answer, f),
+        Ok(n) => tell(answer, 0, 0, 0, 0, n),
+        Err(f) => tell_refusal(answer, f),
     }
 }
 
-pub fn tell_read(answer: &mut [u32; 9], outcome: ReadAnswer)
+pub fn tell_read(answer: &mut [u32; 9], outcome: Result<Card, Refusal>)
     requires { ReadPlaced (read_of outcome) }
     ensures { answer.new ≡ read_numbers (read_of outcome) }
 {
     match outcome {
-        ReadAnswer::Holds(size, flags, budget, groups) => {
-            let length = low_half(size as u64);
-            *answer = [0, 0, 0, 0, 0, length, flags, budget, groups];
+        Ok(card) => {
+            let length = low_half(card.size as u64);
+            *answer = [0, 0, 0, 0, 0, length, card.flags, card.budget, card.groups];
         }
-        ReadAnswer::Refused(f) => {
-            let reason = f.reason;
-            let number = u32::from(reason);
-            let place = f.place as u32;
-            *answer = [3, number, place, 0, 0, 0, 0, 0, 0];
+        Err(f) => {
+            let number = u32::from(f.reason);
+            *answer = [3, number, f.place as u32, 0, 0, 0, 0, 0, 0];
         }
     }
 }

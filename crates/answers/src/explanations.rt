@@ -9,6 +9,7 @@ ghost use Rattle.answers.specs.Laws.{ExplainPlaced};
 use batching::{high_half, low_half};
 use explaining::Explanation;
 use greatest::Failed;
+use syntax::Refusal;
 
 // Nothing failed that could be told.
 fn nowhere() -> Failed
@@ -56,19 +57,18 @@ fn tell_no_failure(answer: &mut [u32; 11], kind: u32, which: u32, place: u32, st
     tell_failures(answer, kind, which, place, steps, none, none);
 }
 
-pub fn tell_explanation(answer: &mut [u32; 11], outcome: Explanation)
+pub fn tell_explanation(answer: &mut [u32; 11], outcome: Result<Explanation, Refusal>)
     requires { ExplainPlaced (explanation_of outcome) }
     ensures { answer.new ≡ explain_numbers (explanation_of outcome) }
 {
     match outcome {
-        Explanation::Matched(steps) => tell_no_failure(answer, 0, 0, 0, steps),
-        Explanation::NotMatched(steps, furthest, closest) => {
+        Ok(Explanation::Matched(steps)) => tell_no_failure(answer, 0, 0, 0, steps),
+        Ok(Explanation::NotMatched(steps, furthest, closest)) => {
             tell_failures(answer, 1, 0, 0, steps, furthest, closest);
         }
-        Explanation::Exhausted(start, steps) => tell_no_failure(answer, 2, start, 0, steps),
-        Explanation::Refused(f) => {
-            let reason = f.reason;
-            let number = u32::from(reason);
+        Ok(Explanation::Exhausted(start, steps)) => tell_no_failure(answer, 2, start, 0, steps),
+        Err(f) => {
+            let number = u32::from(f.reason);
             tell_no_failure(answer, 3, number, f.place as u32, 0);
         }
     }

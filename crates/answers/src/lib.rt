@@ -36,6 +36,5 @@ fn tell_refusal(answer: &mut [u32; 6], f: Refusal)
     requires { f.place ≤ rule_limit }
     ensures { answer.new ≡ refusal_numbers f.place f.reason }
 {
-    let reason = f.reason;
-    tell(answer, 3, u32::from(reason), f.place as u32, 0, 0);
+    tell(answer, 3, u32::from(f.reason), f.place as u32, 0, 0);
 }

@@ -13,17 +13,11 @@ ghost use Rattle.batching.specs.Batches.{batch_of};
 
 pub use batch_lines::{PART_LENGTH, high_half, low_half, match_lines_held};
 pub use counting::count_lines;
-use frame::{Preparation, RULE_AREA_NEED, finish, prepare};
+use frame::{RULE_AREA_NEED, finish, prepare};
 use syntax::Refusal;
 
-// What a day's lines tell: how many they are, each with its outcome in its part; or why the whole call is refused.
-#[derive(Drop)]
-pub enum Batch {
-    Done(usize),
-    Refused(Refusal),
-}
-
-// Matches a rule against each line of a buffer. The parts of the lines are written into the results, and the name index is filled.
+// Matches a rule against each line of a buffer, and tells how many there are. The parts of the lines are written into the results, each with its line's outcome,
+// and the name index is filled.
 pub fn match_lines(
     rule: &[u8],
     flags: u32,
@@ -33,28 +27,24 @@ pub fn match_lines(
     work_area: &mut [u32],
     results: &mut [u32],
     names: &mut [u8],
-) -> Batch
+) -> Result<usize, Refusal>
     ensures { Returned (batch_call (call_of rule.now flags buffer.now budget rule_area.old work_area.old results.old names.old)) (batch_of result) rule_area.new work_area.new results.new names.new }
 {
     let lines = count_lines(buffer);
     let short = results.len() / PART_LENGTH < lines;
     // no line counts for the call itself: one that is too long is told in its own part
-    match prepare(
+    let compiled = prepare(
         rule, flags, false, 0, budget, rule_area, work_area, short, names,
-    ) {
-        Preparation::Refused(f) => Batch::Refused(f),
-        Preparation::Ready(entry, groups) => {
-            match_lines_held(
-                &rule_area[..RULE_AREA_NEED],
-                entry,
-                groups,
-                buffer,
-                budget,
-                work_area,
-                results,
-            );
-            finish(rule_area, work_area, budget);
-            Batch::Done(lines)
-        }
-    }
+    )?;
+    match_lines_held(
+        &rule_area[..RULE_AREA_NEED],
+        compiled.entry,
+        compiled.groups,
+        buffer,
+        budget,
+        work_area,
+        results,
+    );
+    finish(rule_area, work_area, budget);
+    Ok(lines)
 }

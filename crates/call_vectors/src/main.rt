@@ -10,7 +10,7 @@
 ghost use Rattle.std.specs.Prelude.{◌≡◌, ◌≤◌, ◌<◌, ◌+◌, length};
 ghost use Rattle.syntax.specs.Limits.{row_length, part_length};
 
-use batching::{Batch, PART_LENGTH};
+use batching::PART_LENGTH;
 use checking::Verdict;
 use explaining::Explanation;
 use failures::Failed;
@@ -212,21 +212,21 @@ fn put_outcome(rt: &HostRuntime, outcome: Outcome, results: &[u32], names: &[u8]
 }
 
 // What a listing tells, with its rows and the names.
-fn put_listing(rt: &HostRuntime, told: Listing, results: &[u32], names: &[u8]) {
+fn put_listing(rt: &HostRuntime, told: Result<Listing, Refusal>, results: &[u32], names: &[u8]) {
     match told {
-        Listing::Complete(rows, steps) => {
+        Ok(Listing::Complete(rows, steps)) => {
             put(rt, b"complete ");
             put_steps(rt, steps);
             put_rows(rt, results, rows);
             put_names(rt, names);
         }
-        Listing::Full(rows, steps) => {
+        Ok(Listing::Full(rows, steps)) => {
             put(rt, b"full ");
             put_steps(rt, steps);
             put_rows(rt, results, rows);
             put_names(rt, names);
         }
-        Listing::Exhausted(start, rows, steps) => {
+        Ok(Listing::Exhausted(start, rows, steps)) => {
             put(rt, b"exhausted at ");
             put_word(rt, start);
             put(rt, b" ");
@@ -234,32 +234,32 @@ fn put_listing(rt: &HostRuntime, told: Listing, results: &[u32], names: &[u8]) {
             put_rows(rt, results, rows);
             put_names(rt, names);
         }
-        Listing::Refused(f) => put_refusal(rt, f),
+        Err(f) => put_refusal(rt, f),
     }
 }
 
 // What a check tells, with the reading's row and the names.
-fn put_verdict(rt: &HostRuntime, told: Verdict, results: &[u32], names: &[u8]) {
+fn put_verdict(rt: &HostRuntime, told: Result<Verdict, Refusal>, results: &[u32], names: &[u8]) {
     match told {
-        Verdict::Reading(steps) => {
+        Ok(Verdict::Reading(steps)) => {
             put(rt, b"a reading ");
             put_steps(rt, steps);
             put_rows(rt, results, 1);
             put_names(rt, names);
         }
-        Verdict::Nothing(steps) => {
+        Ok(Verdict::Nothing(steps)) => {
             put(rt, b"no reading ");
             put_steps(rt, steps);
             put_names(rt, names);
         }
-        Verdict::Exhausted(start, steps) => {
+        Ok(Verdict::Exhausted(start, steps)) => {
             put(rt, b"exhausted at ");
             put_word(rt, start);
             put(rt, b" ");
             put_steps(rt, steps);
             put_names(rt, names);
         }
-        Verdict::Refused(f) => put_refusal(rt, f),
+        Err(f) => put_refusal(rt, f),
     }
 }
 
@@ -325,16 +325,16 @@ fn put_parts(rt: &HostRuntime, results: &[u32], parts: usize) {
 }
 
 // What a day's lines tell, with their parts and the names.
-fn put_batch(rt: &HostRuntime, told: Batch, results: &[u32], names: &[u8]) {
+fn put_batch(rt: &HostRuntime, told: Result<usize, Refusal>, results: &[u32], names: &[u8]) {
     match told {
-        Batch::Done(lines) => {
+        Ok(lines) => {
             put(rt, b"done ");
             put_number(rt, lines as u64);
             put(rt, b" lines\n");
             put_parts(rt, results, lines);
             put_names(rt, names);
         }
-        Batch::Refused(f) => put_refusal(rt, f),
+        Err(f) => put_refusal(rt, f),
     }
 }
 
@@ -372,27 +372,32 @@ fn put_why(rt: &HostRuntime, furthest: Failed, closest: Failed, marks: &[u8]) {
 }
 
 // What an explanation tells, with the names and, of a line that is not matched, why.
-fn put_explanation(rt: &HostRuntime, told: Explanation, marks: &[u8], names: &[u8]) {
+fn put_explanation(
+    rt: &HostRuntime,
+    told: Result<Explanation, Refusal>,
+    marks: &[u8],
+    names: &[u8],
+) {
     match told {
-        Explanation::Matched(steps) => {
+        Ok(Explanation::Matched(steps)) => {
             put(rt, b"matched ");
             put_steps(rt, steps);
             put_names(rt, names);
         }
-        Explanation::NotMatched(steps, furthest, closest) => {
+        Ok(Explanation::NotMatched(steps, furthest, closest)) => {
             put(rt, b"not matched ");
             put_steps(rt, steps);
             put_names(rt, names);
             put_why(rt, furthest, closest, marks);
         }
-        Explanation::Exhausted(start, steps) => {
+        Ok(Explanation::Exhausted(start, steps)) => {
             put(rt, b"exhausted at ");
             put_word(rt, start);
             put(rt, b" ");
             put_steps(rt, steps);
             put_names(rt, names);
         }
-        Explanation::Refused(f) => put_refusal(rt, f),
+        Err(f) => put_refusal(rt, f),
     }
 }
 

@@ -2,7 +2,7 @@
 ghost use Rattle.std.specs.Prelude.{◌≤◌, length};
 
 use card_text::write_words;
-use cards::{RULE_BYTES_NEED, ReadAnswer, read_card, rule_in};
+use cards::{RULE_BYTES_NEED, read_card, rule_in};
 use frame::RULE_AREA_NEED;
 use office::{fail, flush, open, say, say_refusal};
 use std::fs::File;
@@ -24,14 +24,15 @@ pub(crate) fn show(rt: &HostRuntime, card: &[u8]) {
     let mut area = [0u32; RULE_AREA_NEED];
     let mut rule = [0u8; RULE_BYTES_NEED];
     match read_card(card, &mut area, &mut rule) {
-        ReadAnswer::Holds(size, flags, budget, groups) => {
+        Ok(held) => {
             let mut out = io::large_buffer();
-            let n = write_words(&rule[..size], flags, budget, groups, &mut out, 0);
+            let text = &rule[..held.size];
+            let n = write_words(text, held.flags, held.budget, held.groups, &mut out, 0);
             if !flush(rt, &out, n) {
                 say(rt, b"card: what the card says could not be written\n");
             }
         }
-        ReadAnswer::Refused(f) => {
+        Err(f) => {
             let n = rule_in(card, &mut rule);
             say_refusal(rt, b"card", f, &rule[..n]);
         }

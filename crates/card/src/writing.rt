@@ -3,7 +3,7 @@ ghost use Rattle.std.specs.Prelude.{◌≤◌, length};
 
 use crate::messages::{say_no_budget, say_no_flags};
 use crate::showing::show;
-use cards::{CARD_BUDGET_LIMIT, CARD_NEED, WriteAnswer, write_card};
+use cards::{CARD_BUDGET_LIMIT, CARD_NEED, write_card};
 use frame::{RULE_AREA_NEED, RULE_LIMIT};
 use office::{
     Rest, Value, arg, arg_count, fail, next_line, no_text, open, say, say_refusal, unnamed,
@@ -104,8 +104,8 @@ fn write_rule(rt: &HostRuntime, rule: &[u8], flags: u32, budget: u32)
     let mut area = [0u32; RULE_AREA_NEED];
     let mut card = [0u8; CARD_NEED];
     match write_card(rule, flags, budget, &mut area, &mut card) {
-        WriteAnswer::Refused(f) => say_refusal(rt, b"card", f, rule),
-        WriteAnswer::Wrote(n) => {
+        Err(f) => say_refusal(rt, b"card", f, rule),
+        Ok(n) => {
             if save(rt, &card[..n]) {
                 show(rt, &card[..n]);
             }

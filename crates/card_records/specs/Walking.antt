@@ -1,11 +1,10 @@
 -- What the code finds out about the bytes of a card, step by step.
 -- docs/REFERENCE.md, 17.3
-use Rattle.std.specs.Prelude.{◌≡◌, Bool, true, false, ◌&&◌, List, [], ◌∷◌, ℕ, zero, suc, ◌≤◌, ◌<◌, eqb, length, get_or, replicate}
+use Rattle.std.specs.Prelude.{◌≡◌, Bool, true, false, ◌&&◌, List, [], ◌∷◌, ◌⊎◌, ℕ, zero, suc, ◌≤◌, ◌<◌, Result, Ok, Err, eqb, length, get_or, replicate}
 use Rattle.syntax.specs.Sets.{same_bytes}
-use Rattle.card_records.specs.declared.scanning.Cutting.{Cutting}
-use Rattle.card_records.specs.declared.scanning.Cutting.TheVariants.{Ends, Unknown as AtUnknown, Short as TooEarly}
-use Rattle.card_records.specs.declared.scanning.Found.{Found}
-use Rattle.card_records.specs.declared.scanning.Found.TheVariants.{Holds, Fails}
+use Rattle.syntax.specs.declared.Reason.{Reason}
+use Rattle.syntax.specs.declared.Reason.TheVariants.{UnknownKind, CardCutShort}
+use Rattle.card_records.specs.declared.scanning.Cut.{Cut}
 use Rattle.card_format.specs.Cards.{settings_kind, piece_kind, in_bytes, kinds, Card, holds, fails, card_in}
 use Rattle.card_format.specs.CardDemands.{Unknown, Short, Parts}
 use Rattle.card_format.specs.Places.{place}
@@ -29,10 +28,10 @@ pub record CutsAt (card : List ℕ) (at many : ℕ) (ordered : Bool) : Type 0 wh
   pub count : length parts.records ≡ many
   pub order : ordered ≡ same_bytes (kinds parts.records) (orderly many)
 
-abbrev pub Cuts : List ℕ → Cutting → Type 0
-Cuts card (Ends at many ordered) = CutsAt card at many ordered
-Cuts card AtUnknown = Unknown card
-Cuts card TooEarly = Short card
+-- they end so, or before: at a byte that is no kind, or too early
+abbrev pub Cuts : List ℕ → Result Cut Reason → Type 0
+Cuts card (Ok c) = CutsAt card c.at c.many c.ordered
+Cuts card (Err why) = ((why ≡ UnknownKind) × Unknown card) ⊎ ((why ≡ CardCutShort) × Short card)
 
 -- whether what stands at these places of the rule is all 00
 abbrev pub IsPadding : (card : List ℕ) (from to : ℕ) → Bool → Type 0
@@ -45,6 +44,6 @@ pub record IsCard (card : List ℕ) (size : ℕ) : Type 0 where
   pub is : card_in card ≡ holds said
   pub sized : length said.rule ≡ size
 
-abbrev pub Finds : List ℕ → Found → Type 0
-Finds card (Holds size) = IsCard card size
-Finds card (Fails why) = card_in card ≡ fails why
+abbrev pub Finds : List ℕ → Result ℕ Reason → Type 0
+Finds card (Ok size) = IsCard card size
+Finds card (Err why) = card_in card ≡ fails why

@@ -9,4 +9,4 @@ mod bytes;
 mod scanning;
 
 pub use bytes::put_card;
-pub use scanning::{Found, find_card};
+pub use scanning::find_card;

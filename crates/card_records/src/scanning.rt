@@ -9,20 +9,12 @@ use card_format::{
 };
 use syntax::Reason;
 
-// How the records of a card end: at a kind 3, with its position, the number of records before it, and whether their kinds are 1, 2, 2 and so on;
-// at a byte that is no kind; or too early.
-#[derive(Drop)]
-enum Cutting {
-    Ends(usize, usize, bool),
-    Unknown,
-    Short,
-}
-
-// The length of the rule in a card, or why the bytes are none.
-#[derive(Drop)]
-pub enum Found {
-    Holds(usize),
-    Fails(Reason),
+// Where the records of a card end: the position of the one of kind 3, the number of records before it, and whether their kinds are 1, 2, 2 and so on.
+#[derive(Clone, Copy, Debug, PartialEq, Eq)]
+struct Cut {
+    at: usize,
+    many: usize,
+    ordered: bool,
 }
 
 // Whether the kinds are still in order, with one more behind so many.
@@ -38,8 +30,8 @@ fn goes_on(ordered: bool, many: usize, kind: u8) -> bool
     kind == PIECE_KIND
 }
 
-// Cuts off the records up to the first kind 3.
-fn cut_records(card: &[u8]) -> Cutting
+// Cuts off the records up to the first kind 3, unless a byte is no kind or the bytes end before.
+fn cut_records(card: &[u8]) -> Result<Cut, Reason>
     ensures { Cuts card.now result }
 {
     let mut at: usize = 0;
@@ -49,19 +41,19 @@ fn cut_records(card: &[u8]) -> Cutting
         let kind = card[at];
         let body = body_length(kind);
         if body == 0 {
-            return Cutting::Unknown;
+            return Err(Reason::UnknownKind);
         }
         if card.len() - at <= body {
-            return Cutting::Short;
+            return Err(Reason::CardCutShort);
         }
         if kind == LENGTH_KIND {
-            return Cutting::Ends(at, many, ordered);
+            return Ok(Cut { at, many, ordered });
         }
         ordered = goes_on(ordered, many, kind);
         many += 1;
         at += 1 + body;
     }
-    Cutting::Short
+    Err(Reason::CardCutShort)
 }
 
 // Whether the bytes of the pieces from a place in the rule up to another are all 00.
@@ -80,34 +72,31 @@ fn is_padding(card: &[u8], from: usize, to: usize) -> bool
 }
 
 // Tests the order and number of the records, then padding and what is trailing.
-fn check_records(card: &[u8], at: usize, many: usize, ordered: bool) -> Found
-    requires { CutsAt card.now at many ordered }
+fn check_records(card: &[u8], cut: Cut) -> Result<usize, Reason>
+    requires { CutsAt card.now cut.at cut.many cut.ordered }
     ensures { Finds card.now result }
 {
-    let size = two_bytes(card, at + 1) as usize;
-    if !ordered {
-        return Found::Fails(Reason::WrongRecords);
+    let size = two_bytes(card, cut.at + 1) as usize;
+    if !cut.ordered {
+        return Err(Reason::WrongRecords);
     }
     let need = pieces_for(size);
-    if many != need + 1 {
-        return Found::Fails(Reason::WrongRecords);
+    if cut.many != need + 1 {
+        return Err(Reason::WrongRecords);
     }
     if !is_padding(card, size, need * PIECE_BODY) {
-        return Found::Fails(Reason::StrayBytes);
+        return Err(Reason::StrayBytes);
     }
-    if card.len() != at + LENGTH {
-        return Found::Fails(Reason::StrayBytes);
+    if card.len() != cut.at + LENGTH {
+        return Err(Reason::StrayBytes);
     }
-    Found::Holds(size)
+    Ok(size)
 }
 
-// Whether bytes are a card.
-pub fn find_card(card: &[u8]) -> Found
+// The length of the rule in a card, or why the bytes are none.
+pub fn find_card(card: &[u8]) -> Result<usize, Reason>
     ensures { Finds card.now result }
 {
-    match cut_records(card) {
-        Cutting::Unknown => Found::Fails(Reason::UnknownKind),
-        Cutting::Short => Found::Fails(Reason::CardCutShort),
-        Cutting::Ends(at, many, ordered) => check_records(card, at, many, ordered),
-    }
+    let cut = cut_records(card)?;
+    check_records(card, cut)
 }

@@ -8,7 +8,7 @@
 
 ghost use Rattle.std.specs.Prelude.{◌≤◌, length};
 
-use cards::{CARD_NEED, ReadAnswer, WriteAnswer};
+use cards::CARD_NEED;
 use frame::RULE_AREA_NEED;
 use syntax::Refusal;
 
@@ -62,8 +62,8 @@ fn tell(
 ) {
     if kind == WRITE {
         match cards::write_card(bytes, flags, budget, rule_area, area) {
-            WriteAnswer::Refused(f) => put_refusal(rt, f),
-            WriteAnswer::Wrote(n) => {
+            Err(f) => put_refusal(rt, f),
+            Ok(n) => {
                 put(rt, b"written ", n as u64);
                 put_first(rt, area, n);
             }
@@ -71,13 +71,13 @@ fn tell(
         return;
     }
     match cards::read_card(bytes, rule_area, area) {
-        ReadAnswer::Refused(f) => put_refusal(rt, f),
-        ReadAnswer::Holds(n, held_flags, held_budget, groups) => {
-            put(rt, b"read ", n as u64);
-            put(rt, b" ", held_flags as u64);
-            put(rt, b" ", held_budget as u64);
-            put(rt, b" ", groups as u64);
-            put_first(rt, area, n);
+        Err(f) => put_refusal(rt, f),
+        Ok(card) => {
+            put(rt, b"read ", card.size as u64);
+            put(rt, b" ", card.flags as u64);
+            put(rt, b" ", card.budget as u64);
+            put(rt, b" ", card.groups as u64);
+            put_first(rt, area, card.size);
         }
     }
 }

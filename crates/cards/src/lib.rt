@@ -12,6 +12,6 @@ mod reading;
 mod ruling;
 mod writing;
 
-pub use reading::{RULE_BYTES_NEED, ReadAnswer, read_card, rule_in};
+pub use reading::{Card, RULE_BYTES_NEED, read_card, rule_in};
 pub use ruling::CARD_BUDGET_LIMIT;
-pub use writing::{CARD_NEED, WriteAnswer, write_card};
+pub use writing::{CARD_NEED, write_card};

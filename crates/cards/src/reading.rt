@@ -6,11 +6,10 @@ ghost use Rattle.card_format.specs.Places.{text_end};
 ghost use Rattle.card_records.specs.Walking.{IsCard};
 ghost use Rattle.cards.specs.Answers.{Returned, read_of, Legible};
 
-use crate::ruling::{Counting, count_groups, unfit};
+use crate::ruling::{count_groups, unfit};
 use card_format::{PIECE_BODY, SETTINGS, two_bytes};
-use card_records::{Found, find_card};
+use card_records::find_card;
 use frame::RULE_LIMIT;
-use refusals::Fitness;
 use syntax::{Reason, Refusal};
 
 // the bytes that any rule fits into
@@ -23,11 +22,13 @@ const BUDGET: usize = 2;
 
 const GROUPS: usize = 4;
 
-// What a card holds: the rule's length, its flags and budget and the number of its groups; or why it is refused.
-#[derive(Drop)]
-pub enum ReadAnswer {
-    Holds(usize, u32, u32, u32),
-    Refused(Refusal),
+// What a card holds: the rule's length, its flags and budget, and the number of its groups.
+#[derive(Clone, Copy, Debug, PartialEq, Eq)]
+pub struct Card {
+    pub size: usize,
+    pub flags: u32,
+    pub budget: u32,
+    pub groups: u32,
 }
 
 // Copies the rule of a card to the front of an area.
@@ -46,75 +47,64 @@ fn gather(card: &[u8], size: usize, area: &mut [u8])
 // Reads a card whose rule can be read. The rule's bytes are gathered beside the area that is lent for them: a refusal leaves that as it was.
 fn read_fitting(
     card: &[u8],
-    size: usize,
-    flags: u32,
-    budget: u32,
-    groups: u32,
+    held: Card,
     rule_area: &mut [u32],
     area: &mut [u8],
-) -> ReadAnswer
-    requires { Legible card.now size flags budget groups rule_area.old × (rule_bytes_need ≤ length area.old) }
+) -> Result<Card, Refusal>
+    requires { Legible card.now held.size held.flags held.budget held.groups rule_area.old × (rule_bytes_need ≤ length area.old) }
     ensures { Returned (read_call card.now rule_area.old area.old) (read_of result) rule_area.new area.new }
 {
     let mut bytes = [0; RULE_BYTES_NEED];
-    gather(card, size, &mut bytes);
-    match count_groups(&bytes[..size], flags, rule_area) {
-        Counting::Refused(f) => ReadAnswer::Refused(f),
-        Counting::Groups(counted) => {
-            if counted != groups {
-                return ReadAnswer::Refused(Refusal {
-                    place: 0,
-                    reason: Reason::WrongGroupNumber,
-                });
-            }
-            gather(card, size, area);
-            ReadAnswer::Holds(size, flags, budget, groups)
-        }
+    gather(card, held.size, &mut bytes);
+    let counted = count_groups(&bytes[..held.size], held.flags, rule_area)?;
+    if counted != held.groups {
+        return Err(Refusal::at(0, Reason::WrongGroupNumber));
     }
+    gather(card, held.size, area);
+    Ok(held)
 }
 
 // Reads what has been found to be a card.
-fn read_found(card: &[u8], size: usize, rule_area: &mut [u32], area: &mut [u8]) -> ReadAnswer
+fn read_found(
+    card: &[u8],
+    size: usize,
+    rule_area: &mut [u32],
+    area: &mut [u8],
+) -> Result<Card, Refusal>
     requires { IsCard card.now size × (rule_bytes_need ≤ length area.old) }
     ensures { Returned (read_call card.now rule_area.old area.old) (read_of result) rule_area.new area.new }
 {
-    let flags = card[FLAGS] as u32;
-    let budget = two_bytes(card, BUDGET);
-    let groups = card[GROUPS] as u32;
-    match unfit(size, flags, budget, rule_area.len()) {
-        Fitness::Unfit(reason) => ReadAnswer::Refused(Refusal { place: 0, reason }),
-        Fitness::Fits => read_fitting(card, size, flags, budget, groups, rule_area, area),
-    }
+    let held = Card {
+        size,
+        flags: card[FLAGS] as u32,
+        budget: two_bytes(card, BUDGET),
+        groups: card[GROUPS] as u32,
+    };
+    unfit(size, held.flags, held.budget, rule_area.len()).map_err(|reason| Refusal::at(0, reason))?;
+    read_fitting(card, held, rule_area, area)
 }
 
 // Reads a card: its rule goes to the front of the area.
-pub fn read_card(card: &[u8], rule_area: &mut [u32], area: &mut [u8]) -> ReadAnswer
+pub fn read_card(card: &[u8], rule_area: &mut [u32], area: &mut [u8]) -> Result<Card, Refusal>
     ensures { Returned (read_call card.now rule_area.old area.old) (read_of result) rule_area.new area.new }
 {
     if area.len() < RULE_BYTES_NEED {
-        return ReadAnswer::Refused(Refusal {
-            place: 0,
-            reason: Reason::WrittenAreaShort,
-        });
+        return Err(Refusal::at(0, Reason::WrittenAreaShort));
     }
-    match find_card(card) {
-        Found::Fails(reason) => ReadAnswer::Refused(Refusal { place: 0, reason }),
-        Found::Holds(size) => read_found(card, size, rule_area, area),
-    }
+    let size = find_card(card).map_err(|reason| Refusal::at(0, reason))?;
+    read_found(card, size, rule_area, area)
 }
 
 // For whoever looks at a card whose rule is refused: that rule goes to the front of the area, if there is room for it, and its length is told.
 pub fn rule_in(card: &[u8], area: &mut [u8]) -> usize
     ensures { (result ≡ length (rule_in (card_in card.now) (length area.old))) × (area.new ≡ over (rule_in (card_in card.now) (length area.old)) area.old) × (result ≤ length area.old) }
 {
-    match find_card(card) {
-        Found::Fails(_) => 0,
-        Found::Holds(size) => {
-            if area.len() < size {
-                return 0;
-            }
-            gather(card, size, area);
-            size
-        }
+    let Ok(size) = find_card(card) else {
+        return 0;
+    };
+    if area.len() < size {
+        return 0;
     }
+    gather(card, size, area);
+    size
 }

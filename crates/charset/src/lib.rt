@@ -32,27 +32,28 @@ pub enum Named {
 }
 
 // The bit of a set's mark.
-fn mark(set: Named) -> u32
-    ensures place { result ≡ mark_of set }
-    ensures small { result < 16 }
-{
-    match set {
-        Named::Digit => 0,
-        Named::Word => 1,
-        Named::Space => 2,
-        Named::Horizontal => 3,
-        Named::Vertical => 4,
-        Named::Alpha => 5,
-        Named::Upper => 6,
-        Named::Lower => 7,
-        Named::Alnum => 8,
-        Named::Xdigit => 9,
-        Named::Blank => 10,
-        Named::Cntrl => 11,
-        Named::Ascii => 12,
-        Named::Print => 13,
-        Named::Graph => 14,
-        Named::Punct => 15,
+impl From<Named> for u32 {
+    ghost from_gives = { λ set bit. (bit ≡ mark_of set) × (bit < 16) };
+
+    fn from(set: Named) -> u32 {
+        match set {
+            Named::Digit => 0,
+            Named::Word => 1,
+            Named::Space => 2,
+            Named::Horizontal => 3,
+            Named::Vertical => 4,
+            Named::Alpha => 5,
+            Named::Upper => 6,
+            Named::Lower => 7,
+            Named::Alnum => 8,
+            Named::Xdigit => 9,
+            Named::Blank => 10,
+            Named::Cntrl => 11,
+            Named::Ascii => 12,
+            Named::Print => 13,
+            Named::Graph => 14,
+            Named::Punct => 15,
+        }
     }
 }
 
@@ -60,7 +61,7 @@ fn mark(set: Named) -> u32
 pub fn in_named(set: Named, b: u8) -> bool
     ensures { result ≡ in_named set b }
 {
-    let k = mark(set);
+    let k = u32::from(set);
     let marks = MARKS[b as usize];
     (marks >> k) & 1 == 1
 }
@@ -78,8 +79,7 @@ pub fn add(class: [u32; 8], b: u8) -> [u32; 8]
 {
     let mut c = class;
     let i = (b / 32) as usize;
-    let w = c[i];
-    c[i] = w | (1u32 << ((b % 32) as u32));
+    c[i] |= 1u32 << ((b % 32) as u32);
     c
 }
 
@@ -99,13 +99,9 @@ pub fn add_range(class: [u32; 8], low: u8, high: u8) -> [u32; 8]
 pub fn add_class(class: [u32; 8], other: [u32; 8]) -> [u32; 8]
     ensures { (x : ℕ) → x < 256 → has result x ≡ (has other x || has class x) }
 {
-    let a = class;
-    let b = other;
     let mut c = [0; 8];
     for i in 0..8 {
-        let word = a[i];
-        let more = b[i];
-        c[i] = word | more;
+        c[i] = class[i] | other[i];
     }
     c
 }
@@ -114,11 +110,9 @@ pub fn add_class(class: [u32; 8], other: [u32; 8]) -> [u32; 8]
 pub fn complement(class: [u32; 8]) -> [u32; 8]
     ensures { (x : ℕ) → x < 256 → has result x ≡ not (has class x) }
 {
-    let a = class;
     let mut c = [0; 8];
     for i in 0..8 {
-        let word = a[i];
-        c[i] = !word;
+        c[i] = !class[i];
     }
     c
 }
@@ -142,13 +136,10 @@ pub fn fold(class: [u32; 8]) -> [u32; 8]
 pub fn class_of(set: Named) -> [u32; 8]
     ensures { (x : ℕ) → x < 256 → has result x ≡ in_named set x }
 {
-    let first = (mark(set) * 8) as usize;
+    let first = (u32::from(set) * 8) as usize;
     let table = CLASSES;
     let mut c = [0; 8];
-    for i in 0..8 {
-        let word = table[first + i];
-        c[i] = word;
-    }
+    c.copy_from_slice(&table[first..first + 8]);
     c
 }
 
@@ -171,7 +162,6 @@ pub fn contains(words: &[u32], base: usize, b: u8) -> bool
     requires { base + 8 ≤ length words.now }
     ensures { result ≡ has (drop base words.now) b }
 {
-    let i = base + (b >> 5) as usize;
-    let w = words[i];
-    (w >> ((b & 31) as u32)) & 1 == 1
+    let word = words[base + (b >> 5) as usize];
+    (word >> ((b & 31) as u32)) & 1 == 1
 }

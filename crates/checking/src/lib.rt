@@ -10,18 +10,17 @@ ghost use Rattle.semantics.specs.Checks.{check_call};
 ghost use Rattle.frame.specs.Inputs.{call_of, Returned};
 ghost use Rattle.checking.specs.Verdicts.{verdict_of};
 
-use frame::{Preparation, RULE_AREA_NEED, finish, prepare};
+use frame::{RULE_AREA_NEED, finish, prepare};
 use index::ROW_LENGTH;
 use syntax::Refusal;
 pub use verdicts::check_held;
 
-// What a check tells: a reading or none, and the steps; or the start, if the budget was used up, and the steps; or why it is refused.
-#[derive(Drop)]
+// What a check tells: a reading or none, and the steps; or the start, if the budget was used up, and the steps.
+#[derive(Clone, Copy, Debug, PartialEq, Eq)]
 pub enum Verdict {
     Reading(u64),
     Nothing(u64),
     Exhausted(u32, u64),
-    Refused(Refusal),
 }
 
 // Checks a reading that is proposed for a rule and a subject: the start as two bytes, then a byte for each choice. The row of a reading is written into the
@@ -36,11 +35,11 @@ pub fn check(
     work_area: &mut [u32],
     results: &mut [u32],
     names: &mut [u8],
-) -> Verdict
+) -> Result<Verdict, Refusal>
     ensures { Returned (check_call proposal.now (call_of rule.now flags subject.now budget rule_area.old work_area.old results.old names.old)) (verdict_of result) rule_area.new work_area.new results.new names.new }
 {
     let short = results.len() < ROW_LENGTH;
-    match prepare(
+    let compiled = prepare(
         rule,
         flags,
         true,
@@ -50,19 +49,15 @@ pub fn check(
         work_area,
         short,
         names,
-    ) {
-        Preparation::Refused(f) => Verdict::Refused(f),
-        Preparation::Ready(entry, _groups) => {
-            let told = check_held(
-                &rule_area[..RULE_AREA_NEED],
-                entry,
-                subject,
-                budget,
-                proposal,
-                results,
-            );
-            finish(rule_area, work_area, budget);
-            told
-        }
-    }
+    )?;
+    let told = check_held(
+        &rule_area[..RULE_AREA_NEED],
+        compiled.entry,
+        subject,
+        budget,
+        proposal,
+        results,
+    );
+    finish(rule_area, work_area, budget);
+    Ok(told)
 }

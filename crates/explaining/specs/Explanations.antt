@@ -1,6 +1,7 @@
 -- What an explanation tells.
 -- docs/REFERENCE.md, 16.5, 18.3
-use Rattle.std.specs.Prelude.{◌≡◌, List, ℕ}
+use Rattle.std.specs.Prelude.{◌≡◌, List, ℕ, Result, Ok, Err}
+use Rattle.syntax.specs.declared.Refusal.{Refusal}
 use Rattle.syntax.specs.Tree.{Rule}
 use Rattle.semantics.specs.States.{State}
 use Rattle.semantics.specs.Answers.{matched, not_matched, exhausted, Answer, answer}
@@ -8,15 +9,15 @@ use Rattle.semantics.specs.Explanations.{failures, furthest, closest, marks}
 use Rattle.semantics.specs.Calls.{over, ExplainOutcome, explain_fits, explain_unfit, explain_exhausted, explain_refused}
 use Rattle.machine.specs.Theorem.{Stands}
 use Rattle.explaining.specs.declared.Explanation.{Explanation}
-use Rattle.explaining.specs.declared.Explanation.TheVariants.{Matched, NotMatched, Exhausted, Refused}
+use Rattle.explaining.specs.declared.Explanation.TheVariants.{Matched, NotMatched, Exhausted}
 use Rattle.greatest.specs.Best.{failure_of}
 
 -- what the code's answer means
-unfoldable pub explanation_of : Explanation → ExplainOutcome
-explanation_of (Matched steps) = explain_fits steps
-explanation_of (NotMatched steps far near) = explain_unfit steps (failure_of far) (failure_of near)
-explanation_of (Exhausted start steps) = explain_exhausted start steps
-explanation_of (Refused why) = explain_refused why.place why.reason
+unfoldable pub explanation_of : Result Explanation Refusal → ExplainOutcome
+explanation_of (Ok (Matched steps)) = explain_fits steps
+explanation_of (Ok (NotMatched steps far near)) = explain_unfit steps (failure_of far) (failure_of near)
+explanation_of (Ok (Exhausted start steps)) = explain_exhausted start steps
+explanation_of (Err why) = explain_refused why.place why.reason
 
 -- The code's answer is this one of the rule x. Unless it is "not matched", the marks, which were `old`, are as they were; else as many of them are
 -- written as there is room for.
@@ -26,7 +27,6 @@ Accounts subject x many old new (NotMatched steps far near) a =
     (a ≡ record { outcome = not_matched; steps = steps }) × (failure_of far ≡ furthest (failures subject x)) × (failure_of near ≡ closest (failures subject x))
     × (new ≡ over (marks subject x (closest (failures subject x)) many) old)
 Accounts subject x many old new (Exhausted start steps) a = (a ≡ record { outcome = exhausted start; steps = steps }) × (new ≡ old)
-Accounts subject x many old new (Refused why) a = ⊥
 
 -- the same of each rule that stands compiled at the entry
 abbrev pub Explains : (code subject : List ℕ) (many : ℕ) (old new : List ℕ) (entry budget : ℕ) → Explanation → Type 0

@@ -14,28 +14,17 @@ ghost use Rattle.explaining.specs.Explanations.{explanation_of, Unmatched, Expla
 
 use failures::{Failed, find_failures};
 use finding::{Outcome, match_held};
-use frame::{Preparation, REGISTERS, RULE_AREA_NEED, WORK_PER_STEP, finish, prepare};
+use frame::{REGISTERS, RULE_AREA_NEED, WORK_PER_STEP, finish, prepare};
 use index::{ROW_LENGTH, UNSET};
 use syntax::Refusal;
 
 // What an explanation tells: matched, with the steps; or not matched, with the steps, the furthest failure and the closest attempt; or the start at
-// which the budget was used up, and the steps; or why the call is refused.
-#[derive(Drop)]
+// which the budget was used up, and the steps.
+#[derive(Clone, Copy)]
 pub enum Explanation {
     Matched(u64),
     NotMatched(u64, Failed, Failed),
     Exhausted(u32, u64),
-    Refused(Refusal),
-}
-
-// How many bytes of the rule there is room to mark.
-fn markable(rule_len: usize, room: usize) -> usize
-    ensures { result ≡ min rule_len room }
-{
-    if rule_len < room {
-        return rule_len;
-    }
-    room
 }
 
 // What is told of a line that a match did not match in so many steps.
@@ -56,7 +45,8 @@ fn tell_why(
 {
     let mut regs = [UNSET; REGISTERS];
     let need = WORK_PER_STEP * budget as usize;
-    let many = markable(rule_len, marks.len());
+    // as many bytes of the rule as there is room to mark
+    let many = rule_len.min(marks.len());
     let best = find_failures(
         code,
         subject,
@@ -66,9 +56,7 @@ fn tell_why(
         budget,
         &mut marks[..many],
     );
-    let furthest = best.furthest;
-    let closest = best.closest;
-    Explanation::NotMatched(steps, furthest, closest)
+    Explanation::NotMatched(steps, best.furthest, best.closest)
 }
 
 // Explains a rule that stands compiled, of a text of `rule_len` bytes.
@@ -92,7 +80,8 @@ pub fn explain_held(
             code, entry, rule_len, subject, budget, work, marks, steps,
         ),
         Outcome::Exhausted(begin, steps) => Explanation::Exhausted(begin, steps),
-        Outcome::Refused(why) => Explanation::Refused(why),
+        // a rule that stands is not refused
+        Outcome::Refused(_why) => unreachable!(),
     }
 }
 
@@ -106,12 +95,12 @@ pub fn explain(
     work_area: &mut [u32],
     names: &mut [u8],
     marks: &mut [u8],
-) -> Explanation
+) -> Result<Explanation, Refusal>
     ensures { Returned (explain_call (call_of rule.now flags subject.now budget rule_area.old work_area.old marks.old names.old)) (explanation_of result) rule_area.new work_area.new marks.new names.new }
 {
     // No result area is lent, so that none is too short.
     let short = false;
-    match prepare(
+    let compiled = prepare(
         rule,
         flags,
         false,
@@ -121,20 +110,16 @@ pub fn explain(
         work_area,
         short,
         names,
-    ) {
-        Preparation::Refused(f) => Explanation::Refused(f),
-        Preparation::Ready(entry, _groups) => {
-            let told = explain_held(
-                &rule_area[..RULE_AREA_NEED],
-                entry,
-                rule.len(),
-                subject,
-                budget,
-                work_area,
-                marks,
-            );
-            finish(rule_area, work_area, budget);
-            told
-        }
-    }
+    )?;
+    let told = explain_held(
+        &rule_area[..RULE_AREA_NEED],
+        compiled.entry,
+        rule.len(),
+        subject,
+        budget,
+        work_area,
+        marks,
+    );
+    finish(rule_area, work_area, budget);
+    Ok(told)
 }

@@ -13,7 +13,7 @@ ghost use Rattle.syntax.specs.Limits.{group_limit};
 ghost use Rattle.page_lines.specs.Rules.{Holds};
 
 use columns::{COLUMNS, collect};
-use frame::{NAME_INDEX_NEED, Preparation, prepare};
+use frame::{NAME_INDEX_NEED, prepare};
 use lines::Told;
 use office::{PIECE, ROOM, Rest, arg, arg_count, fail, flush, next_line, open, say, say_refusal};
 use options::Options;
@@ -153,14 +153,14 @@ fn run(
     match prepare(
         rule, o.flags, false, 0, o.budget, area, work, false, &mut names,
     ) {
-        Preparation::Refused(f) => say_refusal(rt, b"fields", f, rule),
-        Preparation::Ready(entry, groups) => {
+        Err(f) => say_refusal(rt, b"fields", f, rule),
+        Ok(compiled) => {
             look_on(
                 rt,
                 o,
                 rule,
-                entry,
-                groups,
+                compiled.entry,
+                compiled.groups,
                 &names,
                 &text[..n],
                 piece,

@@ -1,5 +1,5 @@
 // The word for a line, and the row of its match.
-ghost use Rattle.std.specs.Prelude.{◌≡◌, ◌*◌, ◌≤◌, length};
+ghost use Rattle.std.specs.Prelude.{◌≡◌, ◌*◌, ◌≤◌, Ok, length};
 ghost use Rattle.syntax.specs.Limits.{row_length};
 ghost use Rattle.semantics.specs.Calls.{room};
 ghost use Rattle.semantics.specs.Demands.{rows_reported};
@@ -19,13 +19,12 @@ use listing::{Listing, list_held};
 
 // How many rows a listing wrote.
 fn rows_of(listing: Listing) -> usize
-    ensures { result ≡ rows_reported (listing_of listing) }
+    ensures { result ≡ rows_reported (listing_of (Ok listing)) }
 {
     match listing {
         Listing::Complete(rows, _steps) => rows,
         Listing::Full(rows, _steps) => rows,
         Listing::Exhausted(_start, rows, _steps) => rows,
-        Listing::Refused(_f) => 0,
     }
 }
 
@@ -42,14 +41,13 @@ fn last_start(start: u32, rows: usize, results: &[u32]) -> u32
 
 // Whether a listing was cut before it went on from a start to another.
 fn is_cut(listing: Listing, start: u32, results: &[u32]) -> bool
-    requires { rows_reported (listing_of listing) * row_length ≤ length results.now }
-    ensures { result ≡ cut_by (listing_of listing) start results.now }
+    requires { rows_reported (listing_of (Ok listing)) * row_length ≤ length results.now }
+    ensures { result ≡ cut_by (listing_of (Ok listing)) start results.now }
 {
     match listing {
         Listing::Complete(_rows, _steps) => false,
         Listing::Full(rows, _steps) => last_start(start, rows, results) == start,
         Listing::Exhausted(n, _rows, _steps) => n == start,
-        Listing::Refused(_f) => false,
     }
 }
 
@@ -65,8 +63,8 @@ fn decide<'a>(
     results: &[u32],
 ) -> Word
     requires columned { Columned columns.now count }
-    requires row_len { (length row.now ≡ row_length) × (rows_reported (listing_of listing) * row_length ≤ length results.now) }
-    ensures { result ≡ verdict_by names.now line.now standing.now (names_from columns.now 0 count) row.now (listing_of listing) results.now }
+    requires row_len { (length row.now ≡ row_length) × (rows_reported (listing_of (Ok listing)) * row_length ≤ length results.now) }
+    ensures { result ≡ verdict_by names.now line.now standing.now (names_from columns.now 0 count) row.now (listing_of (Ok listing)) results.now }
 {
     let rows = rows_of(listing);
     if is_ambiguous(columns, count, names, line, standing, row, results, rows) {

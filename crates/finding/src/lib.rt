@@ -24,7 +24,7 @@ use seeking::{Sought, seek};
 use syntax::{GROUP_LIMIT, Refusal};
 
 // What a match tells: matched or not, and the steps; or the start at which its budget was used up, and the steps; or why it is refused.
-#[derive(Drop)]
+#[derive(Clone, Copy, Debug, PartialEq, Eq)]
 pub enum Outcome {
     Matched(u64),
     NotMatched(u64),

@@ -1,6 +1,6 @@
 -- Preparing a call: what it tells, and what it leaves in the rule area, the work area and the name index.
 -- docs/REFERENCE.md, 10.6, 15.3, 18.4
-use Rattle.std.specs.Prelude.{◌≡◌, Bool, true, List, ℕ, ◌≤◌, length, take, drop}
+use Rattle.std.specs.Prelude.{◌≡◌, Bool, true, List, ℕ, ◌≤◌, Result, Ok, Err, length, take, drop}
 use Rattle.std.proofs.Math.Option.{none, some}
 use Rattle.syntax.specs.declared.Refusal.{Refusal}
 use Rattle.syntax.specs.Limits.{rule_limit, rule_area_need, name_index_need}
@@ -11,8 +11,7 @@ use Rattle.syntax.specs.Checkable.{uncheckable}
 use Rattle.semantics.specs.Calls.{Call, work_area_need, unacceptable, over, cleared}
 use Rattle.semantics.specs.NameIndex.{name_index}
 use Rattle.machine.specs.Theorem.{Stands}
-use Rattle.frame.specs.declared.preparing.Preparation.{Preparation}
-use Rattle.frame.specs.declared.preparing.Preparation.TheVariants.{Ready, Refused}
+use Rattle.reader.specs.declared.compiling.Compiled.{Compiled}
 
 -- the rule and the areas are such that the rule can be read
 pub record Lends (rule : List ℕ) (budget : ℕ) (rule_area work_area names : List ℕ) : Type 0 where
@@ -44,6 +43,6 @@ pub record Readied (checked : Bool) (need : ℕ) (c : Call) (entry groups : ℕ)
   pub filled : names ≡ over (name_index (names_of c.rule c.flags)) c.names
   pub followed : checked ≡ true → uncheckable tree ≡ none
 
-abbrev pub Prepares : (checked : Bool) (need : ℕ) → Call → Preparation → (rule_area work_area names : List ℕ) → Type 0
-Prepares checked need c (Ready entry groups) rule_area work_area names = Readied checked need c entry groups rule_area work_area names
-Prepares checked need c (Refused f) rule_area work_area names = Denied checked need c f rule_area work_area names
+abbrev pub Prepares : (checked : Bool) (need : ℕ) → Call → Result Compiled Refusal → (rule_area work_area names : List ℕ) → Type 0
+Prepares checked need c (Ok x) rule_area work_area names = Readied checked need c x.entry x.groups rule_area work_area names
+Prepares checked need c (Err f) rule_area work_area names = Denied checked need c f rule_area work_area names

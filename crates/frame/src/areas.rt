@@ -10,11 +10,7 @@ pub fn clear(area: &mut [u32], n: usize)
     requires { n ≤ length area.old }
     ensures { area.new ≡ cleared n area.old }
 {
-    let mut i: usize = 0;
-    while i < n {
-        area[i] = 0;
-        i += 1;
-    }
+    area[..n].fill(0);
 }
 
 // Ends a call: the needed part of both areas is cleared.

@@ -10,7 +10,8 @@ mod areas;
 mod preparing;
 
 pub use areas::{clear, finish};
-pub use preparing::{Preparation, prepare};
+pub use preparing::prepare;
+pub use reader::Compiled;
 pub use refusals::{
     BUDGET_LIMIT, FLAGS_LIMIT, RULE_AREA_NEED, RULE_LIMIT, SUBJECT_LIMIT, WORK_PER_STEP,
 };

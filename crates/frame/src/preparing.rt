@@ -7,17 +7,9 @@ ghost use Rattle.frame.specs.Preparing.{Lends, Prepares};
 
 use crate::areas::finish;
 use naming::fill;
-use reader::{Compilation, TABLE_START, compile};
-use refusals::{Fitness, RULE_AREA_NEED, unfit};
+use reader::{Compiled, TABLE_START, compile};
+use refusals::{RULE_AREA_NEED, unfit};
 use syntax::Refusal;
-
-// A call that can be answered: its rule stands compiled in its area, with its entry and the number of its groups. Or why the call is refused, with
-// its areas already as they are left.
-#[derive(Drop)]
-pub enum Preparation {
-    Ready(u32, u32),
-    Refused(Refusal),
-}
 
 // Compiles the rule of a call that is acceptable so far, and fills the name index from the table that compiling leaves.
 fn compile_or_clear(
@@ -28,26 +20,29 @@ fn compile_or_clear(
     rule_area: &mut [u32],
     work_area: &mut [u32],
     names: &mut [u8],
-) -> Preparation
+) -> Result<Compiled, Refusal>
     requires { Lends rule.now budget rule_area.old work_area.old names.old }
     ensures { (need : ℕ) (line results : List ℕ) → none ≡ unacceptable need (call_of rule.now flags line budget rule_area.old work_area.old results names.old)
         → Prepares checked need (call_of rule.now flags line budget rule_area.old work_area.old results names.old) result rule_area.new work_area.new names.new }
 {
-    let compiled = compile(rule, flags, checked, rule_area);
-    match compiled {
-        Compilation::Sound(pc, groups) => {
-            let entry = pc as u32;
-            fill(rule, &rule_area[TABLE_START..RULE_AREA_NEED], groups, names);
-            Preparation::Ready(entry, groups)
+    match compile(rule, flags, checked, rule_area) {
+        Ok(compiled) => {
+            fill(
+                rule,
+                &rule_area[TABLE_START..RULE_AREA_NEED],
+                compiled.groups,
+                names,
+            );
+            Ok(compiled)
         }
-        Compilation::Refused(f) => {
+        Err(f) => {
             finish(rule_area, work_area, budget);
-            Preparation::Refused(f)
+            Err(f)
         }
     }
 }
 
-// Prepares a call, which may be a check. Of the subject its length is enough, and of the result area whether it is too short for what the call writes.
+// Prepares a call, which may be a check: its rule then stands compiled in its area. Or why the call is refused, with its areas already as they are left. Of the subject its length is enough, and of the result area whether it is too short for what the call writes.
 pub fn prepare(
     rule: &[u8],
     flags: u32,
@@ -58,11 +53,11 @@ pub fn prepare(
     work_area: &mut [u32],
     short: bool,
     names: &mut [u8],
-) -> Preparation
+) -> Result<Compiled, Refusal>
     ensures { (need : ℕ) (line results : List ℕ) → length line ≡ subject → ltb (length results) need ≡ short
         → Prepares checked need (call_of rule.now flags line budget rule_area.old work_area.old results names.old) result rule_area.new work_area.new names.new }
 {
-    match unfit(
+    unfit(
         rule.len(),
         flags,
         subject,
@@ -71,10 +66,7 @@ pub fn prepare(
         work_area.len(),
         short,
         names.len(),
-    ) {
-        Fitness::Unfit(reason) => Preparation::Refused(Refusal { place: 0, reason }),
-        Fitness::Fits => compile_or_clear(
-            rule, flags, checked, budget, rule_area, work_area, names,
-        ),
-    }
+    )
+    .map_err(|reason| Refusal::at(0, reason))?;
+    compile_or_clear(rule, flags, checked, budget, rule_area, work_area, names)
 }

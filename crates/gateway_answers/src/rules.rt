@@ -4,7 +4,7 @@ ghost use Rattle.syntax.specs.Limits.{rule_area_need};
 ghost use Rattle.gateway_answers.specs.Promises.{Prepares};
 
 use frame::RULE_LIMIT;
-use reader::{Compilation, compile};
+use reader::compile;
 use syntax::{Reason, Refusal};
 
 pub const FLAGS: u32 = 0;
@@ -27,12 +27,8 @@ pub fn prepare(rule: &[u8], checked: bool, rule_area: &mut [u32]) -> Readiness
             reason: Reason::RuleTooLong,
         });
     }
-    let compiled = compile(rule, FLAGS, checked, rule_area);
-    match compiled {
-        Compilation::Refused(f) => Readiness::Refused(f),
-        Compilation::Sound(pc, groups) => {
-            let entry = pc as u32;
-            Readiness::Ready(entry, groups)
-        }
+    match compile(rule, FLAGS, checked, rule_area) {
+        Err(f) => Readiness::Refused(f),
+        Ok(compiled) => Readiness::Ready(compiled.entry, compiled.groups),
     }
 }

@@ -86,7 +86,6 @@ fn answer_sent(
         Verdict::Reading(_steps) => put_reading(rt, &row, groups, out, at),
         Verdict::Nothing(_steps) => put(rt, out, at, b"N\n"),
         Verdict::Exhausted(start, _steps) => put_exhausted(rt, start, out, at),
-        Verdict::Refused(_why) => put(rt, out, at, b"N\n"),
     }
 }
 

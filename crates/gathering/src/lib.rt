@@ -4,14 +4,12 @@
 
 mod walking;
 
-use syntax::Refusal;
 pub use walking::list_starts;
 
-// What a listing answers: the rows written and the steps, before them the start that was cut short; or why it is refused.
-#[derive(Clone, Copy)]
+// What a listing answers: the rows written and the steps, before them the start that was cut short.
+#[derive(Clone, Copy, Debug, PartialEq, Eq)]
 pub enum Listing {
     Complete(usize, u64),
     Full(usize, u64),
     Exhausted(u32, usize, u64),
-    Refused(Refusal),
 }

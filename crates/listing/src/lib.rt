@@ -11,11 +11,12 @@ ghost use Rattle.machine.specs.Theorem.{Stands};
 ghost use Rattle.frame.specs.Inputs.{call_of, Returned, Held};
 ghost use Rattle.gathering.specs.Listing.{listing_of, Lists};
 
-use frame::{Preparation, REGISTERS, RULE_AREA_NEED, WORK_PER_STEP, finish, prepare};
+use frame::{REGISTERS, RULE_AREA_NEED, WORK_PER_STEP, finish, prepare};
 pub use gathering::Listing;
 use gathering::list_starts;
 use index::{ROW_LENGTH, UNSET};
 use noting::spans_of;
+use syntax::Refusal;
 
 // Lists the readings of a rule that stands compiled and has so many groups, one row each.
 pub fn list_held(
@@ -56,11 +57,11 @@ pub fn list_readings(
     work_area: &mut [u32],
     results: &mut [u32],
     names: &mut [u8],
-) -> Listing
+) -> Result<Listing, Refusal>
     ensures { Returned (list_call (call_of rule.now flags subject.now budget rule_area.old work_area.old results.old names.old)) (listing_of result) rule_area.new work_area.new results.new names.new }
 {
     let short = results.len() < ROW_LENGTH;
-    match prepare(
+    let compiled = prepare(
         rule,
         flags,
         false,
@@ -70,20 +71,16 @@ pub fn list_readings(
         work_area,
         short,
         names,
-    ) {
-        Preparation::Refused(f) => Listing::Refused(f),
-        Preparation::Ready(entry, groups) => {
-            let told = list_held(
-                &rule_area[..RULE_AREA_NEED],
-                entry,
-                groups,
-                subject,
-                budget,
-                work_area,
-                results,
-            );
-            finish(rule_area, work_area, budget);
-            told
-        }
-    }
+    )?;
+    let told = list_held(
+        &rule_area[..RULE_AREA_NEED],
+        compiled.entry,
+        compiled.groups,
+        subject,
+        budget,
+        work_area,
+        results,
+    );
+    finish(rule_area, work_area, budget);
+    Ok(told)
 }

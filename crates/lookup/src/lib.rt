@@ -12,7 +12,7 @@ mod rows;
 pub use fields::{field, find};
 
 // Where a field is.
-#[derive(Drop)]
+#[derive(Clone, Copy, Debug, PartialEq, Eq)]
 pub enum Found {
     // the part of the line that the group took, from one position to another
     Taken(usize, usize),

@@ -8,7 +8,7 @@ ghost use Rattle.finding.specs.Outcomes.{outcome_of};
 
 pub use finding::Outcome;
 use finding::match_held;
-use frame::{Preparation, RULE_AREA_NEED, finish, prepare};
+use frame::{RULE_AREA_NEED, finish, prepare};
 use index::ROW_LENGTH;
 
 // Matches a rule against a subject. A row for the first match is written into the results, and the name index is filled.
@@ -36,11 +36,11 @@ pub fn match_line(
         short,
         names,
     ) {
-        Preparation::Refused(f) => Outcome::Refused(f),
-        Preparation::Ready(entry, _groups) => {
+        Err(f) => Outcome::Refused(f),
+        Ok(compiled) => {
             let told = match_held(
                 &rule_area[..RULE_AREA_NEED],
-                entry,
+                compiled.entry,
                 subject,
                 budget,
                 work_area,

@@ -3,7 +3,7 @@
 // byte is written, so that nothing which stood there before is left.
 #![tactic(auto)]
 
-ghost use Rattle.std.specs.Prelude.{◌≡◌, ◌++◌, suc, ◌+◌, ◌*◌, ◌≤◌, ◌<◌, length, take, drop, get_or, replicate};
+ghost use Rattle.std.specs.Prelude.{◌≡◌, ◌++◌, suc, ◌+◌, ◌*◌, ◌≤◌, ◌<◌, length, take, drop, get_or};
 ghost use Rattle.std.proofs.Math.Seq.{slice};
 ghost use Rattle.syntax.specs.Limits.{group_limit, name_limit, name_entry, name_index_need};
 ghost use Rattle.syntax.specs.Laws.Names.{Short};
@@ -36,11 +36,8 @@ fn write_entry(rule: &[u8], from: usize, len: usize, names: &mut [u8], base: usi
     requires { (len ≤ name_limit) × (1 ≤ len → from + len ≤ length rule.now) × (base + name_entry ≤ length names.old) }
     ensures { names.new ≡ take base names.old ++ (entry (slice from (from + len) rule.now) ++ drop (base + name_entry) names.old) }
 {
-    let mut i: usize = 0;
-    while i < NAME_ENTRY {
-        let b = entry_byte(rule, from, len, i);
-        names[base + i] = b;
-        i += 1;
+    for i in 0..NAME_ENTRY {
+        names[base + i] = entry_byte(rule, from, len, i);
     }
 }
 
@@ -55,28 +52,15 @@ fn write_group(rule: &[u8], table: &[u32], groups: usize, g: usize, names: &mut 
     write_entry(rule, from, len, names, base);
 }
 
-// Sets all bytes to 00.
-fn pad(bytes: &mut [u8])
-    ensures { bytes.new ≡ replicate (length bytes.old) 0 }
-{
-    let mut i: usize = 0;
-    while i < bytes.len() {
-        bytes[i] = PADDING;
-        i += 1;
-    }
-}
-
 // Fills the index with the names that the table has for so many groups; the bytes behind it stay.
 pub fn fill(rule: &[u8], table: &[u32], groups: u32, names: &mut [u8])
     requires { NamesFit rule.now table.now groups × Short (names_in rule.now table.now groups) × (groups ≤ group_limit) × (name_index_need ≤ length names.old) }
     ensures { names.new ≡ over (name_index (names_in rule.now table.now groups)) names.old }
 {
     let many = groups as usize;
-    let mut g: usize = 0;
-    while g < many {
+    for g in 0..many {
         write_group(rule, table, many, g, names);
-        g += 1;
     }
     let end = many * NAME_ENTRY;
-    pad(&mut names[end..NAME_INDEX_NEED]);
+    names[end..NAME_INDEX_NEED].fill(PADDING);
 }

@@ -60,7 +60,5 @@ pub(crate) fn word_of(listing: Listing) -> Word {
         Listing::Complete(rows, _) => word_for(rows),
         Listing::Full(_, _) => Word::Ambiguous,
         Listing::Exhausted(_, _, _) => Word::Exhausted,
-        // the rule was accepted before, and the line is short enough
-        Listing::Refused(_) => Word::NotMatched,
     }
 }

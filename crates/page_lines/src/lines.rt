@@ -161,7 +161,6 @@ fn show_unmatched(
         // a line that has no readings is not matched
         Explanation::Matched(_) => at,
         Explanation::Exhausted(_, _) => at,
-        Explanation::Refused(_) => at,
     }
 }
 

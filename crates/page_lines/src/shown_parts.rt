@@ -59,8 +59,6 @@ pub(crate) fn show_listing(
             let p = put_spent(rt, out, at, start, rows);
             show_rows(rt, out, p, names, line, results, rows)
         }
-        // the rule was accepted before, and the line is short enough
-        Listing::Refused(_) => put_card_end(rt, out, at),
     }
 }
 

@@ -7,7 +7,7 @@ mod messages;
 ghost use Rattle.std.specs.Prelude.{◌≤◌, length};
 ghost use Rattle.propose.specs.Rules.{Holds};
 
-use frame::{BUDGET_LIMIT, NAME_INDEX_NEED, Preparation, RULE_LIMIT, prepare};
+use frame::{BUDGET_LIMIT, NAME_INDEX_NEED, RULE_LIMIT, prepare};
 use lines::{CHOICES, RULE_AREA, Setting, WORK_AREA};
 use office::{
     PIECE, ROOM, Rest, Value, arg, arg_count, fail, flush, next_line, open, say, say_refusal,
@@ -88,10 +88,13 @@ fn run(
 {
     let mut names = [0u8; NAME_INDEX_NEED];
     match prepare(rule, flags, true, 0, budget, area, work, false, &mut names) {
-        Preparation::Refused(f) => say_refusal(rt, b"propose", f, rule),
-        Preparation::Ready(entry, _groups) => {
+        Err(f) => say_refusal(rt, b"propose", f, rule),
+        Ok(compiled) => {
             if let Some(mut file) = open(rt, b"propose", LINES_FILE) {
-                let setting = Setting { entry, budget };
+                let setting = Setting {
+                    entry: compiled.entry,
+                    budget,
+                };
                 propose_lines(rt, &mut file, area, setting, piece, work, ways, proposal);
             }
         }

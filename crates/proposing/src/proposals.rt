@@ -34,7 +34,6 @@ fn accept(
         }
         Verdict::Nothing(_steps) => Proposed::Unfound,
         Verdict::Exhausted(_start, _steps) => Proposed::Exhausted,
-        Verdict::Refused(_why) => Proposed::Unfound,
     }
 }
 

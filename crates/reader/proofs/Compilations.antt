@@ -1,5 +1,6 @@
 -- A rule that was read and linked is compiled: the reading of the whole rule follows from what was parsed with the names that the table spells, and from
 -- whether all references are resolved; what linking made stands in the needed part of the area, and the table behind it.
+use Rattle.std.specs.Prelude.{Result, Ok, Err}
 use mathlib.Core.Path.{◌≡◌, refl, sym, ap, subst, ◌∙◌}
 use mathlib.Core.Bool.{Bool, true, false}
 use mathlib.Core.List.{List, [], ◌++◌, append_assoc}
@@ -34,10 +35,8 @@ use Rattle.lengths.specs.Measures.{Deep, Judged, Judges, Followed, Follows}
 use Rattle.parts.specs.declared.Cursor.{Cursor}
 use Rattle.parts.specs.declared.Answer.TheVariants.{Sound}
 use Rattle.reader.specs.Areas.{table_start}
-use Rattle.writer.specs.Wrote.{Wrote}
 use Rattle.reader.specs.Says.{Reads}
-use Rattle.reader.specs.declared.compiling.Compilation.{Compilation}
-use Rattle.reader.specs.declared.compiling.Compilation.TheVariants.{Sound as Compiled·rule, Refused as Failed}
+use Rattle.reader.specs.declared.compiling.Compiled.{Compiled}
 use Rattle.reader.specs.Compiles.{StandsWith, Unfollowed, Fails, SaysWith, Says, Compiles}
 
 -- The table -----------------------------------------------------------------------
@@ -209,20 +208,18 @@ module _ (part old : List ℕ) (long : length part ≡ table_start) (enough : ru
       length-take spans_length (drop table_start (part ++ drop table_start old)) ∙ rw k (omega arith)
 
 -- What stands in the first numbers stands in the whole area, in which the table follows them and whose rest is as it was.
-module _ (checked : Bool) (s : List ℕ) (flags : ℕ) (old part before copy table : List ℕ) (long : length part ≡ table_start) (wide : length copy ≡ spans_length) (enough : rule_area_need ≤ length old) (w : Wrote before copy 0 spans_length table) where
+module _ (checked : Bool) (s : List ℕ) (flags : ℕ) (old part table : List ℕ) (long : length part ≡ table_start) (wide : length table ≡ spans_length) (enough : rule_area_need ≤ length old) where
   abbrev pub joined : List ℕ
-  joined = part ++ (copy ++ drop rule_area_need old)
+  joined = part ++ (table ++ drop rule_area_need old)
 
   front : (i : ℕ) → i < table_start → get_or joined i 0 ≡ get_or part i 0
-  front i h = get_or-append part (copy ++ drop rule_area_need old) 0 i (omega arith)
+  front i h = get_or-append part (table ++ drop rule_area_need old) 0 i (omega arith)
 
-  behind : drop table_start joined ≡ copy ++ drop rule_area_need old
-  behind = drop_at part (copy ++ drop rule_area_need old) table_start long
+  behind : drop table_start joined ≡ table ++ drop rule_area_need old
+  behind = drop_at part (table ++ drop rule_area_need old) table_start long
 
   copied : (i : ℕ) → i < spans_length → get_or (drop table_start joined) i 0 ≡ get_or table i 0
-  copied i h =
-      let e : i ≡ 0 + i = omega arith in
-      ap (λ (l : List ℕ). get_or l i 0) behind ∙ get_or-append copy (drop rule_area_need old) 0 i (omega arith) ∙ ap (λ (j : ℕ). get_or copy j 0) e ∙ w.at i h
+  copied i h = ap (λ (l : List ℕ). get_or l i 0) behind ∙ get_or-append table (drop rule_area_need old) 0 i (omega arith)
 
   few-names : (groups : ℕ) → groups ≤ group_limit → 2 * groups ≤ spans_length
   unfolding spans_length
@@ -232,43 +229,43 @@ module _ (checked : Bool) (s : List ℕ) (flags : ℕ) (old part before copy tab
   unfolding table_start rule_area_need spans_length group_limit
   starts = omega arith
 
-  says-wider : (r : Compilation) → SaysWith checked s flags part table table_start r → Says checked s flags joined r
-  says-wider (Compiled·rule pc groups) x =
+  says-wider : (r : Result Compiled Refusal) → SaysWith checked s flags part table table_start r → Says checked s flags joined r
+  says-wider (Ok c) x =
       let b = start-below in
-      let g : WellFormed groups x.tree = rw x.reads at (well-formed s flags) in
-      let n = few-names groups g.few in
+      let g : WellFormed c.groups x.tree = rw x.reads at (well-formed s flags) in
+      let n = few-names c.groups g.few in
       let m = x.many in
       record {
         tree = x.tree;
         stop = x.stop;
         reads = x.reads;
         end = front 0 starts ∙ x.end;
-        compiled = keep part joined 1 table_start 1 rule_area_need (omega arith) b (λ i a u. front i u) x.tree pc 0 spans_length x.compiled;
+        compiled = keep part joined 1 table_start 1 rule_area_need (omega arith) b (λ i a u. front i u) x.tree c.entry 0 spans_length x.compiled;
         near = omega (arith, x.near);
         many = x.many;
         named = spelled_same s _ table (drop table_start joined) (λ i l. copied i (omega arith)) x.named;
         followed = x.followed;
       }
-  says-wider (Failed f) x = x
+  says-wider (Err f) x = x
 
   rest : drop rule_area_need joined ≡ drop rule_area_need old
   rest =
-      let e : length (part ++ copy) ≡ rule_area_need = length-append part copy ∙ rw (long, wide) whole-need in
-      ap (λ (l : List ℕ). drop rule_area_need l) (sym (append_assoc part copy (drop rule_area_need old))) ∙ drop_at (part ++ copy) (drop rule_area_need old) rule_area_need e
+      let e : length (part ++ table) ≡ rule_area_need = length-append part table ∙ rw (long, wide) whole-need in
+      ap (λ (l : List ℕ). drop rule_area_need l) (sym (append_assoc part table (drop rule_area_need old))) ∙ drop_at (part ++ table) (drop rule_area_need old) rule_area_need e
 
   joined-long : length joined ≡ length old
   joined-long = let e = whole-need in simp (length-append, length-drop) (omega arith)
 
-  pub wider : (r : Compilation) → SaysWith checked s flags part table table_start r → Compiles checked s flags old joined r
+  pub wider : (r : Result Compiled Refusal) → SaysWith checked s flags part table table_start r → Compiles checked s flags old joined r
   wider r x = record { says = says-wider r x; rest = rest; long = joined-long }
 
   -- what comes back from the two parts that were lent
-  pub is-joined : take table_start (part ++ drop table_start old) ++ (copy ++ drop spans_length (drop table_start (part ++ drop table_start old))) ≡ joined
+  pub is-joined : take table_start (part ++ drop table_start old) ++ (table ++ drop spans_length (drop table_start (part ++ drop table_start old))) ≡ joined
   is-joined =
       let a = take_at part (drop table_start old) table_start long in
       let b = drop_at part (drop table_start old) table_start long in
       let c = drop-drop spans_length table_start old ∙ ap (λ (n : ℕ). drop n old) whole-need in
       rw (a, b, c)
 
-  pub back-joined : length (take table_start (part ++ drop table_start old) ++ (copy ++ drop spans_length (drop table_start (part ++ drop table_start old)))) ≡ length old
+  pub back-joined : length (take table_start (part ++ drop table_start old) ++ (table ++ drop spans_length (drop table_start (part ++ drop table_start old)))) ≡ length old
   back-joined = ap length is-joined ∙ joined-long

@@ -1,6 +1,6 @@
 -- What compiling a rule promises: for a check, or for a call of any other kind.
 -- docs/REFERENCE.md, 4.1, 10.6
-use Rattle.std.specs.Prelude.{◌≡◌, Bool, true, false, List, ◌⊎◌, ℕ, ◌≤◌, get_or, length, drop}
+use Rattle.std.specs.Prelude.{◌≡◌, Bool, true, false, List, ◌⊎◌, ℕ, ◌≤◌, Result, Ok, Err, get_or, length, drop}
 use Rattle.std.proofs.Math.Option.{none, some}
 use Rattle.syntax.specs.declared.Refusal.{Refusal}
 use Rattle.syntax.specs.Limits.{rule_area_need, spans_length}
@@ -11,8 +11,7 @@ use Rattle.syntax.specs.Checkable.{uncheckable}
 use Rattle.syntax.specs.Compiled.{Compiled}
 use Rattle.name_table.specs.Table.{Spelled}
 use Rattle.reader.specs.Areas.{table_start}
-use Rattle.reader.specs.declared.compiling.Compilation.{Compilation}
-use Rattle.reader.specs.declared.compiling.Compilation.TheVariants.{Sound, Refused}
+use Rattle.reader.specs.declared.compiling.Compiled.{Compiled as CompiledRule}
 
 -- The rule that the bytes and flags give stands compiled in the area below `top`, entered at pc; the end's node, at position 0, follows it. The table
 -- spells the names of its groups. A check can follow it, if it is compiled for one.
@@ -44,15 +43,15 @@ abbrev pub Fails : Bool → List ℕ → ℕ → Refusal → Type 0
 Fails false s flags f = reading s flags ≡ refused f.place f.reason
 Fails true s flags f = (reading s flags ≡ refused f.place f.reason) ⊎ Unfollowed s flags f
 
-abbrev pub SaysWith : Bool → List ℕ → ℕ → (area table : List ℕ) → ℕ → Compilation → Type 0
-SaysWith checked s flags area table top (Sound pc groups) = StandsWith checked s flags area table top pc groups
-SaysWith checked s flags area table top (Refused f) = Fails checked s flags f
+abbrev pub SaysWith : Bool → List ℕ → ℕ → (area table : List ℕ) → ℕ → Result CompiledRule Refusal → Type 0
+SaysWith checked s flags area table top (Ok c) = StandsWith checked s flags area table top c.entry c.groups
+SaysWith checked s flags area table top (Err f) = Fails checked s flags f
 
-abbrev pub Says : Bool → List ℕ → ℕ → List ℕ → Compilation → Type 0
+abbrev pub Says : Bool → List ℕ → ℕ → List ℕ → Result CompiledRule Refusal → Type 0
 Says checked s flags area r = SaysWith checked s flags area (drop table_start area) rule_area_need r
 
 -- the answer is the reading's, and nothing behind the needed part of the area changed
-pub record Compiles (checked : Bool) (s : List ℕ) (flags : ℕ) (old new : List ℕ) (r : Compilation) : Type 0 where
+pub record Compiles (checked : Bool) (s : List ℕ) (flags : ℕ) (old new : List ℕ) (r : Result CompiledRule Refusal) : Type 0 where
   pub says : Says checked s flags new r
   pub rest : drop rule_area_need new ≡ drop rule_area_need old
   pub long : length new ≡ length old

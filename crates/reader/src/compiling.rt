@@ -5,7 +5,6 @@ ghost use Rattle.syntax.specs.Flags.{depot};
 ghost use Rattle.linker.specs.Nodes.{Inside};
 ghost use Rattle.lengths.specs.Measures.{Deep, Judges, Follows};
 ghost use Rattle.reader.specs.Areas.{table_start};
-ghost use Rattle.writer.specs.Wrote.{Wrote};
 ghost use Rattle.reader.specs.Compiles.{SaysWith, Compiles};
 
 use crate::read_rule;
@@ -21,11 +20,11 @@ const RULE_AREA: usize = 16384;
 // Where the table begins, two numbers for each group.
 pub const TABLE_START: usize = RULE_AREA - SPANS_LENGTH;
 
-// A compiled rule: where it is entered and how many groups it has; or why there is none.
-#[derive(Drop)]
-pub enum Compilation {
-    Sound(usize, u32),
-    Refused(Refusal),
+// A compiled rule: where it is entered, and how many groups it has.
+#[derive(Clone, Copy, Debug, PartialEq, Eq)]
+pub struct Compiled {
+    pub entry: u32,
+    pub groups: u32,
 }
 
 // What the depot profile says of the rule whose inside stands at p, if it is asked for.
@@ -58,55 +57,48 @@ fn compile_into(
     checked: bool,
     area: &mut [u32],
     table: &mut [u32],
-) -> Compilation
+) -> Result<Compiled, Refusal>
     requires { (length rule.now ≤ rule_limit) × (table_start ≤ length area.old) × (spans_length ≤ length table.old) }
     ensures { SaysWith checked rule.now flags area.new table.new table_start result }
 {
     let r = read_rule(rule, flags, area, table);
     match r {
-        Answer::Refused(f) => Compilation::Refused(f),
+        Answer::Refused(f) => Err(f),
         Answer::Sound(d, inside) => {
             let groups = d.opened;
             let profile = judged(area, inside, flags);
             let course = followed(area, inside, checked);
             let l = link(rule, area, inside, groups, table);
             match l {
-                Linkage::NoGroup(place) => Compilation::Refused(Refusal {
-                    place,
-                    reason: Reason::NoSuchGroup,
-                }),
+                Linkage::NoGroup(place) => Err(Refusal::at(place, Reason::NoSuchGroup)),
                 Linkage::Entry(pc) => match profile {
                     Judgement::Passes => match course {
-                        Judgement::Passes => Compilation::Sound(pc, groups),
-                        Judgement::Barred(f) => Compilation::Refused(f),
+                        Judgement::Passes => Ok(Compiled {
+                            entry: pc as u32,
+                            groups,
+                        }),
+                        Judgement::Barred(f) => Err(f),
                     },
-                    Judgement::Barred(f) => Compilation::Refused(f),
+                    Judgement::Barred(f) => Err(f),
                 },
             }
         }
     }
 }
 
-// Copies the table into its part of the area.
-fn put_table(part: &mut [u32], table: [u32; SPANS_LENGTH])
-    requires { spans_length ≤ length part.old }
-    ensures { Wrote part.old part.new 0 spans_length table }
-{
-    let numbers = table;
-    for i in 0..SPANS_LENGTH {
-        let number = numbers[i];
-        part[i] = number;
-    }
-}
-
 // Compiles a rule into the first numbers of the area. The others are not even lent on. The table is made beside the area, since no two parts of one slice
 // can be lent at a time. A rule that is compiled for a check must be one that a check can follow.
-pub fn compile(rule: &[u8], flags: u32, checked: bool, area: &mut [u32]) -> Compilation
+pub fn compile(
+    rule: &[u8],
+    flags: u32,
+    checked: bool,
+    area: &mut [u32],
+) -> Result<Compiled, Refusal>
     requires { (length rule.now ≤ rule_limit) × (rule_area_need ≤ length area.old) }
     ensures { Compiles checked rule.now flags area.old area.new result }
 {
     let mut table = [0; SPANS_LENGTH];
     let r = compile_into(rule, flags, checked, &mut area[..TABLE_START], &mut table);
-    put_table(&mut area[TABLE_START..RULE_AREA], table);
+    area[TABLE_START..RULE_AREA].copy_from_slice(&table);
     r
 }

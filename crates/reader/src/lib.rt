@@ -17,7 +17,7 @@ use writer::{FINISH, LAST, put_branch, put_three};
 
 mod compiling;
 
-pub use compiling::{Compilation, TABLE_START, compile};
+pub use compiling::{Compiled, TABLE_START, compile};
 
 // Bytes that a rule gives a meaning, as `peek` gives them.
 const OPENING: u32 = b'(' as u32;

@@ -73,7 +73,6 @@ fn tell_unmatched(
         // a line that has no readings is not matched
         Explanation::Matched(_) => p,
         Explanation::Exhausted(_, _) => p,
-        Explanation::Refused(_) => p,
     }
 }
 

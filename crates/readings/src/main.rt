@@ -11,7 +11,7 @@ ghost use Rattle.std.specs.Prelude.{◌≤◌, length};
 ghost use Rattle.page_lines.specs.Rules.{Holds};
 
 use counts::KINDS;
-use frame::{BUDGET_LIMIT, NAME_INDEX_NEED, Preparation, prepare};
+use frame::{BUDGET_LIMIT, NAME_INDEX_NEED, prepare};
 use lines::Setting;
 use office::{
     PIECE, Rest, Value, arg, arg_count, asks_for_page, fail, next_line, open, put, say_refusal,
@@ -164,12 +164,12 @@ fn run(
 {
     let mut names = [0u8; NAME_INDEX_NEED];
     match prepare(rule, flags, false, 0, budget, area, work, false, &mut names) {
-        Preparation::Refused(f) => say_refusal(rt, b"readings", f, rule),
-        Preparation::Ready(entry, groups) => {
+        Err(f) => say_refusal(rt, b"readings", f, rule),
+        Ok(compiled) => {
             if let Some(mut file) = open(rt, b"readings", LINES_FILE + shift) {
                 let setting = Setting {
-                    entry,
-                    groups,
+                    entry: compiled.entry,
+                    groups: compiled.groups,
                     flags,
                     budget,
                     margin: margin_for(&names),

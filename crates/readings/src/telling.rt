@@ -55,7 +55,6 @@ pub(crate) fn is_unmatched(listing: Listing) -> bool {
         Listing::Complete(rows, _) => rows == 0,
         Listing::Full(_, _) => false,
         Listing::Exhausted(_, _, _) => false,
-        Listing::Refused(_) => false,
     }
 }
 
@@ -116,7 +115,5 @@ pub(crate) fn tell(
             let q = put_readings(rt, out, p, b"", rows, b" until then\n");
             show(rt, out, q, margin, names, line, results, rows, counts)
         }
-        // the rule was accepted before, and the line is short enough
-        Listing::Refused(_) => put(rt, out, at, b"refused\n"),
     }
 }

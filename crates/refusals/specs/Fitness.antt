@@ -1,16 +1,14 @@
 -- What is answered on whether a call is acceptable.
 -- docs/REFERENCE.md, 10.2
-use Rattle.std.specs.Prelude.{◌≡◌, Bool, ℕ, length, ltb}
+use Rattle.std.specs.Prelude.{◌≡◌, Bool, ℕ, Result, Ok, Err, ⊤, length, ltb}
 use Rattle.std.proofs.Math.Option.{Option, none, some}
 use Rattle.syntax.specs.declared.Reason.{Reason}
 use Rattle.semantics.specs.Calls.{Call}
-use Rattle.refusals.specs.declared.Fitness.{Fitness}
-use Rattle.refusals.specs.declared.Fitness.TheVariants.{Fits, Unfit}
 
 -- the reason that an answer names
-unfoldable pub fitness_of : Fitness → Option Reason
-fitness_of Fits = none
-fitness_of (Unfit why) = some why
+unfoldable pub fitness_of : Result ⊤ Reason → Option Reason
+fitness_of (Ok _) = none
+fitness_of (Err why) = some why
 
 -- what of a call it is accepted or refused by, where so many numbers are needed in its result area
 pub record Sized (need : ℕ) (c : Call) (rule flags subject budget rule_area work_area : ℕ) (short : Bool) (names : ℕ) : Type 0 where

@@ -22,14 +22,7 @@ pub const RULE_AREA_NEED: usize = 16384;
 
 pub const WORK_PER_STEP: usize = 16;
 
-// Whether a call can be answered, and if not, why.
-#[derive(Drop)]
-pub enum Fitness {
-    Fits,
-    Unfit(Reason),
-}
-
-// Whether a call is acceptable, by the lengths of what is handed in, the flags and the budget, and by whether the result area is too short.
+// Whether a call is acceptable, and if not, why: by the lengths of what is handed in, the flags and the budget, and by whether the result area is too short.
 pub fn unfit(
     rule: usize,
     flags: u32,
@@ -39,32 +32,32 @@ pub fn unfit(
     work_area: usize,
     short: bool,
     names: usize,
-) -> Fitness
+) -> Result<(), Reason>
     ensures { (need : ℕ) (c : Call) → Sized need c rule flags subject budget rule_area work_area short names → fitness_of result ≡ unacceptable need c }
 {
     if RULE_LIMIT < rule {
-        return Fitness::Unfit(Reason::RuleTooLong);
+        return Err(Reason::RuleTooLong);
     }
     if SUBJECT_LIMIT < subject {
-        return Fitness::Unfit(Reason::SubjectTooLong);
+        return Err(Reason::SubjectTooLong);
     }
     if FLAGS_LIMIT <= flags {
-        return Fitness::Unfit(Reason::UnknownFlag);
+        return Err(Reason::UnknownFlag);
     }
     if BUDGET_LIMIT < budget {
-        return Fitness::Unfit(Reason::BudgetTooLarge);
+        return Err(Reason::BudgetTooLarge);
     }
     if rule_area < RULE_AREA_NEED {
-        return Fitness::Unfit(Reason::RuleAreaShort);
+        return Err(Reason::RuleAreaShort);
     }
     if work_area < WORK_PER_STEP * budget as usize {
-        return Fitness::Unfit(Reason::WorkAreaShort);
+        return Err(Reason::WorkAreaShort);
     }
     if short {
-        return Fitness::Unfit(Reason::ResultAreaShort);
+        return Err(Reason::ResultAreaShort);
     }
     if names < NAME_INDEX_NEED {
-        return Fitness::Unfit(Reason::NameIndexShort);
+        return Err(Reason::NameIndexShort);
     }
-    Fitness::Fits
+    Ok(())
 }

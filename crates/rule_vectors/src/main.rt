@@ -5,8 +5,6 @@
 ghost use Rattle.std.specs.Prelude.{◌≤◌, length};
 ghost use Rattle.syntax.specs.Limits.{rule_limit, rule_area_need};
 
-use reader::Compilation;
-
 // Greater flags are held at this.
 const FLAGS_MOST: u32 = 1000;
 
@@ -15,13 +13,12 @@ fn tell(rt: &HostRuntime, rule: &[u8], flags: u32, area: &mut [u32])
     requires { (length rule.now ≤ rule_limit) × (rule_area_need ≤ length area.old) }
 {
     match reader::compile(rule, flags, false, area) {
-        Compilation::Sound(_, groups) => {
+        Ok(compiled) => {
             let _ = rt.write_all(b"sound ");
-            let _ = rt.print(groups as u64);
+            let _ = rt.print(compiled.groups as u64);
         }
-        Compilation::Refused(f) => {
-            let reason = f.reason;
-            let _ = rt.print(u32::from(reason) as u64);
+        Err(f) => {
+            let _ = rt.print(u32::from(f.reason) as u64);
             let _ = rt.write_all(b" at ");
             let _ = rt.print(f.place as u64);
         }

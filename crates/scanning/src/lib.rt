@@ -15,10 +15,11 @@ ghost use Rattle.frame.specs.Inputs.{call_of, Returned, Held};
 ghost use Rattle.gathering.specs.Listing.{listing_of};
 ghost use Rattle.scans.specs.Scanning.{Scans};
 
-use frame::{Preparation, REGISTERS, RULE_AREA_NEED, WORK_PER_STEP, finish, prepare};
+use frame::{REGISTERS, RULE_AREA_NEED, WORK_PER_STEP, finish, prepare};
 use gathering::Listing;
 use index::{ROW_LENGTH, UNSET};
 use scans::scan_searches;
+use syntax::Refusal;
 
 // The successive matches of a rule that stands compiled, one row each.
 pub fn scan_held(
@@ -56,11 +57,11 @@ pub fn match_all(
     work_area: &mut [u32],
     results: &mut [u32],
     names: &mut [u8],
-) -> Listing
+) -> Result<Listing, Refusal>
     ensures { Returned (scan_call (call_of rule.now flags subject.now budget rule_area.old work_area.old results.old names.old)) (listing_of result) rule_area.new work_area.new results.new names.new }
 {
     let short = results.len() < ROW_LENGTH;
-    match prepare(
+    let compiled = prepare(
         rule,
         flags,
         false,
@@ -70,19 +71,15 @@ pub fn match_all(
         work_area,
         short,
         names,
-    ) {
-        Preparation::Refused(f) => Listing::Refused(f),
-        Preparation::Ready(entry, _groups) => {
-            let told = scan_held(
-                &rule_area[..RULE_AREA_NEED],
-                entry,
-                subject,
-                budget,
-                work_area,
-                results,
-            );
-            finish(rule_area, work_area, budget);
-            told
-        }
-    }
+    )?;
+    let told = scan_held(
+        &rule_area[..RULE_AREA_NEED],
+        compiled.entry,
+        subject,
+        budget,
+        work_area,
+        results,
+    );
+    finish(rule_area, work_area, budget);
+    Ok(told)
 }

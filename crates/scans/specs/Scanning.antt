@@ -1,6 +1,6 @@
 -- Successive matches: what the code tells, and what it holds between two searches.
 -- docs/REFERENCE.md, 16.4, 18.3
-use Rattle.std.specs.Prelude.{◌≡◌, List, Bool, ℕ, ◌-◌, ◌≤◌, length}
+use Rattle.std.specs.Prelude.{◌≡◌, List, Bool, ℕ, ◌-◌, ◌≤◌, Ok, length}
 use Rattle.syntax.specs.Tree.{Rule}
 use Rattle.semantics.specs.States.{Row}
 use Rattle.semantics.specs.Answers.{Ending, complete, full, exhausted_at}
@@ -15,7 +15,7 @@ use Rattle.seeking.specs.declared.Sought.TheVariants.{Found, Nothing, Spent}
 
 -- the answer is that of successive matches, and their rows stand in the area
 pub record Scans (sub : List ℕ) (x : Rule) (budget : ℕ) (old new : List ℕ) (r : Listing) : Type 0 where
-  pub outcome : let l = scan sub x budget (room old) in listing_of r ≡ list_outcome l.ending (length l.rows) l.steps
+  pub outcome : let l = scan sub x budget (room old) in listing_of (Ok r) ≡ list_outcome l.ending (length l.rows) l.steps
   pub results : new ≡ over (joined (scan sub x budget (room old)).rows) old
 
 -- how it ends with a search behind the last row, and that search's steps

@@ -5,7 +5,7 @@
 // that it ends.
 #![tactic(auto)]
 
-ghost use Rattle.std.specs.Prelude.{◌≡◌, ◌+◌, ◌<◌, ◌^◌, length};
+ghost use Rattle.std.specs.Prelude.{◌≡◌, ◌+◌, ◌<◌, ◌^◌, Ok, length};
 ghost use Rattle.syntax.specs.Limits.{registers};
 ghost use Rattle.syntax.specs.Tree.{Rule};
 ghost use Rattle.semantics.specs.Calls.{list_outcome};
@@ -35,7 +35,7 @@ fn reset(regs: &mut [u32])
 // What is told behind the last row: the last search found nothing, or its budget was used up, or it found a match that has no row left.
 fn end_scan(last: Sought, rows: usize, steps: u64) -> Listing
     requires { steps + steps_of last < 2 ^ 64 }
-    ensures { listing_of result ≡ list_outcome (last_of last) rows (steps + steps_of last) }
+    ensures { listing_of (Ok result) ≡ list_outcome (last_of last) rows (steps + steps_of last) }
 {
     match last {
         Sought::Found(_start, _stop, used) => Listing::Full(rows, steps + used),

@@ -1,8 +1,9 @@
 -- The place of a refusal that a call gives fits into 32 bits, so that it can be told.
-use Rattle.std.specs.Prelude.{◌≡◌, refl, List, ℕ, ◌≤◌, ◌<◌, length}
+use Rattle.std.specs.Prelude.{◌≡◌, refl, List, ℕ, ◌≤◌, ◌<◌, Result, length}
 use Rattle.std.proofs.Common.{arith}
 use Rattle.std.proofs.Math.Decide.{dec_lt}
 use Rattle.syntax.specs.declared.Reason.{Reason}
+use Rattle.syntax.specs.declared.Refusal.{Refusal}
 use Rattle.syntax.specs.declared.Reason.TheVariants.{RuleTooLong}
 use Rattle.syntax.specs.Limits.{rule_limit, row_length}
 use Rattle.syntax.specs.Read.{Read, refused}
@@ -22,7 +23,6 @@ use Rattle.finding.specs.Outcomes.{outcome_of}
 use Rattle.gathering.specs.Listing.{listing_of}
 use Rattle.explaining.specs.declared.Explanation.{Explanation}
 use Rattle.explaining.specs.Explanations.{explanation_of}
-use Rattle.batching.specs.declared.Batch.{Batch}
 use Rattle.batching.specs.Batches.{batch_of}
 use Rattle.checking.specs.declared.Verdict.{Verdict}
 use Rattle.checking.specs.Verdicts.{verdict_of}
@@ -91,17 +91,17 @@ check-placed proposal c = of (check_call proposal c).outcome refl
 pub match-told : (o : Outcome) (c : Call) → outcome_of o ≡ (match_call c).outcome → MatchPlaced (outcome_of o)
 match-told o c e = rw e (match-placed c)
 
-pub list-told : (o : Listing) (c : Call) → listing_of o ≡ (list_call c).outcome → ListPlaced (listing_of o)
+pub list-told : (o : Result Listing Refusal) (c : Call) → listing_of o ≡ (list_call c).outcome → ListPlaced (listing_of o)
 list-told o c e = rw e (rows-placed c (list_call c).outcome (λ place why. ((list-meets-demands c).demand_1.refused_exactly place why).0))
 
-pub scan-told : (o : Listing) (c : Call) → listing_of o ≡ (scan_call c).outcome → ListPlaced (listing_of o)
+pub scan-told : (o : Result Listing Refusal) (c : Call) → listing_of o ≡ (scan_call c).outcome → ListPlaced (listing_of o)
 scan-told o c e = rw e (rows-placed c (scan_call c).outcome (λ place why. ((scan-meets-demands c).demand_1.refused_exactly place why).0))
 
-pub explain-told : (o : Explanation) (c : Call) → explanation_of o ≡ (explain_call c).outcome → ExplainPlaced (explanation_of o)
+pub explain-told : (o : Result Explanation Refusal) (c : Call) → explanation_of o ≡ (explain_call c).outcome → ExplainPlaced (explanation_of o)
 explain-told o c e = rw e (explain-placed c)
 
-pub batch-told : (o : Batch) (c : Call) → batch_of o ≡ (batch_call c).outcome → BatchPlaced (batch_of o)
+pub batch-told : (o : Result ℕ Refusal) (c : Call) → batch_of o ≡ (batch_call c).outcome → BatchPlaced (batch_of o)
 batch-told o c e = rw e (batch-placed c)
 
-pub check-told : (o : Verdict) (proposal : List ℕ) (c : Call) → verdict_of o ≡ (check_call proposal c).outcome → CheckPlaced (verdict_of o)
+pub check-told : (o : Result Verdict Refusal) (proposal : List ℕ) (c : Call) → verdict_of o ≡ (check_call proposal c).outcome → CheckPlaced (verdict_of o)
 check-told o proposal c e = rw e (check-placed proposal c)

@@ -14,7 +14,6 @@ ghost use Rattle.machine.specs.Words.{now_of};
 ghost use Rattle.machine.specs.Ready.{Ready};
 
 use machine::{Machine, Stop};
-use reader::Compilation;
 use syntax::REGISTERS;
 
 fn put(rt: &HostRuntime, text: &[u8]) {
@@ -110,16 +109,16 @@ fn walk_from(
     code: &[u32],
     sub: &[u8],
     work: &mut [u32],
-    pc: usize,
+    entry: u32,
     groups: u32,
     start: usize,
     budget: u32,
 )
-    requires start_in_bounds { (start ≤ length sub.now) × (length sub.now < 2 ^ 32) × (length code.now < 2 ^ 32) × (8 * budget ≤ length work.old) × (groups ≤ group_limit) × (pc < 2 ^ 32) × (2 * budget < 2 ^ 32) }
-    requires stands { (x : Rule) × Stands code.now x pc }
+    requires start_in_bounds { (start ≤ length sub.now) × (length sub.now < 2 ^ 32) × (length code.now < 2 ^ 32) × (8 * budget ≤ length work.old) × (groups ≤ group_limit) × (2 * budget < 2 ^ 32) }
+    requires stands { (x : Rule) × Stands code.now x entry }
 {
     let mut regs = [4294967295u32; REGISTERS];
-    let m = machine::start(pc as u32, start as u32);
+    let m = machine::start(entry, start as u32);
     walk(rt, code, sub, &mut regs, work, m, budget, groups as usize);
 }
 
@@ -141,10 +140,18 @@ fn tell(
         return;
     }
     match reader::compile(rule, flags, false, area) {
-        Compilation::Sound(pc, groups) => walk_from(rt, area, sub, work, pc, groups, start, budget),
-        Compilation::Refused(f) => {
-            let reason = f.reason;
-            put_number(rt, u32::from(reason));
+        Ok(compiled) => walk_from(
+            rt,
+            area,
+            sub,
+            work,
+            compiled.entry,
+            compiled.groups,
+            start,
+            budget,
+        ),
+        Err(f) => {
+            put_number(rt, u32::from(f.reason));
             put(rt, b" at ");
             let _ = rt.print(f.place as u64);
             put(rt, b"\n");

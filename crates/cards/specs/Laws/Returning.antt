@@ -1,10 +1,11 @@
 -- What the code answers and leaves is what the calls define, for each way in which they end.
-use Rattle.std.specs.Prelude.{◌≡◌, false, List, [], ℕ, ◌+◌, ◌*◌, ◌/◌, ◌≤◌, ◌<◌, get_or, take, drop}
+use Rattle.std.specs.Prelude.{◌≡◌, false, List, [], ℕ, ◌+◌, ◌*◌, ◌/◌, ◌≤◌, ◌<◌, Result, Ok, Err, ⊤, get_or, take, drop}
 use Rattle.std.proofs.Math.Path.{refl, sym, ap}
 use Rattle.std.proofs.Common.{subst, ◌∙◌, arith, length-take, take_at}
 use Rattle.std.proofs.Math.Option.{Option, some}
 use borrow.Author.Tests.{le-leb, lt-leb}
 use Rattle.std.proofs.Math.ListN.{length}
+use Rattle.syntax.specs.declared.Refusal.{Refusal}
 use Rattle.syntax.specs.declared.Reason.{Reason}
 use Rattle.syntax.specs.declared.Reason.TheVariants.{WrittenAreaShort, WrongGroupNumber}
 use Rattle.syntax.specs.Limits.{rule_limit, rule_area_need, group_limit, flag_bits}
@@ -13,13 +14,9 @@ use Rattle.syntax.specs.Reading.{reading}
 use Rattle.syntax.specs.Laws.Names.{names_of-few}
 use Rattle.semantics.specs.Calls.{over, cleared}
 use Rattle.semantics.proofs.Laws.Areas.{over_nothing}
-use Rattle.reader.specs.declared.compiling.Compilation.{Compilation}
-use Rattle.reader.specs.declared.compiling.Compilation.TheVariants.{Sound as Compiled}
+use Rattle.reader.specs.declared.compiling.Compiled.{Compiled}
 use Rattle.reader.specs.Compiles.{Says, Compiles, Stands}
-use Rattle.refusals.specs.declared.Fitness.{Fitness}
-use Rattle.refusals.specs.declared.Fitness.TheVariants.{Fits, Unfit}
 use Rattle.refusals.specs.Fitness.{fitness_of}
-use Rattle.cards.specs.declared.ruling.Counting.{Counting}
 use Rattle.card_format.specs.Cards.{Card, written, card_need, untouched, leaving, unfit, fails, card_in, rule_in, write_wrote, write_refused, writes, write_call, read_holds, read_refused, reads, read_scan, read_call, rule_bytes_need}
 use Rattle.card_format.specs.CardDemands.{Bytes, card_of, Fitting, Sound}
 use Rattle.card_format.proofs.CardDemandsHold.{short-writes, ruled-write, unsound-writes, counted-writes, short-reads, scan-reads, ruled-read, unsound-reads, miscounted-reads, held_reads}
@@ -34,18 +31,18 @@ use Rattle.card_format.proofs.Laws.Ruling.{fitting-faultless, none-fitting, rule
 -- The rule ----------------------------------------------------------------------------------
 
 -- what compiling counts is what reading the rule gives
-pub counted : {s : List ℕ} {flags : ℕ} {old new : List ℕ} {r : Compilation} → Compiles false s flags old new r → (pc groups : ℕ) → r ≡ Compiled pc groups → Counted s flags groups
-counted {s} {flags} {old} {new} h pc groups e =
-    let z : Stands false s flags new pc groups = subst (λ (x : Compilation). Says false s flags new x) e h.says in
+pub counted : {s : List ℕ} {flags : ℕ} {old new : List ℕ} {r : Result Compiled Refusal} → Compiles false s flags old new r → (k : Compiled) → r ≡ Ok k → Counted s flags k.groups
+counted {s} {flags} {old} {new} h k e =
+    let z : Stands false s flags new k.entry k.groups = subst (λ (x : Result Compiled Refusal). Says false s flags new x) e h.says in
     record { tree = z.tree; stop = z.stop; reads = z.reads; few = omega (arith, z.many, names_of-few s flags) }
 
-pub is-unfit : (f : Fitness) (x : Option Reason) → fitness_of f ≡ x → (why : Reason) → f ≡ Unfit why → x ≡ some why
+pub is-unfit : (f : Result ⊤ Reason) (x : Option Reason) → fitness_of f ≡ x → (why : Reason) → f ≡ Err why → x ≡ some why
 unfolding fitness_of
 is-unfit f x e why g = sym e ∙ rw g
 
-pub is-fit : (rule : List ℕ) (flags budget : ℕ) (rule_area : List ℕ) (f : Fitness) → fitness_of f ≡ unfit (length rule) flags budget (length rule_area) → f ≡ Fits → Fitting rule flags budget rule_area
+pub is-fit : (rule : List ℕ) (flags budget : ℕ) (rule_area : List ℕ) (f : Result ⊤ Reason) → fitness_of f ≡ unfit (length rule) flags budget (length rule_area) → (t : ⊤) → f ≡ Ok t → Fitting rule flags budget rule_area
 unfolding fitness_of
-is-fit rule flags budget rule_area f e g = none-fitting rule flags budget rule_area (sym e ∙ rw g)
+is-fit rule flags budget rule_area f e t g = none-fitting rule flags budget rule_area (sym e ∙ rw g)
 
 sound-counted : {rule : List ℕ} {flags budget : ℕ} {rule_area : List ℕ} {groups : ℕ} → Fitting rule flags budget rule_area → Counted rule flags groups → Sound rule flags budget rule_area groups
 sound-counted {rule} {flags} {budget} {rule_area} f z = record { faultless = fitting-faultless rule flags budget rule_area f; tree = z.tree; stop = z.stop; reads = z.reads }
@@ -192,5 +189,5 @@ module _ {card : List ℕ} {size flags budget groups : ℕ} {rule_area : List �
     gathered-room = omega (arith, gathered-size, length-take size after)
 
     -- and what is counted of it is counted of the rule
-    pub gathered-counts : (r x : Counting) → Counts (take size after) flags r → r ≡ x → Counts z.rule flags x
+    pub gathered-counts : (r x : Result ℕ Refusal) → Counts (take size after) flags r → r ≡ x → Counts z.rule flags x
     gathered-counts r x h e = subst (Counts z.rule flags) e (subst (λ (s : List ℕ). Counts s flags r) gathered-rule h)

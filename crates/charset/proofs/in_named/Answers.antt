@@ -7,5 +7,5 @@ use Rattle.charset.proofs.in_named.Goals as goal
 
 pub returns : goal.returns
 unfolding ranges in_range in_ranges in_named marked
-returns c = rw (and_mask _ 1, as-entry, c.mark-k.ensures.place)
+returns c = rw (and_mask _ 1, as-entry, c.from-k.ensures.0)
     (by_byte-rule _ tt c.args.set c.args.b (search rules))

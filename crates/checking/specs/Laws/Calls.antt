@@ -1,5 +1,5 @@
 -- A check's answer is what its call returns, of a rule that a check can follow; of any other rule the call is refused.
-use Rattle.std.specs.Prelude.{◌≡◌, refl, List, ℕ}
+use Rattle.std.specs.Prelude.{◌≡◌, refl, List, ℕ, Ok}
 use Rattle.std.proofs.Common.{sym, ◌∙◌}
 use Rattle.std.proofs.Math.Option.{none, some}
 use Rattle.syntax.specs.declared.Reason.{Reason}
@@ -14,7 +14,7 @@ use Rattle.semantics.specs.Checks.{check_refused, check_returns, unless_unchecka
 use Rattle.frame.specs.Inputs.{Told}
 use Rattle.frame.specs.Laws.Areas.{over_none}
 use Rattle.checking.specs.declared.Verdict.{Verdict}
-use Rattle.checking.specs.declared.Verdict.TheVariants.{Reading, Nothing, Exhausted, Refused}
+use Rattle.checking.specs.declared.Verdict.TheVariants.{Reading, Nothing, Exhausted}
 use Rattle.checking.specs.Verdicts.{verdict_of, Reports}
 
 returns-clear : (c : Call) (f : Finding) (steps : ℕ) → ((check_returns c f steps).rule_area ≡ cleared rule_area_need c.rule_area) × ((check_returns c f steps).work_area ≡ cleared (work_area_need c.budget) c.work_area) × ((check_returns c f steps).names ≡ over (name_index (names_of c.rule c.flags)) c.names)
@@ -23,12 +23,11 @@ returns-clear c (a_reading start t) steps = (refl, refl, refl)
 returns-clear c no_reading steps = (refl, refl, refl)
 returns-clear c (exhausts start) steps = (refl, refl, refl)
 
-told-returns : (c : Call) (o : Verdict) (new : List ℕ) (a : Check) → Reports c.result_area new o a → Told (check_returns c a.finding a.steps) (verdict_of o) new
+told-returns : (c : Call) (o : Verdict) (new : List ℕ) (a : Check) → Reports c.result_area new o a → Told (check_returns c a.finding a.steps) (verdict_of (Ok o)) new
 unfolding check_returns leaving verdict_of
 told-returns c (Reading steps) new a r = rw r.2 (record { outcome_is = refl; result_area_is = r.3 })
 told-returns c (Nothing steps) new a r = rw r.0 (record { outcome_is = refl; result_area_is = r.1 ∙ sym (over_none c.result_area) })
 told-returns c (Exhausted start steps) new a r = rw r.0 (record { outcome_is = refl; result_area_is = r.1 ∙ sym (over_none c.result_area) })
-told-returns c (Refused why) new a r = absurd r
 
 module _ (proposal : List ℕ) (c : Call) (x : Rule) where
   abbrev answer : Check
@@ -49,5 +48,5 @@ module _ (proposal : List ℕ) (c : Call) (x : Rule) where
     check-clears = rw (← answers) (returns-clear c answer.finding answer.steps)
 
     -- what is told of a rule's answer is what its call returns
-    pub reports-told : (o : Verdict) (new : List ℕ) → Reports c.result_area new o answer → Told (check_rule proposal c x) (verdict_of o) new
+    pub reports-told : (o : Verdict) (new : List ℕ) → Reports c.result_area new o answer → Told (check_rule proposal c x) (verdict_of (Ok o)) new
     reports-told o new r = rw (← answers) (told-returns c o new answer r)

@@ -1,5 +1,5 @@
 -- What a match reports is what an explanation tells, and an explanation's answer is what its call returns.
-use Rattle.std.specs.Prelude.{◌≡◌, refl, List, ℕ}
+use Rattle.std.specs.Prelude.{◌≡◌, refl, List, ℕ, Ok}
 use Rattle.std.proofs.Common.{sym, ◌∙◌, subst}
 use Rattle.syntax.specs.Limits.{rule_area_need}
 use Rattle.syntax.specs.Tree.{Rule}
@@ -13,7 +13,7 @@ use Rattle.finding.specs.declared.Outcome.{Outcome as Matching}
 use Rattle.finding.specs.declared.Outcome.TheVariants.{Matched as Found, NotMatched as Missed, Exhausted as Spent, Refused as Denied}
 use Rattle.finding.specs.Outcomes.{Reports}
 use Rattle.explaining.specs.declared.Explanation.{Explanation}
-use Rattle.explaining.specs.declared.Explanation.TheVariants.{Matched, NotMatched, Exhausted, Refused}
+use Rattle.explaining.specs.declared.Explanation.TheVariants.{Matched, NotMatched, Exhausted}
 use Rattle.frame.specs.Inputs.{Told}
 use Rattle.explaining.specs.Explanations.{explanation_of, Accounts}
 use Rattle.frame.specs.Laws.Areas.{over_none}
@@ -46,14 +46,13 @@ module _ (row row' : List ℕ) (o : Matching) (a : Answer) (r : Reports row row'
 
 -- To a call -------------------------------------------------------------------------
 
-told : (c : Call) (x : Rule) (o : Explanation) (new : List ℕ) (a : Answer) → Accounts c.subject x (markable c) c.result_area new o a → Told (explain_returns c x a.outcome a.steps) (explanation_of o) new
+told : (c : Call) (x : Rule) (o : Explanation) (new : List ℕ) (a : Answer) → Accounts c.subject x (markable c) c.result_area new o a → Told (explain_returns c x a.outcome a.steps) (explanation_of (Ok o)) new
 unfolding explain_returns leaving explanation_of
 told c x (Matched steps) new a r = rw r.2 (record { outcome_is = refl; result_area_is = r.3 ∙ sym (over_none c.result_area) })
 told c x (NotMatched steps far near) new a r = rw r.0 (record { outcome_is = rw (r.1, r.2); result_area_is = r.3 })
 told c x (Exhausted start steps) new a r = rw r.0 (record { outcome_is = refl; result_area_is = r.1 ∙ sym (over_none c.result_area) })
-told c x (Refused why) new a r = absurd r
 
 -- what is told of a rule's answer is what its call returns
-pub accounts-told : (c : Call) (x : Rule) (o : Explanation) (new : List ℕ) → Accounts c.subject x (markable c) c.result_area new o (answer c.subject x c.budget) → Told (explain_rule c x) (explanation_of o) new
+pub accounts-told : (c : Call) (x : Rule) (o : Explanation) (new : List ℕ) → Accounts c.subject x (markable c) c.result_area new o (answer c.subject x c.budget) → Told (explain_rule c x) (explanation_of (Ok o)) new
 unfolding explain_rule
 accounts-told c x o new r = told c x o new (answer c.subject x c.budget) r

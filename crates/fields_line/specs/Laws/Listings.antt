@@ -52,7 +52,7 @@ module _ (line : List ℕ) (rule : Rule) (budget : ℕ) (old new : List ℕ) (r 
   abbrev l : Listing
   l = listing line rule budget (room old)
 
-  reported : rows_reported (listing_of r) ≡ length l.rows
+  reported : rows_reported (listing_of (Ok r)) ≡ length l.rows
   unfolding list_outcome
   reported = rw lists.outcome (go l.ending)
     where
@@ -62,7 +62,7 @@ module _ (line : List ℕ) (rule : Rule) (budget : ℕ) (old new : List ℕ) (r 
       go (exhausted_at n) = refl
 
   -- there is room for the rows that it tells
-  pub rows-within : rows_reported (listing_of r) * row_length ≤ length old
+  pub rows-within : rows_reported (listing_of (Ok r)) * row_length ≤ length old
   rows-within = rw reported (room-holds (length l.rows) old (demand_3 line rule budget (room old)).rows_fit)
 
   module _ (groups : ℕ) (formed : WellFormed groups rule) where
@@ -72,11 +72,11 @@ module _ (line : List ℕ) (rule : Rule) (budget : ℕ) (old new : List ℕ) (r 
         rw w.is (row-facts line w.n groups formed.few rule formed.proper w.start w.t w.derives).size
 
     -- they stand in the area
-    rows_left : rows_at new 0 (rows_reported (listing_of r)) ≡ l.rows
+    rows_left : rows_at new 0 (rows_reported (listing_of (Ok r))) ≡ l.rows
     unfolding joined
-    rows_left = rw lists.results (rows_written [] l.rows old 0 (rows_reported (listing_of r)) rows_whole refl (sym reported))
+    rows_left = rw lists.results (rows_written [] l.rows old 0 (rows_reported (listing_of (Ok r))) rows_whole refl (sym reported))
 
-    cut-told : (start : ℕ) → cut_by (listing_of r) start new ≡ is_cut start l.ending l.rows
+    cut-told : (start : ℕ) → cut_by (listing_of (Ok r)) start new ≡ is_cut start l.ending l.rows
     unfolding cut_by is_cut list_outcome
     cut-told start = rw lists.outcome (go l.ending)
       where
@@ -87,6 +87,6 @@ module _ (line : List ℕ) (rule : Rule) (budget : ℕ) (old new : List ℕ) (r 
 
     -- the word for a match
     pub verdict-told : (index standing : List ℕ) (names : List (List ℕ)) (x : Row)
-        → verdict_by index line standing names x (listing_of r) new ≡ verdict (record { rule = rule; index = index; budget = budget; room = room old; names = names; standing = standing }) line x l
+        → verdict_by index line standing names x (listing_of (Ok r)) new ≡ verdict (record { rule = rule; index = index; budget = budget; room = room old; names = names; standing = standing }) line x l
     unfolding verdict_by verdict
     verdict-told index standing names x = rw (rows_left, cut-told (get_or x 0 0))

@@ -1,13 +1,11 @@
 -- What is returned to a call that is refused or accepted.
-use Rattle.std.specs.Prelude.{◌≡◌, refl, Bool, true, false, List, [], ℕ, length, ltb}
+use Rattle.std.specs.Prelude.{◌≡◌, refl, Bool, true, false, List, [], ℕ, Result, Ok, Err, ⊤, length, ltb}
 use Rattle.std.proofs.Math.Option.{none, some}
 use Rattle.syntax.specs.declared.Reason.{Reason}
 use Rattle.syntax.specs.Read.{sound, refused}
 use Rattle.syntax.specs.Tree.{Rule}
 use Rattle.syntax.specs.Reading.{reading}
 use Rattle.semantics.specs.Calls.{Call, Return, unacceptable, untouched, declined, with_reading, unless_refused, call}
-use Rattle.refusals.specs.declared.Fitness.{Fitness}
-use Rattle.refusals.specs.declared.Fitness.TheVariants.{Fits, Unfit}
 use Rattle.refusals.specs.Fitness.{fitness_of, Sized}
 use Rattle.frame.specs.Inputs.{call_of}
 
@@ -21,12 +19,12 @@ pub some-results : (short : Bool) → (need : ℕ) × (results : List ℕ) × (l
 some-results true = (1, [], refl)
 some-results false = (0, [], refl)
 
-module _ (need : ℕ) (c : Call) {f : Fitness} (is : fitness_of f ≡ unacceptable need c) where
-  pub is-fit : f ≡ Fits → none ≡ unacceptable need c
+module _ (need : ℕ) (c : Call) {f : Result ⊤ Reason} (is : fitness_of f ≡ unacceptable need c) where
+  pub is-fit : (t : ⊤) → f ≡ Ok t → none ≡ unacceptable need c
   unfolding fitness_of
-  is-fit e = rw e at is
+  is-fit t e = rw e at is
 
-  pub is-unfit : (why : Reason) → f ≡ Unfit why → some why ≡ unacceptable need c
+  pub is-unfit : (why : Reason) → f ≡ Err why → some why ≡ unacceptable need c
   unfolding fitness_of
   is-unfit why e = rw e at is
 

@@ -1,5 +1,5 @@
 -- What compiling a rule tells whoever goes on to walk it.
-use Rattle.std.specs.Prelude.{◌≡◌, Bool, true, false, List, ℕ, ◌*◌, ◌≤◌, ◌<◌}
+use Rattle.std.specs.Prelude.{◌≡◌, Bool, true, false, List, ℕ, ◌*◌, ◌≤◌, ◌<◌, Result, Ok, Err}
 use Rattle.std.proofs.Common.{◌∙◌, arith}
 use Rattle.std.proofs.Math.Path.{subst}
 use Rattle.std.proofs.Math.Option.{none}
@@ -12,26 +12,25 @@ use Rattle.syntax.specs.Tree.{Rule}
 use Rattle.syntax.specs.Reading.{names_of, reading}
 use Rattle.syntax.specs.Checkable.{uncheckable}
 use Rattle.syntax.specs.Laws.Names.{names_of-few}
-use Rattle.reader.specs.declared.compiling.Compilation.{Compilation}
-use Rattle.reader.specs.declared.compiling.Compilation.TheVariants.{Sound, Refused}
-use Rattle.reader.specs.Compiles.{Fails, Says, Compiles, Stands as Compiled}
+use Rattle.reader.specs.declared.compiling.Compiled.{Compiled}
+use Rattle.reader.specs.Compiles.{Fails, Says, Compiles, Stands as StandsCompiled}
 use Rattle.name_table.specs.Table.{names_in, NamesFit, spelled_same, names_fit, names-are}
 use Rattle.linker.proofs.Compiled.{keep}
 use Rattle.reader.specs.Areas.{table_start}
 use Rattle.machine.specs.Theorem.{Stands}
 
-module _ {checked : Bool} {s : List ℕ} {flags : ℕ} {old new : List ℕ} {r : Compilation} (h : Compiles checked s flags old new r) where
-  pub compile-failed : (f : Refusal) → r ≡ Refused f → Fails checked s flags f
-  compile-failed f e = subst (λ (x : Compilation). Says checked s flags new x) e h.says
+module _ {checked : Bool} {s : List ℕ} {flags : ℕ} {old new : List ℕ} {r : Result Compiled Refusal} (h : Compiles checked s flags old new r) where
+  pub compile-failed : (f : Refusal) → r ≡ Err f → Fails checked s flags f
+  compile-failed f e = subst (λ (x : Result Compiled Refusal). Says checked s flags new x) e h.says
 
-  pub compile-near : (pc groups : ℕ) → r ≡ Sound pc groups → pc ≤ rule_area_need
-  compile-near pc groups e = let z : Compiled checked s flags new pc groups = subst (λ (x : Compilation). Says checked s flags new x) e h.says in z.near
+  stood : (k : Compiled) → r ≡ Ok k → StandsCompiled checked s flags new k.entry k.groups
+  stood k e = subst (λ (x : Result Compiled Refusal). Says checked s flags new x) e h.says
 
   -- the rule stands in the needed part of the area alone, and a check can follow it, if it is one
-  pub compile-sound : (pc groups : ℕ) → r ≡ Sound pc groups → rule_area_need ≤ length new → (x : Rule) × (at : ℕ) × (reading s flags ≡ sound (x, groups) at) × Stands (take rule_area_need new) x pc × (checked ≡ true → uncheckable x ≡ none)
+  pub compile-sound : (k : Compiled) → r ≡ Ok k → rule_area_need ≤ length new → (x : Rule) × (at : ℕ) × (reading s flags ≡ sound (x, k.groups) at) × Stands (take rule_area_need new) x k.entry × (checked ≡ true → uncheckable x ≡ none)
   unfolding rule_area_need
-  compile-sound pc groups e l =
-      let z : Compiled checked s flags new pc groups = subst (λ (x : Compilation). Says checked s flags new x) e h.says in
+  compile-sound k e l =
+      let z = stood k e in
       let front : (i : ℕ) → i < rule_area_need → get_or (take rule_area_need new) i 0 ≡ get_or new i 0 = λ i u. get_or-take rule_area_need new i 0 u in (
         z.tree,
         z.stop,
@@ -41,16 +40,17 @@ module _ {checked : Bool} {s : List ℕ} {flags : ℕ} {old new : List ℕ} {r :
           high = rule_area_need;
           within = omega (arith, length-take-le rule_area_need new l);
           end = front 0 (omega arith) ∙ z.end;
-          compiled = keep new (take rule_area_need new) 1 rule_area_need 1 rule_area_need (omega arith) (omega arith) (λ i a b. front i b) z.tree pc 0 spans_length z.compiled;
+          compiled = keep new (take rule_area_need new) 1 rule_area_need 1 rule_area_need (omega arith) (omega arith) (λ i a b. front i b) z.tree k.entry 0 spans_length z.compiled;
         },
         z.followed,
       )
 
   -- the names of its groups, in the table that stands in the needed part of the area, and that there are no more groups than there can be
-  pub compile-named : (pc groups : ℕ) → r ≡ Sound pc groups → rule_area_need ≤ length new → NamesFit s (take spans_length (drop table_start new)) groups × (names_in s (take spans_length (drop table_start new)) groups ≡ names_of s flags) × (groups ≤ group_limit)
+  pub compile-named : (k : Compiled) → r ≡ Ok k → rule_area_need ≤ length new → NamesFit s (take spans_length (drop table_start new)) k.groups × (names_in s (take spans_length (drop table_start new)) k.groups ≡ names_of s flags) × (k.groups ≤ group_limit)
   unfolding table_start rule_area_need spans_length group_limit
-  compile-named pc groups e l =
-      let z : Compiled checked s flags new pc groups = subst (λ (x : Compilation). Says checked s flags new x) e h.says in
+  compile-named k e l =
+      let z = stood k e in
+      let groups = k.groups in
       let few = names_of-few s flags in
       let rest = drop table_start new in
       let table = take spans_length rest in
@@ -60,5 +60,5 @@ module _ {checked : Bool} {s : List ℕ} {flags : ℕ} {old new : List ℕ} {r :
       (names_fit s (names_of s flags) table groups z.many spelled long, names-are s (names_of s flags) table groups z.many spelled, omega (arith, z.many, few))
 
 -- where no check asks, only the reading refuses
-pub compile-refused : {s : List ℕ} {flags : ℕ} {old new : List ℕ} {r : Compilation} → Compiles false s flags old new r → (f : Refusal) → r ≡ Refused f → reading s flags ≡ refused f.place f.reason
+pub compile-refused : {s : List ℕ} {flags : ℕ} {old new : List ℕ} {r : Result Compiled Refusal} → Compiles false s flags old new r → (f : Refusal) → r ≡ Err f → reading s flags ≡ refused f.place f.reason
 compile-refused h f e = compile-failed h f e

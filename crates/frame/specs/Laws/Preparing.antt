@@ -1,5 +1,5 @@
 -- A call is what preparing it, its inside and finishing it make: what is returned to it is what `call` defines, whatever its inside is.
-use Rattle.std.specs.Prelude.{◌≡◌, refl, Bool, true, false, List, ℕ, ◌≤◌, length, take, drop}
+use Rattle.std.specs.Prelude.{◌≡◌, refl, Bool, true, false, List, ℕ, ◌≤◌, Result, Ok, Err, length, take, drop}
 use Rattle.std.proofs.Common.{sym, ◌∙◌, inl, inr, arith, length-take-le}
 use Rattle.std.proofs.Math.Path.{subst}
 use Rattle.std.proofs.Math.Option.{none, some}
@@ -12,8 +12,7 @@ use Rattle.syntax.specs.Checkable.{uncheckable}
 use Rattle.semantics.specs.Calls.{Call, Return, work_area_need, unacceptable, over, cleared, untouched, declined, call}
 use Rattle.semantics.specs.NameIndex.{name_index}
 use Rattle.reader.specs.Compiles.{Fails}
-use Rattle.frame.specs.declared.preparing.Preparation.{Preparation}
-use Rattle.frame.specs.declared.preparing.Preparation.TheVariants.{Ready, Refused}
+use Rattle.reader.specs.declared.compiling.Compiled.{Compiled}
 use Rattle.frame.specs.Inputs.{Returned, Told, Held}
 use Rattle.frame.specs.Preparing.{Denied, unread, unsound, unfollowed, Readied, Prepares}
 use Rattle.frame.specs.Laws.Areas.{cleared-alike}
@@ -21,12 +20,12 @@ use Rattle.refusals.specs.Laws.{Acceptable, accepted}
 use Rattle.frame.specs.Laws.Calls.{refused-call, accepted-call, refused-rule, sound-rule}
 
 -- what preparing says, once its answer is known
-module _ {checked : Bool} {need : ℕ} {c : Call} {r : Preparation} {rule_area work_area names : List ℕ} (h : Prepares checked need c r rule_area work_area names) where
-  pub is-ready : (entry groups : ℕ) → r ≡ Ready entry groups → Readied checked need c entry groups rule_area work_area names
-  is-ready entry groups e = subst (λ (x : Preparation). Prepares checked need c x rule_area work_area names) e h
+module _ {checked : Bool} {need : ℕ} {c : Call} {r : Result Compiled Refusal} {rule_area work_area names : List ℕ} (h : Prepares checked need c r rule_area work_area names) where
+  pub is-ready : (k : Compiled) → r ≡ Ok k → Readied checked need c k.entry k.groups rule_area work_area names
+  is-ready k e = subst (λ (x : Result Compiled Refusal). Prepares checked need c x rule_area work_area names) e h
 
-  pub is-denied : (f : Refusal) → r ≡ Refused f → Denied checked need c f rule_area work_area names
-  is-denied f e = subst (λ (x : Preparation). Prepares checked need c x rule_area work_area names) e h
+  pub is-denied : (f : Refusal) → r ≡ Err f → Denied checked need c f rule_area work_area names
+  is-denied f e = subst (λ (x : Result Compiled Refusal). Prepares checked need c x rule_area work_area names) e h
 
 module _ {checked : Bool} {need : ℕ} {c : Call} {entry groups : ℕ} {rule_area work_area names : List ℕ} (h : Readied checked need c entry groups rule_area work_area names) where
   fit : Acceptable need c

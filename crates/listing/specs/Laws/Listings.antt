@@ -1,5 +1,5 @@
 -- A listing's answer is what its call returns.
-use Rattle.std.specs.Prelude.{◌≡◌, refl, List, ℕ}
+use Rattle.std.specs.Prelude.{◌≡◌, refl, List, ℕ, Ok}
 use Rattle.syntax.specs.Limits.{rule_area_need}
 use Rattle.syntax.specs.Tree.{Rule}
 use Rattle.syntax.specs.Reading.{names_of}
@@ -15,6 +15,6 @@ unfolding list_rule leaving
 list-clears c x = (refl, refl, refl)
 
 -- what is told of a rule's listing is what its call returns
-pub lists-told : (c : Call) (x : Rule) (o : Listing) (new : List ℕ) → Lists c.subject x c.budget c.result_area new o → Told (list_rule c x) (listing_of o) new
+pub lists-told : (c : Call) (x : Rule) (o : Listing) (new : List ℕ) → Lists c.subject x c.budget c.result_area new o → Told (list_rule c x) (listing_of (Ok o)) new
 unfolding list_rule leaving
 lists-told c x o new l = record { outcome_is = l.outcome; result_area_is = l.results }

@@ -32,21 +32,21 @@ pub overflow_mul-end : goal.overflow_mul-end
 unfolding group_limit
 overflow_mul-end c = omega (arith, c.requires.2)
 
-pub slice_bounds-pad-count : goal.slice_bounds-pad-count
+pub slice_bounds-fill-count : goal.slice_bounds-fill-count
 unfolding group_limit
-slice_bounds-pad-count c = omega (arith, c.requires.2)
+slice_bounds-fill-count c = omega (arith, c.requires.2)
 
-pub slice_bounds-pad-start : goal.slice_bounds-pad-start
+pub slice_bounds-fill-start : goal.slice_bounds-fill-start
 unfolding group_limit
-slice_bounds-pad-start c = omega (arith, c.requires.2)
+slice_bounds-fill-start c = omega (arith, c.requires.2)
 
-pub slice_bounds-pad-end : goal.slice_bounds-pad-end
+pub slice_bounds-fill-end : goal.slice_bounds-fill-end
 unfolding name_index_need
-slice_bounds-pad-end c = omega (arith, c.loop-g.invariant.1, c.requires.3)
+slice_bounds-fill-end c = omega (arith, c.loop-g.invariant.1, c.requires.3)
 
 pub shape_of-names : goal.shape_of-names
 unfolding name_index_need
-shape_of-names c = let base = c.args.groups * name_entry in same_len_mid base (name_index_need - base) c.loop-g.names c.pad.new.bytes c.pad.auto.bytes ∙ c.loop-g.invariant.1
+shape_of-names c = let base = c.args.groups * name_entry in same_len_mid base (name_index_need - base) c.loop-g.names c.fill.new.self c.fill.auto.self ∙ c.loop-g.invariant.1
 
 pub returns : goal.returns
 unfolding name_index_need
@@ -57,6 +57,6 @@ returns c = let a = c.args in
     let few : base ≤ name_index_need = omega (arith, c.requires.2) in
     let all : l.g ≡ a.groups = omega arith in
     let long : length (take (name_index_need - base) (drop base l.names)) ≡ name_index_need - base = omega (arith, length-take (name_index_need - base) (drop base l.names), length-drop base l.names, l.invariant.1, c.requires.3) in
-    let zeros = rw long at c.pad.ensures in
+    let zeros = rw long at (c.fill.ensures.after (λ y h. h)) in
     index-padded names a.names.now a.groups l.names _ (length-names a.rule.now a.table.now a.groups) c.requires.2 (rw all at l.invariant.2)
     (rw (zeros, Post-is base name_index_need l.names few))

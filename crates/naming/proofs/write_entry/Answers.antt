@@ -14,9 +14,9 @@ pub loop-i-init : goal.loop-i-init
 loop-i-init c = let a = c.args in
     (omega arith, refl, paste-zero a.names.now a.base (entry (slice a.from (a.from + a.len) a.rule.now)))
 
-pub entry_byte-b-requires : goal.entry_byte-b-requires
+pub entry_byte-requires : goal.entry_byte-requires
 unfolding name_entry name_limit
-entry_byte-b-requires c = (c.requires.0, c.requires.1, omega arith)
+entry_byte-requires c = (c.requires.0, c.requires.1, omega arith)
 
 pub overflow_add-names : goal.overflow_add-names
 unfolding name_entry name_limit
@@ -25,10 +25,6 @@ overflow_add-names c = omega arith
 pub bounds-names-base : goal.bounds-names-base
 unfolding name_entry name_limit
 bounds-names-base c = omega arith
-
-pub overflow_add-i : goal.overflow_add-i
-unfolding name_entry name_limit
-overflow_add-i c = omega arith
 
 pub loop-i-smaller : goal.loop-i-smaller
 unfolding name_entry name_limit
@@ -41,7 +37,7 @@ loop-i-preserved c = let a = c.args in
     let n = slice a.from (a.from + a.len) a.rule.now in (
       omega arith,
       simp length-set l.invariant.1,
-      rw (add-one l.i) (byte-pasted a.names.now a.base n l.i c.entry_byte-b.result l.names (omega arith) (omega arith) l.invariant.2 c.entry_byte-b.ensures),
+      rw (add-one l.i) (byte-pasted a.names.now a.base n l.i c.entry_byte.result l.names (omega arith) (omega arith) l.invariant.2 c.entry_byte.ensures),
     )
 
 pub shape_of-names : goal.shape_of-names

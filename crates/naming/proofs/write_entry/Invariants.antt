@@ -1,5 +1,5 @@
 use mathlib.Core.Path.{◌≡◌}
-use Prim.Native.Nat.{◌+◌, ◌≤◌, ◌-◌}
+use Prim.Native.Nat.{◌+◌, ◌≤◌}
 use lib.ListN.{length}
 use lib.Seq.{slice, paste}
 use Rattle.syntax.specs.Limits.{name_entry}
@@ -9,5 +9,3 @@ use Rattle.naming.proofs.write_entry.Given as goal
 abbrev pub invariant-loop-i : goal.invariant-loop-i
 invariant-loop-i l = (l.i ≤ name_entry) × (length l.names ≡ length l.initial.names) × (l.names ≡ paste l.initial.names l.base (entry (slice l.from (l.from + l.len) l.rule)) l.i)
 
-abbrev pub decreases-loop-i : goal.decreases-loop-i
-decreases-loop-i l = name_entry - l.i

@@ -1,5 +1,5 @@
 -- What successive matches tell is what their call returns.
-use Rattle.std.specs.Prelude.{◌≡◌, refl, List, ℕ}
+use Rattle.std.specs.Prelude.{◌≡◌, refl, List, ℕ, Ok}
 use Rattle.syntax.specs.Limits.{rule_area_need}
 use Rattle.syntax.specs.Tree.{Rule}
 use Rattle.syntax.specs.Reading.{names_of}
@@ -16,6 +16,6 @@ unfolding scan_rule leaving
 scan-clears c x = (refl, refl, refl)
 
 -- what is told of a rule's matches is what its call returns
-pub scans-told : (c : Call) (x : Rule) (o : Listing) (new : List ℕ) → Scans c.subject x c.budget c.result_area new o → Told (scan_rule c x) (listing_of o) new
+pub scans-told : (c : Call) (x : Rule) (o : Listing) (new : List ℕ) → Scans c.subject x c.budget c.result_area new o → Told (scan_rule c x) (listing_of (Ok o)) new
 unfolding scan_rule leaving
 scans-told c x o new l = record { outcome_is = l.outcome; result_area_is = l.results }

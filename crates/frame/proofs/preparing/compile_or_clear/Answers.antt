@@ -9,40 +9,36 @@ use Rattle.reader.specs.Areas.{table_start}
 use Rattle.semantics.specs.NameIndex.{name_index}
 use Rattle.semantics.specs.Calls.{work_area_need, over}
 use Rattle.frame.specs.Laws.Areas.{cleared-alike}
-use Rattle.frame.specs.Laws.Compiled.{compile-failed, compile-near, compile-sound, compile-named}
+use Rattle.frame.specs.Laws.Compiled.{compile-failed, compile-sound, compile-named}
 use Rattle.frame.specs.Laws.Preparing.{failed-denied}
 use Rattle.frame.proofs.preparing.compile_or_clear.Goals as goal
 
-pub compile-compiled-requires : goal.compile-compiled-requires
-compile-compiled-requires c = (c.requires.rule_fits, c.requires.rule_area_fits)
-
-pub overflow_cast-entry : goal.overflow_cast-entry
-unfolding rule_area_need
-overflow_cast-entry c = omega (arith, compile-near c.compile-compiled.ensures _ _ c.in-Sound.is)
+pub compile-requires : goal.compile-requires
+compile-requires c = (c.requires.rule_fits, c.requires.rule_area_fits)
 
 pub slice_bounds-fill-end : goal.slice_bounds-fill-end
 unfolding rule_area_need
-slice_bounds-fill-end c = omega (arith, c.compile-compiled.ensures.long, c.requires.rule_area_fits)
+slice_bounds-fill-end c = omega (arith, c.compile.ensures.long, c.requires.rule_area_fits)
 
 pub fill-requires : goal.fill-requires
 unfolding table_start rule_area_need spans_length group_limit
-fill-requires c = let m = c.compile-compiled.ensures in
-    let z = compile-named m _ _ c.in-Sound.is (omega (arith, m.long, c.requires.rule_area_fits)) in
+fill-requires c = let m = c.compile.ensures in
+    let z = compile-named m _ c.in-Ok.is (omega (arith, m.long, c.requires.rule_area_fits)) in
     (z.0, subst Short (sym z.1) (names_of-short _ _), z.2, c.requires.names_fit)
 
 pub finish-requires : goal.finish-requires
 unfolding work_area_need work_per_step
-finish-requires c = (omega (arith, c.compile-compiled.ensures.long, c.requires.rule_area_fits), omega (arith, c.requires.work_area_fits))
+finish-requires c = (omega (arith, c.compile.ensures.long, c.requires.rule_area_fits), omega (arith, c.requires.work_area_fits))
 
-pub returns-in-Sound : goal.returns-in-Sound
+pub returns-in-Ok : goal.returns-in-Ok
 unfolding table_start rule_area_need spans_length group_limit
-returns-in-Sound c = λ need line results e.
-    (let m = c.compile-compiled.ensures in
-    let z = compile-sound m _ _ c.in-Sound.is (omega (arith, m.long, c.requires.rule_area_fits)) in
-    let w = compile-named m _ _ c.in-Sound.is (omega (arith, m.long, c.requires.rule_area_fits)) in
+returns-in-Ok c = λ need line results e.
+    (let m = c.compile.ensures in
+    let z = compile-sound m _ c.in-Ok.is (omega (arith, m.long, c.requires.rule_area_fits)) in
+    let w = compile-named m _ c.in-Ok.is (omega (arith, m.long, c.requires.rule_area_fits)) in
     record { accepted = e; tree = z.0; stop = z.1; reads = z.2; stands = z.3; long = m.long; rest = m.rest; untouched = refl; filled = c.fill.ensures ∙ ap (λ (ns : Names). over (name_index ns) c.args.names.now) w.1; followed = z.4 })
 
-pub returns-in-Refused : goal.returns-in-Refused
-returns-in-Refused c = λ need line results e.
-    (let m = c.compile-compiled.ensures in
-    failed-denied _ (compile-failed m _ c.in-Refused.is) e (c.finish.ensures.rule_area_after ∙ cleared-alike rule_area_need _ _ m.rest) c.finish.ensures.work_area_after refl)
+pub returns-in-Err : goal.returns-in-Err
+returns-in-Err c = λ need line results e.
+    (let m = c.compile.ensures in
+    failed-denied _ (compile-failed m _ c.in-Err.is) e (c.finish.ensures.rule_area_after ∙ cleared-alike rule_area_need _ _ m.rest) c.finish.ensures.work_area_after refl)
