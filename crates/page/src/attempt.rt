@@ -101,15 +101,12 @@ fn signs_end(signs: &[u8], from: usize) -> usize
     requires { from < length signs.now }
     ensures { (from < result) × (result ≤ length signs.now) }
 {
-    let sign = signs[from];
-    let mut i = from + 1;
-    while i < signs.len() {
-        if signs[i] != sign {
+    for i in from + 1..signs.len() {
+        if signs[i] != signs[from] {
             return i;
         }
-        i += 1;
     }
-    i
+    signs.len()
 }
 
 // Bytes of a rule that have one sign.

@@ -15,26 +15,19 @@ const MOST: usize = 2000;
 
 const BEFORE: usize = 1000;
 
-// No span has the byte.
-const OUTSIDE: usize = 1000;
-
 // A number of a row.
 pub(crate) fn place_of(n: u32) -> usize {
     n as usize
 }
 
-// Where in a row the span stands that gives the byte at a place of the line its colour.
-fn span_at(row: &[u32], place: u32) -> usize {
-    let mut k = row.len();
-    while 2 <= k {
-        k -= 2;
-        if row[k] <= place {
-            if place < row[k + 1] {
-                return k;
-            }
+// Which of a row's spans gives the byte at a place of the line its colour, if one has it.
+fn span_at(row: &[u32], place: u32) -> Option<usize> {
+    for k in (0..row.len() / 2).rev() {
+        if row[2 * k] <= place && place < row[2 * k + 1] {
+            return Some(k);
         }
     }
-    OUTSIDE
+    None
 }
 
 // Where the bytes of one colour end that begin at a place.
@@ -43,27 +36,30 @@ fn run_end(row: &[u32], from: usize, to: usize) -> usize
     ensures { (from < result) × (result ≤ to) }
 {
     let span = span_at(row, from as u32);
-    let mut i = from + 1;
-    while i < to {
-        let next = span_at(row, i as u32);
-        if next != span {
+    for i in from + 1..to {
+        if span_at(row, i as u32) != span {
             return i;
         }
-        i += 1;
     }
-    i
+    to
 }
 
 // Bytes of one colour. What the reading took and no field has is underlined.
-fn put_run(rt: &HostRuntime, out: &mut [u8; ROOM], at: usize, span: usize, text: &[u8]) -> usize {
-    if span == OUTSIDE {
+fn put_run(
+    rt: &HostRuntime,
+    out: &mut [u8; ROOM],
+    at: usize,
+    span: Option<usize>,
+    text: &[u8],
+) -> usize {
+    let Some(span) = span else {
         return put_shown(rt, out, at, text);
-    }
+    };
     let mut p = at;
-    if span < 2 {
+    if span == 0 {
         p = put(rt, out, at, b"<span class=\"t\">");
     } else {
-        let colour = (span / 2 - 1) % COLOURS;
+        let colour = (span - 1) % COLOURS;
         p = put_number(rt, out, at, b"<span class=\"f", colour as u64, b"\">");
     }
     let q = put_shown(rt, out, p, text);
@@ -97,10 +93,7 @@ fn put_runs(
 pub(crate) fn shown_from(place: usize) -> usize
     ensures { (result ≤ place) × (place ≤ result + 1000) }
 {
-    if place <= BEFORE {
-        return 0;
-    }
-    place - BEFORE
+    place.saturating_sub(BEFORE)
 }
 
 // Where they end.
@@ -108,10 +101,7 @@ pub(crate) fn shown_to(from: usize, size: usize) -> usize
     requires { from ≤ size }
     ensures { (from ≤ result) × (result ≤ size) × (result ≤ from + 2000) }
 {
-    if size - from <= MOST {
-        return size;
-    }
-    from + MOST
+    from + (size - from).min(MOST)
 }
 
 // A line in the colours of a row, or a part of it in which the row's first span begins.

@@ -85,11 +85,10 @@ pub(crate) fn put_fields(
     row: &[u32],
 ) -> usize {
     let mut p = put(rt, out, at, b"<ul>\n");
-    let mut passed: usize = 0;
-    while passed < GROUPS {
+    for passed in 0..GROUPS {
         let k = 2 * passed + 2;
         if row.len() <= k + 1 {
-            return put(rt, out, p, b"</ul>\n");
+            break;
         }
         p = put_field(
             rt,
@@ -101,7 +100,6 @@ pub(crate) fn put_fields(
             place_of(row[k]),
             place_of(row[k + 1]),
         );
-        passed += 1;
     }
     put(rt, out, p, b"</ul>\n")
 }
@@ -118,14 +116,9 @@ pub fn put_legend(
         return put(rt, out, at, b"<p>It has no fields.</p>\n");
     }
     let mut p = put(rt, out, at, b"<ul>\n");
-    let mut passed: usize = 0;
-    while passed < GROUPS {
-        if groups as usize <= passed {
-            return put(rt, out, p, b"</ul>\n");
-        }
+    for passed in 0..GROUPS.min(groups as usize) {
         p = put_named(rt, out, p, names, passed);
         p = put(rt, out, p, b"</li>\n");
-        passed += 1;
     }
     put(rt, out, p, b"</ul>\n")
 }

@@ -40,10 +40,8 @@ fn put_listed(
         at,
         b"<p>A line is ambiguous if another reading of what the rule took has another value in one of:",
     );
-    let mut i: usize = 0;
-    while i < count {
+    for i in 0..count {
         p = put_within(rt, out, p, b" <b>", column(columns, i), b"</b>");
-        i += 1;
     }
     put(rt, out, p, b"</p>\n")
 }

@@ -38,26 +38,21 @@ pub fn put_readings(
     requires { length line.now ≤ 65536 }
 {
     let mut p = at;
-    let mut number: usize = 0;
-    let mut from: usize = 0;
-    while ROW_LENGTH <= rows.len() - from {
-        if number == MOST {
-            let left = (rows.len() - from) / ROW_LENGTH;
-            return put_number(
-                rt,
-                out,
-                p,
-                b"<p>Readings that are not shown here: ",
-                left as u64,
-                b"</p>\n",
-            );
-        }
-        let to = from + ROW_LENGTH;
-        number += 1;
-        p = put_reading(rt, out, p, number, names, line, &rows[from..to]);
-        from = to;
+    for (number, row) in (1..=MOST).zip(rows.chunks_exact(ROW_LENGTH)) {
+        p = put_reading(rt, out, p, number, names, line, row);
     }
-    p
+    let left = (rows.len() / ROW_LENGTH).saturating_sub(MOST);
+    if left == 0 {
+        return p;
+    }
+    put_number(
+        rt,
+        out,
+        p,
+        b"<p>Readings that are not shown here: ",
+        left as u64,
+        b"</p>\n",
+    )
 }
 
 // A line with no reading.
@@ -65,6 +60,6 @@ pub fn put_plain(rt: &HostRuntime, out: &mut [u8; ROOM], at: usize, line: &[u8])
     requires { length line.now ≤ 65536 }
 {
     // a span behind every line
-    let nothing = [4294967295u32; 2];
+    let nothing = [u32::MAX; 2];
     put_line(rt, out, at, &nothing, line)
 }

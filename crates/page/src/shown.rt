@@ -9,17 +9,6 @@ const PIECE: usize = 64;
 
 const PIECE_ROOM: usize = PIECE * page_text::SHOWN_ROOM;
 
-// Where the piece ends that begins at a position.
-fn piece_end(from: usize, size: usize) -> usize
-    requires { from < size }
-    ensures { (from < result) × (result ≤ size) × (result ≤ from + 64) }
-{
-    if size - from <= PIECE {
-        return size;
-    }
-    from + PIECE
-}
-
 fn put_piece(rt: &HostRuntime, out: &mut [u8; ROOM], at: usize, piece: &[u8]) -> usize
     requires { length piece.now ≤ 64 }
 {
@@ -31,11 +20,8 @@ fn put_piece(rt: &HostRuntime, out: &mut [u8; ROOM], at: usize, piece: &[u8]) ->
 // Puts a text as it is shown.
 pub fn put_shown(rt: &HostRuntime, out: &mut [u8; ROOM], at: usize, text: &[u8]) -> usize {
     let mut p = at;
-    let mut from: usize = 0;
-    while from < text.len() {
-        let to = piece_end(from, text.len());
-        p = put_piece(rt, out, p, &text[from..to]);
-        from = to;
+    for piece in text.chunks(PIECE) {
+        p = put_piece(rt, out, p, piece);
     }
     p
 }

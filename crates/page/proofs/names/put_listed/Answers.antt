@@ -1,4 +1,4 @@
--- As many columns are named as there are, and no more than there can be.
+-- There are as many columns as a rule can have names.
 use native.Mathlib.Omega.{arith}
 use Rattle.syntax.specs.Limits.{group_limit, name_limit, name_entry, name_index_need}
 use Rattle.page.proofs.names.put_listed.Goals as goal
