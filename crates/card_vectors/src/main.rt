@@ -6,14 +6,12 @@
 // bytes; or 'refused', the refusal's number, 'at' and its place. All of them are in decimal.
 #![tactic(auto)]
 
-ghost use Rattle.std.specs.Prelude.{◌≤◌, length};
+ghost use Rattle.std.specs.Prelude.{◌≡◌};
 
-use cards::CARD_NEED;
+use cards::{CARD_NEED, read_card, write_card};
 use frame::RULE_AREA_NEED;
-use syntax::Refusal;
-
-// Any other number is to read.
-const WRITE: u32 = 0;
+use std::io;
+use vectors::{cut, decode};
 
 // What is lent at most: one more than is needed.
 const RULE_AREA: usize = RULE_AREA_NEED + 1;
@@ -26,120 +24,100 @@ const ROOM: usize = 2 * CARD_NEED;
 // Greater flags and budgets are held at this.
 const MOST: u32 = 4294967295;
 
-// A text, and a number behind it.
-fn put(rt: &HostRuntime, text: &[u8], n: u64) {
-    let _ = rt.write_all(text);
-    let _ = rt.print(n);
+// What a line asks for.
+#[derive(Clone, Copy, Debug, PartialEq, Eq)]
+enum Call {
+    Write,
+    Read,
 }
 
-// The first bytes of an area, so many of them.
-fn put_first(rt: &HostRuntime, area: &[u8], n: usize) {
-    let mut i: usize = 0;
-    while i < n {
-        if area.len() <= i {
-            return;
+impl From<u32> for Call {
+    fn from(kind: u32) -> Call {
+        match kind {
+            0 => Call::Write,
+            _ => Call::Read,
         }
-        put(rt, b" ", area[i] as u64);
-        i += 1;
     }
 }
 
-fn put_refusal(rt: &HostRuntime, f: Refusal) {
-    let reason = f.reason;
-    put(rt, b"refused ", u32::from(reason) as u64);
-    put(rt, b" at ", f.place as u64);
+// The first bytes of an area, so many of them.
+fn put_first(rt: &HostRuntime, area: &[u8], n: usize) -> io::Result<()> {
+    for b in &area[..n.min(area.len())] {
+        print!(rt; " {b}")?;
+    }
+    println!(rt; "")
 }
 
 // What is said of a rule that is to be written, or of a card that is to be read.
 fn tell(
     rt: &HostRuntime,
-    kind: u32,
+    call: Call,
     bytes: &[u8],
     flags: u32,
     budget: u32,
     rule_area: &mut [u32],
     area: &mut [u8],
-) {
-    if kind == WRITE {
-        match cards::write_card(bytes, flags, budget, rule_area, area) {
-            Err(f) => put_refusal(rt, f),
+) -> io::Result<()> {
+    match call {
+        Call::Write => match write_card(bytes, flags, budget, rule_area, area) {
             Ok(n) => {
-                put(rt, b"written ", n as u64);
-                put_first(rt, area, n);
+                print!(rt; "written {n}")?;
+                put_first(rt, area, n)
             }
-        }
-        return;
+            Err(f) => println!(rt; "refused {f}"),
+        },
+        Call::Read => match read_card(bytes, rule_area, area) {
+            Ok(card) => {
+                let size = card.size;
+                print!(rt;
+                    "read {size} {} {} {}",
+                    card.flags, card.budget, card.groups
+                )?;
+                put_first(rt, area, size)
+            }
+            Err(f) => println!(rt; "refused {f}"),
+        },
     }
-    match cards::read_card(bytes, rule_area, area) {
-        Err(f) => put_refusal(rt, f),
-        Ok(card) => {
-            put(rt, b"read ", card.size as u64);
-            put(rt, b" ", card.flags as u64);
-            put(rt, b" ", card.budget as u64);
-            put(rt, b" ", card.groups as u64);
-            put_first(rt, area, card.size);
-        }
-    }
 }
 
-// The beginning of the next word of the line that ends at a position.
-fn skip(input: &[u8], at: usize, to: usize) -> usize
-    requires { to ≤ length input.now }
-    ensures { result ≤ to }
-{
-    vectors::next_word(vectors::word_end(input, at, to), to)
-}
-
-// The word that begins at a position as a number, held at a limit.
-fn number(input: &[u8], at: usize, to: usize, most: u32) -> u32
-    requires { (at ≤ to) × (to ≤ length input.now) }
-    ensures { result ≤ most }
-{
-    vectors::number(input, at, vectors::word_end(input, at, to), most)
-}
-
-// What the line between two positions asks for.
-fn line(rt: &HostRuntime, input: &[u8], from: usize, to: usize)
-    requires { (from ≤ to) × (to ≤ length input.now) }
-{
+// What a line asks for.
+fn tell_line(rt: &HostRuntime, line: &[u8]) -> io::Result<()> {
     let mut rule_area = [7u32; RULE_AREA];
     let mut area = [7u8; AREA];
     let mut bytes = [0u8; ROOM];
-    let flags_at = skip(input, from, to);
-    let budget_at = skip(input, flags_at, to);
-    let rule_area_at = skip(input, budget_at, to);
-    let area_at = skip(input, rule_area_at, to);
-    let bytes_at = skip(input, area_at, to);
-    let kind = number(input, from, to, MOST);
-    let flags = number(input, flags_at, to, MOST);
-    let budget = number(input, budget_at, to, MOST);
-    let a = number(input, rule_area_at, to, RULE_AREA as u32) as usize;
-    let b = number(input, area_at, to, AREA as u32) as usize;
-    let n = vectors::decode(input, bytes_at, to, &mut bytes);
+    let (kind, line) = cut(line, b' ');
+    let (flags, line) = cut(line, b' ');
+    let (budget, line) = cut(line, b' ');
+    let (rule_need, line) = cut(line, b' ');
+    let (need, digits) = cut(line, b' ');
+    let a = vectors::number(rule_need, RULE_AREA as u32) as usize;
+    let b = vectors::number(need, AREA as u32) as usize;
+    let n = decode(digits, &mut bytes);
     tell(
         rt,
-        kind,
+        Call::from(vectors::number(kind, MOST)),
         &bytes[..n],
-        flags,
-        budget,
+        vectors::number(flags, MOST),
+        vectors::number(budget, MOST),
         &mut rule_area[..a],
         &mut area[..b],
-    );
-    let _ = rt.write_all(b"\n");
+    )
 }
 
-fn lines(rt: &HostRuntime, input: &[u8]) {
-    let mut at = 0;
-    while at < input.len() {
-        let end = text::line_end(input, at);
-        line(rt, input, at, end);
-        at = end + 1;
+fn tell_lines(rt: &HostRuntime, input: &[u8]) -> io::Result<()> {
+    let mut rest = input;
+    while !rest.is_empty() {
+        let (line, behind) = cut(rest, b'\n');
+        tell_line(rt, line)?;
+        rest = behind;
     }
+    Ok(())
 }
 
 fn main(rt: HostRuntime) {
     let mut buffer = vectors::input_buffer();
     let mut input = rt.stdin();
     let n = vectors::read_full(&mut input, &mut buffer);
-    lines(&rt, &buffer[..n]);
+    // where nothing can be written, there is nobody to tell
+    let _ = tell_lines(&rt, &buffer[..n]);
 }

@@ -5,47 +5,42 @@
 ghost use Rattle.std.specs.Prelude.{◌≤◌, length};
 ghost use Rattle.syntax.specs.Limits.{rule_limit, rule_area_need};
 
+use std::io;
+use vectors::{cut, decode, number};
+
 // Greater flags are held at this.
 const FLAGS_MOST: u32 = 1000;
 
 // One rule's verdict.
-fn tell(rt: &HostRuntime, rule: &[u8], flags: u32, area: &mut [u32])
+fn tell(rt: &HostRuntime, rule: &[u8], flags: u32, area: &mut [u32]) -> io::Result<()>
     requires { (length rule.now ≤ rule_limit) × (rule_area_need ≤ length area.old) }
 {
     match reader::compile(rule, flags, false, area) {
-        Ok(compiled) => {
-            let _ = rt.write_all(b"sound ");
-            let _ = rt.print(compiled.groups as u64);
-        }
-        Err(f) => {
-            let _ = rt.print(u32::from(f.reason) as u64);
-            let _ = rt.write_all(b" at ");
-            let _ = rt.print(f.place as u64);
-        }
+        Ok(compiled) => println!(rt; "sound {}", compiled.groups),
+        Err(f) => println!(rt; "{f}"),
     }
-    let _ = rt.write_all(b"\n");
 }
 
-// The verdict on the rule of the line between two positions.
-fn line(rt: &HostRuntime, input: &[u8], from: usize, to: usize, area: &mut [u32])
-    requires { (from ≤ to) × (to ≤ length input.now) × (rule_area_need ≤ length area.old) }
-{
-    let mut rule = [0u8; 1000];
-    let flags_end = vectors::word_end(input, from, to);
-    let flags = vectors::number(input, from, flags_end, FLAGS_MOST);
-    let n = vectors::decode(input, vectors::next_word(flags_end, to), to, &mut rule);
-    tell(rt, &rule[..n], flags, area);
-}
-
-fn lines(rt: &HostRuntime, input: &[u8], area: &mut [u32])
+// The verdict on the rule of a line.
+fn tell_line(rt: &HostRuntime, line: &[u8], area: &mut [u32]) -> io::Result<()>
     requires { rule_area_need ≤ length area.old }
 {
-    let mut at = 0;
-    while at < input.len() {
-        let end = text::line_end(input, at);
-        line(rt, input, at, end, area);
-        at = end + 1;
+    let mut rule = [0u8; 1000];
+    let (flags, digits) = cut(line, b' ');
+    let n = decode(digits, &mut rule);
+    tell(rt, &rule[..n], number(flags, FLAGS_MOST), area)
+}
+
+fn tell_lines(rt: &HostRuntime, input: &[u8], area: &mut [u32]) -> io::Result<()>
+    requires { rule_area_need ≤ length area.old }
+{
+    let mut rest = input;
+    while !rest.is_empty() {
+        let (line, behind) = cut(rest, b'\n');
+        tell_line(rt, line, area)?;
+        rest = behind;
     }
+    Ok(())
 }
 
 fn main(rt: HostRuntime) {
@@ -53,5 +48,6 @@ fn main(rt: HostRuntime) {
     let mut input = rt.stdin();
     let n = vectors::read_full(&mut input, &mut buffer);
     let mut area = [0u32; 16384];
-    lines(&rt, &buffer[..n], &mut area);
+    // where nothing can be written, there is nobody to tell
+    let _ = tell_lines(&rt, &buffer[..n], &mut area);
 }

@@ -1,7 +1,6 @@
--- The text that test vectors are written in: hex digits, decimal numbers and words. A position counts from 0.
+-- The text that test vectors are written in: hex digits, decimal numbers and words.
 use Rattle.std.specs.Prelude.{◌≡◌, List, [], ◌∷◌, ◌++◌, ℕ, ◌+◌, ◌-◌, ◌*◌, min, length, take, drop, eqb, if◌then◌else◌}
 use Prim.Native.Char.{code}
-use Rattle.std.proofs.Math.Seq.{slice}
 use Rattle.io.specs.Counts.{IsPrefixLen}
 use Rattle.syntax.specs.Read.{between}
 
@@ -25,9 +24,9 @@ unfoldable pub decimal : ℕ → List ℕ → ℕ
 decimal n [] = n
 decimal n (d ∷ ds) = decimal (n * 10 + digit_value d) ds
 
--- the decimal number whose digits stand between two positions, held at a limit
-unfoldable pub number_in : List ℕ → ℕ → ℕ → ℕ → ℕ
-number_in s from to limit = min limit (decimal 0 (slice from to s))
+-- the same from none, held at a limit
+unfoldable pub number_of : List ℕ → ℕ → ℕ
+number_of digits limit = min limit (decimal 0 digits)
 
 -- r bytes of the digits' are written over the first of the old ones, as many as there are and as there is room for
 pub record Decoded (digits old : List ℕ) (r : ℕ) (new : List ℕ) : Type 0 where
@@ -41,15 +40,3 @@ pub record Decoded (digits old : List ℕ) (r : ℕ) (new : List ℕ) : Type 0 w
 unfoldable pub up_to : ℕ → List ℕ → List ℕ
 up_to x [] = []
 up_to x (b ∷ bs) = if eqb b x then [] else b ∷ up_to x bs
-
--- the position behind the bytes that stand from a position up to the first x
-unfoldable pub end_by : ℕ → List ℕ → ℕ → ℕ
-end_by x s from = from + length (up_to x (drop from s))
-
--- a word ends before a blank, or where its line does
-abbrev pub word_end : List ℕ → ℕ → ℕ → ℕ
-word_end s from to = end_by 32 (take to s) from
-
--- the next word begins behind the blank
-unfoldable pub next_word : ℕ → ℕ → ℕ
-next_word from to = min (from + 1) to

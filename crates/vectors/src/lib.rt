@@ -1,10 +1,9 @@
 // Test vectors: the whole input of a program, and in its lines digits, hex bytes and words.
 #![tactic(auto)]
 
-ghost use Rattle.std.specs.Prelude.{◌≡◌, ◌≤◌, length};
-ghost use Rattle.std.proofs.Math.Seq.{slice};
+ghost use Rattle.std.specs.Prelude.{◌≡◌, ◌+◌, ◌<◌, length, drop};
 ghost use Rattle.io.specs.Counts.{IsPrefixLen};
-ghost use Rattle.vectors.specs.Text.{digit_value, number_in, Decoded, word_end, next_word};
+ghost use Rattle.vectors.specs.Text.{digit_value, number_of, Decoded, up_to};
 
 use std::io::Read;
 
@@ -37,68 +36,51 @@ pub fn digit(b: u8) -> u8
     ensures { result ≡ digit_value b }
 {
     match b {
-        48..=57 => b - 48,
-        97..=102 => b - 87,
+        b'0'..=b'9' => b - b'0',
+        b'a'..=b'f' => b - b'a' + 10,
         _ => 0,
     }
 }
 
-// The bytes whose hex digits stand from a position to another, as many as there is room for; it says how many.
-pub fn decode(input: &[u8], from: usize, to: usize, rule: &mut [u8]) -> usize
-    requires { to ≤ length input.now }
-    ensures { Decoded (slice from to input.now) rule.old result rule.new }
+// The bytes that hex digits stand for, as many as there is room for; it says how many.
+pub fn decode(digits: &[u8], out: &mut [u8]) -> usize
+    ensures { Decoded digits.now out.old result out.new }
 {
-    let mut at = from;
     let mut n = 0;
-    while at < to {
-        if to - at < 2 {
+    let mut rest = digits;
+    while let [high, low, behind @ ..] = rest {
+        if n == out.len() {
             return n;
         }
-        if n == rule.len() {
-            return n;
-        }
-        rule[n] = digit(input[at]) * 16 + digit(input[at + 1]);
+        out[n] = digit(*high) * 16 + digit(*low);
         n += 1;
-        at += 2;
+        rest = behind;
     }
     n
 }
 
-// The end of the word that begins at a position, before another: a space ends it.
-pub fn word_end(input: &[u8], from: usize, to: usize) -> usize
-    requires { to ≤ length input.now }
-    ensures { result ≡ word_end input.now from to }
+// What stands before the first of a byte, and what behind it: all and nothing where there is none. So lines are cut at their ends, and words at blanks.
+pub fn cut(text: &[u8], end: u8) -> (&[u8], &[u8])
+    ensures before { result.0.now ≡ up_to end text.now }
+    ensures behind { result.1.now ≡ drop (length (up_to end text.now) + 1) text.now }
+    ensures shorter { 0 < length text.now → length result.1.now < length text.now }
 {
-    let mut i = from;
-    while i < to {
-        if input[i] == 32 {
-            return i;
-        }
-        i += 1;
+    match text.iter().position(|b| *b == end) {
+        Some(at) => (&text[..at], &text[at + 1..]),
+        None => (text, &[]),
     }
-    i
 }
 
-// The beginning of the next word.
-pub fn next_word(from: usize, to: usize) -> usize
-    ensures { result ≡ next_word from to }
+// The decimal number that digits stand for, held at a limit. A sum of 64 bits has room for one digit more than any limit.
+pub fn number(digits: &[u8], limit: u32) -> u32
+    ensures { result ≡ number_of digits.now limit }
 {
-    if from < to { from + 1 } else { to }
-}
-
-// The decimal number between two positions, held at a limit. A sum of 64 bits has room for one digit more than any limit.
-pub fn number(input: &[u8], from: usize, to: usize, limit: u32) -> u32
-    requires { to ≤ length input.now }
-    ensures { result ≡ number_in input.now from to limit }
-{
-    let mut i = from;
     let mut n: u64 = 0;
-    while i < to {
-        n = n * 10 + digit(input[i]) as u64;
+    for d in digits {
+        n = n * 10 + digit(*d) as u64;
         if n > limit as u64 {
             return limit;
         }
-        i += 1;
     }
     n as u32
 }

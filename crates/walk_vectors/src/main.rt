@@ -14,56 +14,30 @@ ghost use Rattle.machine.specs.Words.{now_of};
 ghost use Rattle.machine.specs.Ready.{Ready};
 
 use machine::{Machine, Stop};
+use std::io;
 use syntax::REGISTERS;
+use vectors::{cut, decode, number};
 
-fn put(rt: &HostRuntime, text: &[u8]) {
-    let _ = rt.write_all(text);
-}
+// Both numbers of a group that is not set.
+const UNSET: u32 = u32::MAX;
 
-fn put_number(rt: &HostRuntime, n: u32) {
-    let _ = rt.print(n as u64);
-}
-
-// A group's span.
-fn put_span(rt: &HostRuntime, from: u32, to: u32) {
-    if from == 4294967295 {
-        put(rt, b" -");
-        return;
+// A group's span, '-' where it is not set.
+fn put_span(rt: &HostRuntime, from: u32, to: u32) -> io::Result<()> {
+    if from == UNSET {
+        return print!(rt; " -");
     }
-    put(rt, b" ");
-    put_number(rt, from);
-    put(rt, b"-");
-    put_number(rt, to);
+    print!(rt; " {from}-{to}")
 }
 
-// The spans of a rule's groups, from the registers.
-fn put_spans(rt: &HostRuntime, regs: &[u32], groups: usize)
+// One end of a walk, with the spans of a rule's groups from the registers.
+fn put_end(rt: &HostRuntime, steps: u32, at: u32, regs: &[u32], groups: usize) -> io::Result<()>
     requires { 2 * groups ≤ length regs.now }
 {
-    let mut i = 0;
-    while i < groups {
-        put_span(rt, regs[2 * i], regs[2 * i + 1]);
-        i += 1;
+    print!(rt; "end {steps} {at}")?;
+    for i in 0..groups {
+        put_span(rt, regs[2 * i], regs[2 * i + 1])?;
     }
-}
-
-// One end of a walk.
-fn put_end(rt: &HostRuntime, steps: u32, at: u32, regs: &[u32], groups: usize)
-    requires { 2 * groups ≤ length regs.now }
-{
-    put(rt, b"end ");
-    put_number(rt, steps);
-    put(rt, b" ");
-    put_number(rt, at);
-    put_spans(rt, regs, groups);
-    put(rt, b"\n");
-}
-
-// How a walk stopped.
-fn put_stop(rt: &HostRuntime, how: &[u8], steps: u32) {
-    put(rt, how);
-    put_number(rt, steps);
-    put(rt, b"\n");
+    println!(rt; "")
 }
 
 // All ends of a walk.
@@ -76,7 +50,7 @@ fn walk(
     m: Machine,
     budget: u32,
     groups: usize,
-)
+) -> io::Result<()>
     requires regs_len { (length regs.old ≡ registers) × (2 * groups ≤ length regs.old) × (length sub.now < 2 ^ 32) × (length code.now < 2 ^ 32) }
     requires by_index { (first : List ℕ) × (t : Trace) × Ready code.now sub.now (length work.old) budget first (now_of regs.old work.old m) t }
 {
@@ -88,17 +62,11 @@ fn walk(
             Stop::End(used, e) => {
                 left -= used;
                 let height = e.height;
-                put_end(rt, budget - left, e.at, regs, groups);
+                put_end(rt, budget - left, e.at, regs, groups)?;
                 head = machine::fall_back(code, regs, work, height);
             }
-            Stop::Nothing(used) => {
-                put_stop(rt, b"done ", budget - left + used);
-                return;
-            }
-            Stop::Spent => {
-                put_stop(rt, b"spent ", budget);
-                return;
-            }
+            Stop::Nothing(used) => return println!(rt; "done {}", budget - left + used),
+            Stop::Spent => return println!(rt; "spent {budget}"),
         }
     }
 }
@@ -113,13 +81,13 @@ fn walk_from(
     groups: u32,
     start: usize,
     budget: u32,
-)
+) -> io::Result<()>
     requires start_in_bounds { (start ≤ length sub.now) × (length sub.now < 2 ^ 32) × (length code.now < 2 ^ 32) × (8 * budget ≤ length work.old) × (groups ≤ group_limit) × (2 * budget < 2 ^ 32) }
     requires stands { (x : Rule) × Stands code.now x entry }
 {
-    let mut regs = [4294967295u32; REGISTERS];
+    let mut regs = [UNSET; REGISTERS];
     let m = machine::start(entry, start as u32);
-    walk(rt, code, sub, &mut regs, work, m, budget, groups as usize);
+    walk(rt, code, sub, &mut regs, work, m, budget, groups as usize)
 }
 
 // The walk of a rule from a start, or why there is none.
@@ -132,12 +100,11 @@ fn tell(
     budget: u32,
     area: &mut [u32],
     work: &mut [u32],
-)
+) -> io::Result<()>
     requires { (length rule.now ≤ rule_limit) × (length area.old ≡ rule_area_need) × (length sub.now < 2 ^ 32) × (8 * budget ≤ length work.old) × (2 * budget < 2 ^ 32) }
 {
     if sub.len() < start {
-        put(rt, b"no such start\n");
-        return;
+        return println!(rt; "no such start");
     }
     match reader::compile(rule, flags, false, area) {
         Ok(compiled) => walk_from(
@@ -150,49 +117,47 @@ fn tell(
             start,
             budget,
         ),
-        Err(f) => {
-            put_number(rt, u32::from(f.reason));
-            put(rt, b" at ");
-            let _ = rt.print(f.place as u64);
-            put(rt, b"\n");
-        }
+        Err(f) => println!(rt; "{f}"),
     }
 }
 
-// The walk that the line between two positions asks for.
-fn line(rt: &HostRuntime, input: &[u8], from: usize, to: usize, area: &mut [u32], work: &mut [u32])
-    requires { (from ≤ to) × (to ≤ length input.now) × (length area.old ≡ rule_area_need) × (8 * 20000 ≤ length work.old) }
+// The walk that a line asks for.
+fn tell_line(rt: &HostRuntime, line: &[u8], area: &mut [u32], work: &mut [u32]) -> io::Result<()>
+    requires { (length area.old ≡ rule_area_need) × (8 * 20000 ≤ length work.old) }
 {
-    if from == to {
-        return;
+    if line.is_empty() {
+        return Ok(());
     }
     let mut rule = [0u8; 1000];
     let mut sub = [0u8; 1000];
-    let flags_end = vectors::word_end(input, from, to);
-    let budget_at = vectors::next_word(flags_end, to);
-    let budget_end = vectors::word_end(input, budget_at, to);
-    let start_at = vectors::next_word(budget_end, to);
-    let start_end = vectors::word_end(input, start_at, to);
-    let rule_at = vectors::next_word(start_end, to);
-    let rule_end = vectors::word_end(input, rule_at, to);
-    let sub_at = vectors::next_word(rule_end, to);
-    let flags = vectors::number(input, from, flags_end, 1000);
-    let budget = vectors::number(input, budget_at, budget_end, 20000);
-    let start = vectors::number(input, start_at, start_end, 20000) as usize;
-    let n = vectors::decode(input, rule_at, rule_end, &mut rule);
-    let k = vectors::decode(input, sub_at, to, &mut sub);
-    tell(rt, &rule[..n], flags, &sub[..k], start, budget, area, work);
+    let (flags, line) = cut(line, b' ');
+    let (budget, line) = cut(line, b' ');
+    let (start, line) = cut(line, b' ');
+    let (rule_digits, sub_digits) = cut(line, b' ');
+    let n = decode(rule_digits, &mut rule);
+    let k = decode(sub_digits, &mut sub);
+    tell(
+        rt,
+        &rule[..n],
+        number(flags, 1000),
+        &sub[..k],
+        number(start, 20000) as usize,
+        number(budget, 20000),
+        area,
+        work,
+    )
 }
 
-fn lines(rt: &HostRuntime, input: &[u8], area: &mut [u32], work: &mut [u32])
+fn tell_lines(rt: &HostRuntime, input: &[u8], area: &mut [u32], work: &mut [u32]) -> io::Result<()>
     requires { (length area.old ≡ rule_area_need) × (8 * 20000 ≤ length work.old) }
 {
-    let mut at = 0;
-    while at < input.len() {
-        let end = text::line_end(input, at);
-        line(rt, input, at, end, area, work);
-        at = end + 1;
+    let mut rest = input;
+    while !rest.is_empty() {
+        let (line, behind) = cut(rest, b'\n');
+        tell_line(rt, line, area, work)?;
+        rest = behind;
     }
+    Ok(())
 }
 
 fn main(rt: HostRuntime) {
@@ -201,5 +166,6 @@ fn main(rt: HostRuntime) {
     let n = vectors::read_full(&mut input, &mut buffer);
     let mut area = [0u32; 16384];
     let mut work = [0u32; 160000];
-    lines(&rt, &buffer[..n], &mut area, &mut work);
+    // where nothing can be written, there is nobody to tell
+    let _ = tell_lines(&rt, &buffer[..n], &mut area, &mut work);
 }

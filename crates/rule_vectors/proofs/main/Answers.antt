@@ -3,6 +3,6 @@ use Rattle.syntax.specs.Limits.{rule_area_need}
 use borrow.Author.Rules.{rules}
 use Rattle.rule_vectors.proofs.main.Goals as goal
 
-pub lines-requires : goal.lines-requires
+pub tell_lines-requires : goal.tell_lines-requires
 unfolding rule_area_need
-lines-requires c = search rules
+tell_lines-requires c = search rules

@@ -1,38 +1,18 @@
--- `decode` meets its contract. The loop's invariant: the bytes of the digits passed stand over the first of the slice, and those of the rest are left.
-use native.Mathlib.Omega.{arith}
+-- The loop's invariant: the bytes of the digits passed stand over the first of the slice, and those of the rest are left.
+use Rattle.std.proofs.Common.{arith}
 use Rattle.vectors.specs.Laws.Digits.{digit-small}
-use Rattle.vectors.specs.Laws.Bytes.{filled_none, filled_more, filled-full, filled-all, filled-length}
+use Rattle.vectors.specs.Laws.Bytes.{filled-length, filled-all, filled_next}
 use Rattle.vectors.proofs.decode.Goals as goal
 
-pub loop-at-init : goal.loop-at-init
-loop-at-init c = filled_none _ _ _ _
+pub overflow_mul-out : goal.overflow_mul-out
+overflow_mul-out c = omega (arith, digit-small _ _ c.digit.ensures)
 
-pub shape_of-rule-then-to-at-lt2 : goal.shape_of-rule-then-to-at-lt2
-shape_of-rule-then-to-at-lt2 c = filled-length _ _ _ _ _ _ _ c.loop-at.invariant
+pub overflow_add-out : goal.overflow_add-out
+overflow_add-out c = omega (arith, digit-small _ _ c.digit.ensures, digit-small _ _ c.digit-in-len2-up.ensures)
 
-pub returns-then-to-at-lt2 : goal.returns-then-to-at-lt2
-returns-then-to-at-lt2 c = filled-all _ _ _ _ _ _ _ c.loop-at.invariant c.requires (omega arith)
-
-pub shape_of-rule-then-n-rule : goal.shape_of-rule-then-n-rule
-shape_of-rule-then-n-rule c = filled-length _ _ _ _ _ _ _ c.loop-at.invariant
-
-pub returns-then-n-rule : goal.returns-then-n-rule
-returns-then-n-rule c = filled-full _ _ _ _ _ _ _ c.loop-at.invariant (omega (arith, filled-length _ _ _ _ _ _ _ c.loop-at.invariant))
-
-pub overflow_mul-rule : goal.overflow_mul-rule
-overflow_mul-rule c = omega (arith, digit-small _ _ c.digit.ensures)
-
-pub overflow_add-rule : goal.overflow_add-rule
-overflow_add-rule c = omega (arith, digit-small _ _ c.digit.ensures, digit-small _ _ c.digit-in-loop-at.ensures)
-
-pub bounds-rule-n : goal.bounds-rule-n
-bounds-rule-n c = omega (arith, filled-length _ _ _ _ _ _ _ c.loop-at.invariant, c.loop-at.invariant.room)
-
-pub loop-at-preserved : goal.loop-at-preserved
-loop-at-preserved c = filled_more _ _ _ _ _ _ _ c.loop-at.invariant c.requires (omega arith) (omega (arith, filled-length _ _ _ _ _ _ _ c.loop-at.invariant, c.loop-at.invariant.room)) _ _ c.digit.ensures c.digit-in-loop-at.ensures
-
-pub shape_of-rule : goal.shape_of-rule
-shape_of-rule c = filled-length _ _ _ _ _ _ _ c.loop-at.invariant
+pub loop-rest-preserved : goal.loop-rest-preserved
+loop-rest-preserved c = let l = c.loop-rest in
+    filled_next _ _ _ _ _ l.invariant c.in-len2-up.len_at_least (omega (arith, filled-length _ _ _ _ _ l.invariant, l.invariant.room)) _ _ c.digit.ensures c.digit-in-len2-up.ensures
 
 pub returns : goal.returns
-returns c = filled-all _ _ _ _ _ _ _ c.loop-at.invariant c.requires (omega arith)
+returns c = filled-all _ _ _ _ _ c.loop-rest.invariant (omega arith)

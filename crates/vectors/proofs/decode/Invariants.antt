@@ -1,9 +1,9 @@
-use Prim.Native.Nat.{◌-◌}
+use lib.ListN.{length}
 use Rattle.vectors.specs.Laws.Bytes.{Filled}
 use Rattle.vectors.proofs.decode.Given as goal
 
-abbrev pub invariant-loop-at : goal.invariant-loop-at
-invariant-loop-at l = Filled l.input l.from l.to l.initial.rule l.at l.n l.rule
+abbrev pub invariant-loop-rest : goal.invariant-loop-rest
+invariant-loop-rest l = Filled l.digits l.initial.out l.rest l.n l.out
 
-abbrev pub decreases-loop-at : goal.decreases-loop-at
-decreases-loop-at l = l.to - l.at
+abbrev pub decreases-loop-rest : goal.decreases-loop-rest
+decreases-loop-rest l = length l.rest

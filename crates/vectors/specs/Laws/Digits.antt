@@ -1,15 +1,15 @@
 -- Laws of digits and of the numbers that they stand for. Assumes nothing.
-use Rattle.std.specs.Prelude.{◌≡◌, refl, true, false, ◌&&◌, ◌⊎◌, ℕ, ◌+◌, ◌-◌, ◌*◌, ◌≤◌, ◌<◌, get_or, take, leb}
+use Rattle.std.specs.Prelude.{◌≡◌, refl, true, false, ◌&&◌, ◌⊎◌, ℕ, ◌+◌, ◌-◌, ◌*◌, ◌≤◌, ◌<◌, get_or, leb}
 use mathlib.Core.List.{List, [], ◌∷◌}
 use Rattle.std.proofs.Math.Bool.{and-false}
 use Rattle.std.proofs.Common.{inl, inr, le-leb}
 use native.Mathlib.Omega.{arith}
 use Rattle.std.proofs.Math.Decide.{dec_lt}
 use Rattle.std.proofs.Math.Numerals.{add-one}
-use Rattle.std.proofs.Math.ListN.{length, drop_of_length-le, length-take}
-use Rattle.std.proofs.Math.Seq.{slice, slice-cons}
+use Rattle.std.proofs.Math.ListN.{length, drop, drop_of_length-le}
+use Rattle.std.proofs.Common.{drop-cons}
 use Rattle.std.proofs.lemmas.Bool.{lt-leb}
-use Rattle.vectors.specs.Text.{digit_value, decimal, number_in}
+use Rattle.vectors.specs.Text.{digit_value, decimal, number_of}
 
 -- One digit -------------------------------------------------------------------
 
@@ -53,38 +53,37 @@ unfolding decimal
 decimal-least n [] = omega arith
 decimal-least n (d ∷ ds) = let h : n * 10 + digit_value d ≤ decimal (n * 10 + digit_value d) ds = decimal-least (n * 10 + digit_value d) ds in omega arith
 
-pub number-most : (s : List ℕ) (from to limit r : ℕ) → r ≡ number_in s from to limit → r ≤ limit
-unfolding number_in
-number-most s from to limit r e = omega arith
+pub number-most : (digits : List ℕ) (limit r : ℕ) → r ≡ number_of digits limit → r ≤ limit
+unfolding number_of
+number-most digits limit r e = omega arith
 
--- a loop over the digits between two positions: those passed at i stand for n, which has not gone beyond the limit
-pub record Counted (s : List ℕ) (from to limit i n : ℕ) : Type 0 where
+-- a loop over the digits: the first i stand for n, which has not gone beyond the limit
+pub record Counted (digits : List ℕ) (limit i n : ℕ) : Type 0 where
   pub small : n ≤ limit
-  pub same : decimal n (slice i to s) ≡ decimal 0 (slice from to s)
+  pub same : decimal n (drop i digits) ≡ decimal 0 digits
 
-module _ (s : List ℕ) (from to limit : ℕ) where
-  pub counted_none : Counted s from to limit from 0
+module _ (digits : List ℕ) (limit : ℕ) where
+  pub counted_none : Counted digits limit 0 0
   counted_none = record { small = omega arith; same = refl }
 
-  module _ (i n : ℕ) (c : Counted s from to limit i n) where
+  module _ (i n : ℕ) (c : Counted digits limit i n) where
     -- the digits end: the number is theirs
-    pub counted-all : to ≤ i → n ≡ number_in s from to limit
-    unfolding decimal number_in
+    pub counted-all : length digits ≤ i → n ≡ number_of digits limit
+    unfolding decimal number_of
     counted-all h =
-        let short : length (take to s) ≤ i = simp length-take (omega arith) in
-        let none : slice i to s ≡ [] = drop_of_length-le (take to s) short in
-        let all : n ≡ decimal 0 (slice from to s) = rw none at c.same in
-        omega arith
+        let none : drop i digits ≡ [] = drop_of_length-le digits h in
+        let all : n ≡ decimal 0 digits = rw none at c.same in
+        omega (arith, c.small)
 
-    module _ (h : i < to) (k : to ≤ length s) (m : ℕ) (e : m ≡ n * 10 + digit_value (get_or s i 0)) where
-      one_more : decimal m (slice (i + 1) to s) ≡ decimal 0 (slice from to s)
+    module _ (h : i < length digits) (m : ℕ) (e : m ≡ n * 10 + digit_value (get_or digits i 0)) where
+      one_more : decimal m (drop (i + 1) digits) ≡ decimal 0 digits
       unfolding decimal
-      one_more = rw (e, add-one i) (rw (slice-cons i to s 0 h k) at c.same)
+      one_more = rw (e, add-one i) (rw (drop-cons digits i 0 h) at c.same)
 
-      pub counted-more : m ≤ limit → Counted s from to limit (i + 1) m
+      pub counted-more : m ≤ limit → Counted digits limit (i + 1) m
       counted-more small = record { small = small; same = one_more }
 
       -- beyond the limit no further digit matters
-      pub counted-over : limit < m → limit ≡ number_in s from to limit
-      unfolding number_in
-      counted-over over = omega (arith, one_more, decimal-least m (slice (i + 1) to s))
+      pub counted-over : limit < m → limit ≡ number_of digits limit
+      unfolding number_of
+      counted-over over = omega (arith, one_more, decimal-least m (drop (i + 1) digits))

@@ -1,73 +1,46 @@
--- Laws of the ends of words. Assumes nothing.
-use Rattle.std.specs.Prelude.{◌≡◌, Bool, ℕ, ◌+◌, ◌-◌, ◌≤◌, ◌<◌, get_or, take, drop, eqb}
-use Rattle.std.proofs.Math.Path.{refl}
-use Rattle.std.proofs.Common.{sym, ◌∙◌, drop_of_length-le, drop-cons, get_or-take, length-take-le, eq-eqb, ne_eqb}
-use mathlib.Core.List.{List, [], ◌∷◌}
-use Rattle.std.proofs.Math.Bool.{true, false}
-use native.Mathlib.Omega.{arith}
-use Rattle.std.proofs.Math.Numerals.{add-one}
-use Rattle.std.proofs.Math.ListN.{length, length-drop}
-use Rattle.vectors.specs.Text.{up_to, end_by, word_end, next_word}
-
--- The first of a byte ---------------------------------------------------------
+-- Laws of the first of a byte, where a text is cut. Assumes nothing.
+use Rattle.std.specs.Prelude.{◌≡◌, refl, Bool, true, false, List, [], ◌∷◌, ℕ, ◌+◌, ◌-◌, ◌≤◌, ◌<◌, length, take, drop, eqb, Option, if◌then◌else◌}
+use Rattle.std.specs.List.{AllWithin, HoldsAt}
+use Rattle.std.specs.Option.{MatchOption, unwrap_or}
+use Rattle.std.proofs.Common.{sym, ap, ◌∙◌, arith, length-drop, take_all, drop_of_length-le}
+use Rattle.std.proofs.lemmas.Iterator.{index_from_first}
+use borrow.Author.Tests.{eq-eqb, ne_eqb}
+use Rattle.vectors.specs.Text.{up_to}
 
 module _ (x : ℕ) where
-  up_by : (b : ℕ) (bs : List ℕ) (t : Bool) → eqb b x ≡ t → length (up_to x bs) ≤ length bs → length (up_to x (b ∷ bs)) ≤ length (b ∷ bs)
+  hit : (b : ℕ) (bs : List ℕ) → b ≡ x → length (up_to x (b ∷ bs)) ≡ 0
   unfolding up_to
-  up_by b bs true e h = simp e (omega arith)
-  up_by b bs false e h = simp e (omega arith)
+  hit b bs e = rw (eq-eqb b x e)
 
-  up-within : (s : List ℕ) → length (up_to x s) ≤ length s
+  miss : (b : ℕ) (bs : List ℕ) → (b ≡ x → ⊥) → length (up_to x (b ∷ bs)) ≡ length (up_to x bs) + 1
   unfolding up_to
-  up-within [] = omega arith
-  up-within (b ∷ bs) = up_by b bs (eqb b x) refl (up-within bs)
+  miss b bs e = rw (ne_eqb b x e) (omega arith)
 
-  module _ (s : List ℕ) (i : ℕ) where
-    pub end-least : i ≤ end_by x s i
-    unfolding end_by
-    end-least = omega arith
+  none : length (up_to x []) ≡ 0
+  unfolding up_to
+  none = refl
 
-    pub end-within : i ≤ length s → end_by x s i ≤ length s
-    unfolding end_by
-    end-within h = let k : length (up_to x (drop i s)) ≤ length s - i = simp length-drop at (up-within (drop i s)) in omega arith
+  -- what a search for the byte answers
+  pub end-found : (s : List ℕ) (r : Option ℕ) → MatchOption r (AllWithin (λ b. b ≡ x → ⊥) s 0 (length s)) (λ i. (i < length s) × HoldsAt (λ b. b ≡ x) s i × AllWithin (λ b. b ≡ x → ⊥) s 0 i)
+      → length (up_to x s) ≡ unwrap_or r (length s)
+  end-found s r m = index_from_first (λ t. length (up_to x t)) (λ b. b ≡ x) (λ b. b ≡ x → ⊥) none hit miss s r m
 
-    -- how a loop that looks for the byte goes: it is here, it is not, or the bytes end
-    pub end-here : i < length s → get_or s i 0 ≡ x → end_by x s i ≡ i
-    unfolding end_by up_to
-    end-here h e = rw (drop-cons s i 0 h) (simp (eq-eqb _ x e) (omega arith))
+  pub up-taken : (s : List ℕ) → up_to x s ≡ take (length (up_to x s)) s
+  unfolding up_to
+  up-taken [] = refl
+  up-taken (b ∷ bs) = go (up-taken bs) (eqb b x)
+    where
+      go : up_to x bs ≡ take (length (up_to x bs)) bs → (t : Bool) → (if t then [] else b ∷ up_to x bs) ≡ take (length (if t then [] else b ∷ up_to x bs)) (b ∷ bs)
+      go e true = refl
+      go e false = ap (λ (l : List ℕ). b ∷ l) e
 
-    pub end_later : i < length s → (get_or s i 0 ≡ x → ⊥) → end_by x s i ≡ end_by x s (i + 1)
-    unfolding end_by up_to
-    end_later h e = rw (drop-cons s i 0 h, add-one i) (simp (ne_eqb _ x e) (omega arith))
+  -- where it stands, and where it does not
+  pub cut-at : (s : List ℕ) (i : ℕ) → length (up_to x s) ≡ i → (take i s ≡ up_to x s) × (take (length s - (i + 1)) (drop (i + 1) s) ≡ drop (length (up_to x s) + 1) s)
+  cut-at s i e =
+      let k : length (drop (i + 1) s) ≤ length s - (i + 1) = simp length-drop (omega arith) in
+      (rw (← e) (sym (up-taken s)), rw (take_all (length s - (i + 1)) (drop (i + 1) s) k, e))
 
-    pub end-past : length s ≤ i → end_by x s i ≡ i
-    unfolding end_by up_to
-    end-past h = rw (drop_of_length-le s h) (omega arith)
-
--- Words -------------------------------------------------------------
-
-module _ (s : List ℕ) (to : ℕ) (k : to ≤ length s) where
-  cut : length (take to s) ≡ to
-  cut = length-take-le to s k
-
-  module _ (i : ℕ) where
-    pub word-here : i < to → get_or s i 0 ≡ 32 → word_end s i to ≡ i
-    word-here h e = end-here 32 (take to s) i (omega (arith, cut)) (get_or-take to s i 0 h ∙ e)
-
-    pub word-later : i < to → (get_or s i 0 ≡ 32 → ⊥) → word_end s i to ≡ word_end s (i + 1) to
-    word-later h e = end_later 32 (take to s) i (omega (arith, cut)) (λ q. e (sym (get_or-take to s i 0 h) ∙ q))
-
-    pub word-past : to ≤ i → word_end s i to ≡ i
-    word-past h = end-past 32 (take to s) i (omega (arith, cut))
-
-  module _ (from r : ℕ) (e : r ≡ word_end s from to) where
-    pub word-least : from ≤ r
-    word-least = rw e (end-least 32 (take to s) from)
-
-    pub word-within : from ≤ to → r ≤ to
-    word-within h = rw e (rw cut at (end-within 32 (take to s) from (omega (arith, cut))))
-
-module _ (from to r : ℕ) (e : r ≡ next_word from to) where
-  pub next-within : r ≤ to
-  unfolding next_word
-  next-within = omega arith
+  pub cut-none : (s : List ℕ) → length (up_to x s) ≡ length s → (s ≡ up_to x s) × (◌≡◌ {A = List ℕ} [] (drop (length (up_to x s) + 1) s))
+  cut-none s e =
+      let k : length s ≤ length (up_to x s) + 1 = omega arith in
+      (sym (take_all (length (up_to x s)) s (omega arith)) ∙ sym (up-taken s), sym (drop_of_length-le s k))

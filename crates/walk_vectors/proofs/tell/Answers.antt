@@ -7,9 +7,9 @@ use Rattle.walk_vectors.proofs.tell.Goals as goal
 
 pub walk_from-requires : goal.walk_from-requires
 unfolding rule_area_need
-walk_from-requires c = let said = rw c.in-Sound.is at c.compile.ensures.says in
+walk_from-requires c = let said = rw c.in-Ok.is at c.compile.ensures.says in
     let long = c.compile.auto.area ∙ c.requires.1 in
     record {
-      start_in_bounds = (omega arith, c.requires.2, omega arith, c.requires.3, few-groups _ _ _ _ _ said, omega (arith, said.near), c.requires.4);
+      start_in_bounds = (omega arith, c.requires.2, omega arith, c.requires.3, few-groups _ _ _ _ _ said, c.requires.4);
       stands = walkable _ _ _ _ _ said long;
     }
