@@ -4,7 +4,7 @@ ghost use Rattle.syntax.specs.Grammar.{atom};
 ghost use Rattle.reasons.specs.Items.{with_repeat, behind_item, opens_not_ahead, item_end};
 
 use lexemes::{behind_blanks, breaks_line, peek, quantifier_at};
-use lexer::{Token, item_at};
+use lexer::item_at;
 use syntax::Quantifier;
 
 // Bytes that open a `(?!`, as `peek` gives them.
@@ -32,14 +32,9 @@ fn token_end(rule: &[u8], flags: u32, at: usize) -> usize
     requires { at < length rule.now }
     ensures { result ≡ behind_item rule.now flags at (atom rule.now flags [] 0 at) }
 {
-    let lexed = item_at(rule, flags, 0, at);
-    let token = lexed.token;
-    match token {
-        Token::Byte(next) => with_repeat(rule, flags, next),
-        Token::Assert(_, next) => with_repeat(rule, flags, next),
-        Token::Reference(_, next) => with_repeat(rule, flags, next),
-        Token::Called(_, _, next) => with_repeat(rule, flags, next),
-        Token::BadItem(_) => at + 1,
+    match item_at(rule, flags, 0, at) {
+        Ok(item) => with_repeat(rule, flags, item.next),
+        Err(_refusal) => at + 1,
     }
 }
 

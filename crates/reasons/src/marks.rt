@@ -33,11 +33,9 @@ pub fn underline(rule: &[u8], flags: u32, marks: &[u8], out: &mut [u8])
     ensures { (i : ℕ) → i < length rule.now → get_or out.new i 0 ≡ sign_under rule.now flags marks.now i }
 {
     let mut end: usize = 0;
-    let mut i: usize = 0;
-    while i < rule.len() {
+    for i in 0..rule.len() {
         end = end_after(rule, flags, marks[i], i, end);
         out[i] = sign(i, end);
-        i += 1;
     }
 }
 
@@ -67,12 +65,10 @@ fn is_said(rule: &[u8], flags: u32, marks: &[u8], at: usize) -> bool
     requires { (length marks.now ≡ length rule.now) × (at < length rule.now) }
     ensures { Decides result (Said rule.now flags marks.now (item_text rule.now flags at) at) }
 {
-    let mut i: usize = 0;
-    while i < at {
+    for i in 0..at {
         if says(rule, flags, marks, i, at) {
             return true;
         }
-        i += 1;
     }
     false
 }
@@ -93,12 +89,10 @@ pub fn next_new(rule: &[u8], flags: u32, marks: &[u8], from: usize) -> usize
     requires { (length marks.now ≡ length rule.now) × (from ≤ length rule.now) }
     ensures { NextNew rule.now flags marks.now from result }
 {
-    let mut i = from;
-    while i < rule.len() {
+    for i in from..rule.len() {
         if is_new(rule, flags, marks, i) {
             return i;
         }
-        i += 1;
     }
-    i
+    rule.len()
 }

@@ -1,7 +1,7 @@
 -- The text of an item ends where the reader of items says, behind its place and within the rule.
 use Rattle.std.specs.Prelude.{◌≡◌, refl, List, [], Bool, true, false, ◌&&◌, ℕ, suc, ◌+◌, ◌≤◌, ◌<◌, eqb, length, if◌then◌else◌}
 use Rattle.std.proofs.Math.Path.{sym}
-use Rattle.std.proofs.Common.{subst, ◌∙◌, arith}
+use Rattle.std.proofs.Common.{◌∙◌, arith}
 use borrow.Author.Tests.{ne_eqb}
 use Rattle.syntax.specs.declared.Quantifier.{Quantifier}
 use Rattle.syntax.specs.declared.Quantifier.TheVariants.{Absent, Stray, Unfit, Times}
@@ -14,32 +14,27 @@ use Rattle.syntax.specs.Laws.Blanks.{blanks-on}
 use Rattle.syntax.specs.Laws.Forward.{Given, Past, Holding, Bounded, and_right, quantifier-on, atom-on}
 use Rattle.syntax.specs.Laws.Within.{Upto, is-in, quantifier-in, atom-in}
 use Rattle.lexemes.specs.Says.{Peeked}
-use Rattle.lexer.specs.declared.Lexed.{Lexed}
+use Rattle.syntax.specs.declared.Refusal.{Refusal}
 use Rattle.lexer.specs.declared.Token.{Token}
-use Rattle.lexer.specs.declared.Token.TheVariants.{Byte, Assert, Reference, Called, BadItem}
-use Rattle.lexer.specs.Says.{ItemIn, SaysItem}
+use Rattle.lexer.specs.declared.Token.TheVariants.{Byte, Assert, Reference, Called}
+use Rattle.lexer.specs.Says.{ItemIn}
 use Rattle.reasons.specs.Items.{behind_repeat, with_repeat, behind_item, opens_not_ahead, item_end}
 
 -- Where the reader says --------------------------------------------------------
 
--- where the text of an item ends that was read as a token
-unfoldable pub end_of : (s : List ℕ) (flags at : ℕ) → Token → ℕ
-end_of s flags at (Byte next) = with_repeat s flags next
-end_of s flags at (Assert k next) = with_repeat s flags next
-end_of s flags at (Reference n next) = with_repeat s flags next
-end_of s flags at (Called from len next) = with_repeat s flags next
-end_of s flags at (BadItem f) = suc at
+module _ (s : List ℕ) (flags at : ℕ) where
+  -- an item that was read as a token
+  pub end-read : (t : Token) (next : ℕ) → ItemIn s (ignore_case flags) [] (atom s flags [] 0 at) t next → with_repeat s flags next ≡ behind_item s flags at (atom s flags [] 0 at)
+  unfolding behind_item
+  end-read (Byte words) next h = rw h.1
+  end-read (Assert k) next h = rw h
+  end-read (Reference n) next h = rw h
+  end-read (Called n) next h = rw h.0
 
-end-told : (s : List ℕ) (flags at : ℕ) (words : List ℕ) (t : Token) → ItemIn s (ignore_case flags) [] (atom s flags [] 0 at) words t → end_of s flags at t ≡ behind_item s flags at (atom s flags [] 0 at)
-unfolding end_of behind_item
-end-told s flags at words (Byte next) h = rw h.1
-end-told s flags at words (Assert k next) h = rw h
-end-told s flags at words (Reference n next) h = rw h
-end-told s flags at words (Called from len next) h = rw h.0
-end-told s flags at words (BadItem f) h = rw h
-
-pub end_by : (s : List ℕ) (flags at : ℕ) (l : Lexed) (t : Token) → l.token ≡ t → SaysItem s (ignore_case flags) [] (atom s flags [] 0 at) l → end_of s flags at t ≡ behind_item s flags at (atom s flags [] 0 at)
-end_by s flags at l t e h = end-told s flags at l.words t (subst (λ (x : Token). ItemIn s (ignore_case flags) [] (atom s flags [] 0 at) l.words x) e h)
+  -- one that is refused
+  pub end-refused : (r : Refusal) → atom s flags [] 0 at ≡ refused r.place r.reason → suc at ≡ behind_item s flags at (atom s flags [] 0 at)
+  unfolding behind_item
+  end-refused r h = rw h
 
 -- By what stands at the place -----------------------------------------------------
 

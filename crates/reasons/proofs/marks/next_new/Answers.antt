@@ -1,5 +1,7 @@
 -- The loop's invariant: from the first place up to i there is none.
+use mathlib.Core.Path.{◌≡◌}
 use native.Mathlib.Omega.{arith}
+use lib.ListN.{length}
 use native.Mathlib.Numerals.{add-one}
 use Rattle.reasons.specs.Marks.{New}
 use Rattle.reasons.specs.Laws.Decides.{is-so, is-not}
@@ -16,4 +18,6 @@ pub loop-i-preserved : goal.loop-i-preserved
 loop-i-preserved c = (omega arith, omega arith, rw (add-one c.loop-i.i) (none-further (New _ _ _) _ _ c.loop-i.invariant.2 (is-not _ c.is_new.ensures c.if-is_new.false)))
 
 pub returns : goal.returns
-returns c = record { onward = omega arith; within = omega arith; is_new = λ h. absurd (omega arith); first = c.loop-i.invariant.2 }
+returns c =
+    let end : c.loop-i.i ≡ length c.args.rule.now = omega arith in
+    record { onward = omega arith; within = omega arith; is_new = λ h. absurd (omega arith); first = rw end at c.loop-i.invariant.2 }
