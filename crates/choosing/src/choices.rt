@@ -1,10 +1,11 @@
 // What a node chooses, written down before its move, and whether the move falls back.
-ghost use Rattle.std.specs.Prelude.{◌≡◌, ◌+◌, ◌≤◌, ◌<◌, ◌^◌, length, get_or};
+ghost use Rattle.std.specs.Prelude.{◌≡◌, ◌+◌, ◌≤◌, ◌<◌, ◌^◌, length, get_or, IfOk};
 ghost use Rattle.syntax.specs.Limits.{registers};
 ghost use Rattle.machine.specs.Code.{Fits};
 ghost use Rattle.choosing.specs.Logs.{Within};
 
-use crate::log::{Log, NEXT, OTHER, SETTLED, put};
+use crate::Unmade;
+use crate::log::{Log, Way, put};
 use machine::Machine;
 use plain::tell_missed;
 use repeats::is_full;
@@ -21,17 +22,17 @@ const GO_ON: u8 = 0;
 const AGAIN: u8 = 1;
 
 // More steps than any run makes.
-const ALL_STEPS: u32 = 4294967295;
+const ALL_STEPS: u32 = u32::MAX;
 
 // The first branch is begun, unless it is a further one, whose number stands there already.
-fn note_branch(proposal: &mut [u8], ways: &mut [u8], log: Log) -> Log
+fn note_branch(proposal: &mut [u8], ways: &mut [u8], log: Log) -> Result<Log, Unmade>
     requires { Within proposal.old ways.old log }
-    ensures { Within proposal.new ways.new result }
+    ensures { IfOk result (Within proposal.new ways.new) }
 {
     if log.resumed {
-        return log;
+        return Ok(log);
     }
-    put(proposal, ways, log, 0, NEXT)
+    put(proposal, ways, log, 0, Way::Next)
 }
 
 // A decision after so many rounds of the repeat whose numbers stand at `q`; `still`: the last one took no bytes. Where both ways are allowed, it is the one
@@ -44,26 +45,26 @@ fn note_decision(
     proposal: &mut [u8],
     ways: &mut [u8],
     log: Log,
-) -> Log
+) -> Result<Log, Unmade>
     requires { (q + 6 ≤ length code.now) × Within proposal.old ways.old log }
-    ensures { Within proposal.new ways.new result }
+    ensures { IfOk result (Within proposal.new ways.new) }
 {
     let least = code[q];
     let most = code[q + 1];
     let greed = code[q + 2];
     if rounds < least {
-        return log;
+        return Ok(log);
     }
     if is_full(most, rounds) {
-        return log;
+        return Ok(log);
     }
     if still {
-        return log;
+        return Ok(log);
     }
     if greed == GREEDY {
-        return put(proposal, ways, log, AGAIN, OTHER);
+        return put(proposal, ways, log, AGAIN, Way::Other);
     }
-    put(proposal, ways, log, GO_ON, OTHER)
+    put(proposal, ways, log, GO_ON, Way::Other)
 }
 
 // The decision at the end of a round of the repeat whose node `pc` is.
@@ -75,9 +76,9 @@ fn note_round(
     proposal: &mut [u8],
     ways: &mut [u8],
     log: Log,
-) -> Log
+) -> Result<Log, Unmade>
     requires { (pc + 7 ≤ length code.now) × (get_or code.now (pc + 1 + 3) 0 + 2 ≤ length regs.now) × Within proposal.old ways.old log }
-    ensures { Within proposal.new ways.new result }
+    ensures { IfOk result (Within proposal.new ways.new) }
 {
     let q = pc + 1;
     let register = code[q + 3] as usize;
@@ -87,17 +88,15 @@ fn note_round(
 }
 
 // So many rounds of a run: of each, going on is left.
-fn note_rounds(proposal: &mut [u8], ways: &mut [u8], log: Log, rounds: u32) -> Log
+fn note_rounds(proposal: &mut [u8], ways: &mut [u8], log: Log, rounds: u32) -> Result<Log, Unmade>
     requires { Within proposal.old ways.old log }
-    ensures { Within proposal.new ways.new result }
+    ensures { IfOk result (Within proposal.new ways.new) }
 {
-    let mut left = rounds;
     let mut on = log;
-    while 0 < left {
-        on = put(proposal, ways, on, AGAIN, OTHER);
-        left -= 1;
+    for _ in 0..rounds {
+        on = put(proposal, ways, on, AGAIN, Way::Other)?;
     }
-    on
+    Ok(on)
 }
 
 // A run takes all its bytes, and each beyond the least is a choice. Behind the last one it goes on, which is a choice unless the most rounds are made: a
@@ -110,21 +109,21 @@ fn note_run(
     proposal: &mut [u8],
     ways: &mut [u8],
     log: Log,
-) -> Log
+) -> Result<Log, Unmade>
     requires { (pc + 8 ≤ length code.now) × (get_or code.now (pc + 6) 0 + 11 ≤ length code.now) × (length sub.now < 2 ^ 31) × Within proposal.old ways.old log }
-    ensures { Within proposal.new ways.new result }
+    ensures { IfOk result (Within proposal.new ways.new) }
 {
     let taken = run_length(code, sub, pc, at, ALL_STEPS);
     let least = code[pc + 2];
     let most = code[pc + 3];
     if taken < least {
-        return log;
+        return Ok(log);
     }
-    let rounds = note_rounds(proposal, ways, log, taken - least);
+    let rounds = note_rounds(proposal, ways, log, taken - least)?;
     if is_full(most, taken) {
-        return rounds;
+        return Ok(rounds);
     }
-    put(proposal, ways, rounds, GO_ON, SETTLED)
+    put(proposal, ways, rounds, GO_ON, Way::Settled)
 }
 
 // What is chosen in the move from where the machine stands.
@@ -136,10 +135,10 @@ pub fn note_choice(
     proposal: &mut [u8],
     ways: &mut [u8],
     log: Log,
-) -> Log
+) -> Result<Log, Unmade>
     requires regs_len { (length regs.now ≡ registers) × (length sub.now < 2 ^ 31) × Within proposal.old ways.old log }
     requires fits { Fits code.now m.pc }
-    ensures { Within proposal.new ways.new result }
+    ensures { IfOk result (Within proposal.new ways.new) }
 {
     let pc = m.pc as usize;
     let kind = code[pc];
@@ -155,7 +154,7 @@ pub fn note_choice(
     if kind == RUN {
         return note_run(code, sub, pc, m.at, proposal, ways, log);
     }
-    log
+    Ok(log)
 }
 
 // Whether the move from where the machine stands falls back: at an end, by a run of too few bytes, or by an item that fails.
@@ -172,6 +171,5 @@ pub fn falls_back(code: &[u32], sub: &[u8], regs: &[u32], m: Machine) -> bool
         let taken = run_length(code, sub, pc, m.at, ALL_STEPS);
         return taken < code[pc + 2];
     }
-    let missed = tell_missed(code, sub, regs, m);
-    missed.any
+    tell_missed(code, sub, regs, m).is_some()
 }

@@ -9,8 +9,15 @@
 
 mod choices;
 mod log;
-mod rows;
 mod walking;
 
-pub use rows::same_numbers;
-pub use walking::{Walk, walk_to};
+pub use walking::walk_to;
+
+// Why no proposal is made: the walk needs more steps than the budget has, or the bytes or the log do not fit into what is lent, or no reading was found
+// that a check can follow.
+#[derive(Clone, Copy, Debug, PartialEq, Eq)]
+pub enum Unmade {
+    Exhausted,
+    NoRoom,
+    Unfound,
+}

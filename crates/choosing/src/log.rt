@@ -2,58 +2,76 @@
 //
 // A way that is left is a frame of the machine's stack, or a position of a run's frame, in the same order: falling back goes to the newest entry that has
 // one, and what was chosen behind that is forgotten.
-ghost use Rattle.std.specs.Prelude.{◌≤◌, ◌<◌, length};
+ghost use Rattle.std.specs.Prelude.{◌≤◌, ◌<◌, IfOk, length};
 ghost use Rattle.choosing.specs.Logs.{Within};
 
+use crate::Unmade;
+
 // What is left of a choice: nothing, the other of going on and another round, or the next branch.
-pub const SETTLED: u8 = 0;
+#[derive(Clone, Copy, Debug, PartialEq, Eq)]
+pub enum Way {
+    Settled,
+    Other,
+    Next,
+}
 
-pub const OTHER: u8 = 1;
+// As a byte of the area that is lent for the log.
+impl From<Way> for u8 {
+    fn from(way: Way) -> u8 {
+        match way {
+            Way::Settled => 0,
+            Way::Other => 1,
+            Way::Next => 2,
+        }
+    }
+}
 
-pub const NEXT: u8 = 2;
+impl From<u8> for Way {
+    fn from(byte: u8) -> Way {
+        match byte {
+            0 => Way::Settled,
+            1 => Way::Other,
+            _ => Way::Next,
+        }
+    }
+}
 
 // The greatest number of a branch that a byte can tell.
-const LAST_BRANCH: u8 = 255;
+const LAST_BRANCH: u8 = u8::MAX;
 
-// How many bytes are written; whether the machine stands at a branch whose number is written already; and whether all went in.
-#[derive(Drop)]
+// How many bytes are written, and whether the machine stands at a branch whose number is written already.
+#[derive(Clone, Copy, Debug, PartialEq, Eq)]
 pub struct Log {
     pub used: usize,
     pub resumed: bool,
-    pub whole: bool,
 }
 
 // Writes an entry.
-fn write(proposal: &mut [u8], ways: &mut [u8], i: usize, byte: u8, way: u8)
+fn write(proposal: &mut [u8], ways: &mut [u8], i: usize, byte: u8, way: Way)
     requires { (i < length proposal.old) × (i < length ways.old) }
 {
     proposal[i] = byte;
-    ways[i] = way;
+    ways[i] = u8::from(way);
 }
 
 // One choice more, if there is room.
-pub fn put(proposal: &mut [u8], ways: &mut [u8], log: Log, byte: u8, way: u8) -> Log
-    requires { Within proposal.old ways.old log }
-    ensures { Within proposal.new ways.new result }
+pub fn put(
+    proposal: &mut [u8],
+    ways: &mut [u8],
+    log: Log,
+    byte: u8,
+    way: Way,
+) -> Result<Log, Unmade>
+    ensures { IfOk result (Within proposal.new ways.new) }
 {
-    let n = log.used;
-    let full = Log {
-        used: n,
+    if proposal.len() <= log.used || ways.len() <= log.used {
+        return Err(Unmade::NoRoom);
+    }
+    write(proposal, ways, log.used, byte, way);
+    Ok(Log {
+        used: log.used + 1,
         resumed: false,
-        whole: false,
-    };
-    if proposal.len() <= n {
-        return full;
-    }
-    if ways.len() <= n {
-        return full;
-    }
-    write(proposal, ways, n, byte, way);
-    Log {
-        used: n + 1,
-        resumed: false,
-        whole: log.whole,
-    }
+    })
 }
 
 // The newest of the first n entries that has a way left, counted from 1; or 0.
@@ -63,7 +81,7 @@ fn newest(ways: &[u8], n: usize) -> usize
 {
     let mut i = n;
     while 0 < i {
-        if ways[i - 1] != SETTLED {
+        if Way::from(ways[i - 1]) != Way::Settled {
             return i;
         }
         i -= 1;
@@ -85,59 +103,45 @@ fn take_other(proposal: &mut [u8], ways: &mut [u8], i: usize) -> Log
     ensures { Within proposal.new ways.new result }
 {
     let byte = other_of(proposal[i]);
-    write(proposal, ways, i, byte, SETTLED);
+    write(proposal, ways, i, byte, Way::Settled);
     Log {
         used: i + 1,
         resumed: false,
-        whole: true,
     }
 }
 
-// What is left of a branch, if there are more behind it or not.
-fn left_behind(more: bool) -> u8 {
-    if more {
-        return NEXT;
-    }
-    SETTLED
-}
-
-// An alternation's entry: the next branch is taken, and the machine stands at its node.
-fn take_next(proposal: &mut [u8], ways: &mut [u8], i: usize, more: bool) -> Log
+// An alternation's entry: the next branch is taken, and the machine stands at its node; `more`: it is not the last.
+fn take_next(proposal: &mut [u8], ways: &mut [u8], i: usize, more: bool) -> Result<Log, Unmade>
     requires { (i < length proposal.old) × (i < length ways.old) }
-    ensures { Within proposal.new ways.new result }
+    ensures { IfOk result (Within proposal.new ways.new) }
 {
     let byte = proposal[i];
     if LAST_BRANCH <= byte {
-        return Log {
-            used: i,
-            resumed: false,
-            whole: false,
-        };
+        return Err(Unmade::NoRoom);
     }
-    write(proposal, ways, i, byte + 1, left_behind(more));
-    Log {
+    let left = if more { Way::Next } else { Way::Settled };
+    write(proposal, ways, i, byte + 1, left);
+    Ok(Log {
         used: i + 1,
         resumed: true,
-        whole: true,
-    }
+    })
 }
 
 // The walk fell back; `more`: to a branch that is not the last.
-pub fn go_back(proposal: &mut [u8], ways: &mut [u8], log: Log, more: bool) -> Log
+pub fn go_back(proposal: &mut [u8], ways: &mut [u8], log: Log, more: bool) -> Result<Log, Unmade>
     requires { Within proposal.old ways.old log }
-    ensures { Within proposal.new ways.new result }
+    ensures { IfOk result (Within proposal.new ways.new) }
 {
     let top = newest(ways, log.used);
     if top == 0 {
-        return Log {
+        return Ok(Log {
             used: 0,
             resumed: false,
-            whole: true,
-        };
+        });
     }
     let i = top - 1;
-    if ways[i] == OTHER {
-        return take_other(proposal, ways, i);
+    if Way::from(ways[i]) == Way::Other {
+        return Ok(take_other(proposal, ways, i));
     }
     take_next(proposal, ways, i, more)
 }

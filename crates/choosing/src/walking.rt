@@ -1,5 +1,5 @@
 // The plain walk from a row's start to the first end with that row, with what it chose written down.
-ghost use Rattle.std.specs.Prelude.{◌≡◌, List, [], ℕ, ◌+◌, ◌*◌, ◌≤◌, ◌<◌, ◌^◌, length, get_or};
+ghost use Rattle.std.specs.Prelude.{◌≡◌, List, [], ℕ, ◌+◌, ◌*◌, ◌≤◌, ◌<◌, ◌^◌, length, get_or, IfOk};
 ghost use Rattle.syntax.specs.Limits.{registers, row_length};
 ghost use Rattle.semantics.specs.Walk.{Trace};
 ghost use Rattle.machine.specs.Code.{Fits};
@@ -9,26 +9,16 @@ ghost use Rattle.machine.specs.Ready.{StackFits, Ready};
 ghost use Rattle.choosing.specs.Logs.{Within};
 ghost use Rattle.choosing.specs.Walks.{Noted};
 
+use crate::Unmade;
 use crate::choices::{falls_back, note_choice};
-use crate::log::{Log, SETTLED, go_back, put};
-use crate::rows::same_numbers;
+use crate::log::{Log, Way, go_back, put};
 use index::{ROW_LENGTH, write_row};
 use machine::{Machine, fall_back, start};
 use plain::make_move;
 use syntax::node::{BRANCH, BREAK, END};
 
-// How the walk went: to an end with the row, with so many bytes written; or the steps are spent, or there is no room for what is chosen, or there is
-// no such end, or a node that no check follows.
-#[derive(Drop)]
-pub enum Walk {
-    Arrived(usize),
-    Spent,
-    Full,
-    Nothing,
-}
-
 // Where the machine stands after a move, and the log then.
-#[derive(Drop)]
+#[derive(Clone, Copy, Debug, PartialEq, Eq)]
 pub struct Turn {
     pub head: Machine,
     pub log: Log,
@@ -64,22 +54,18 @@ fn settle(
     proposal: &mut [u8],
     ways: &mut [u8],
     log: Log,
-) -> Log
+) -> Result<Log, Unmade>
     requires { Within proposal.old ways.old log }
-    ensures { Within proposal.new ways.new result }
+    ensures { IfOk result (Within proposal.new ways.new) }
 {
-    if !log.whole {
-        return log;
+    if falls {
+        let more = at_branch(code, head);
+        return go_back(proposal, ways, log, more);
     }
-    if !falls {
-        return Log {
-            used: log.used,
-            resumed: false,
-            whole: true,
-        };
-    }
-    let more = at_branch(code, head);
-    go_back(proposal, ways, log, more)
+    Ok(Log {
+        used: log.used,
+        resumed: false,
+    })
 }
 
 // A move, and what it chose.
@@ -92,19 +78,19 @@ fn take_turn(
     proposal: &mut [u8],
     ways: &mut [u8],
     log: Log,
-) -> Turn
+) -> Result<Turn, Unmade>
     requires pc_bound { (get_or code.now m.pc 0 < 12) × (length regs.old ≡ registers) × (4 * m.height + 8 ≤ length work.old) × (length sub.now < 2 ^ 31) × (length code.now < 2 ^ 32) × (m.height < 2 ^ 32) }
     requires fits { Fits code.now m.pc }
     requires stack_fits { StackFits code.now (stack_of work.old m.height) }
     requires within { Within proposal.old ways.old log }
-    ensures head_after { now_of regs.new work.new result.head ≡ moved_on code.now sub.now regs.old work.old m }
-    ensures within_2 { Within proposal.new ways.new result.log }
+    ensures head_after { IfOk result (λ turn. now_of regs.new work.new turn.head ≡ moved_on code.now sub.now regs.old work.old m) }
+    ensures within_2 { IfOk result (λ turn. Within proposal.new ways.new turn.log) }
 {
     let falls = falls_back(code, sub, regs, m);
-    let noted = note_choice(code, sub, regs, m, proposal, ways, log);
+    let noted = note_choice(code, sub, regs, m, proposal, ways, log)?;
     let head = move_on(code, sub, regs, work, m);
-    let settled = settle(code, head, falls, proposal, ways, noted);
-    Turn { head, log: settled }
+    let settled = settle(code, head, falls, proposal, ways, noted)?;
+    Ok(Turn { head, log: settled })
 }
 
 // Whether the machine stands at an end with this row.
@@ -116,25 +102,24 @@ fn is_there(kind: u32, m: Machine, regs: &[u32], wanted: &[u32]) -> bool
     }
     let mut row = [0u32; ROW_LENGTH];
     write_row(&mut row, 0, wanted[0], m.at, regs);
-    same_numbers(&row, wanted)
+    row.as_slice() == wanted
 }
 
 // The two bytes of a start.
-fn begin(proposal: &mut [u8], ways: &mut [u8], at: u32) -> Log
-    ensures { Within proposal.new ways.new result }
+fn begin(proposal: &mut [u8], ways: &mut [u8], at: u32) -> Result<Log, Unmade>
+    ensures { IfOk result (Within proposal.new ways.new) }
 {
     let none = Log {
         used: 0,
         resumed: false,
-        whole: true,
     };
     let low = (at % 256) as u8;
     let high = (at / 256 % 256) as u8;
-    let one = put(proposal, ways, none, low, SETTLED);
-    put(proposal, ways, one, high, SETTLED)
+    let one = put(proposal, ways, none, low, Way::Settled)?;
+    put(proposal, ways, one, high, Way::Settled)
 }
 
-// Walks from the start of a row to the first end with that row.
+// Walks from the start of a row to the first end with that row, with so many bytes written.
 pub fn walk_to(
     code: &[u32],
     sub: &[u8],
@@ -145,7 +130,7 @@ pub fn walk_to(
     wanted: &[u32],
     proposal: &mut [u8],
     ways: &mut [u8],
-) -> Walk
+) -> Result<usize, Unmade>
     requires regs_len { (length regs.old ≡ registers) × (length wanted.now ≡ row_length) × (length sub.now < 2 ^ 31) × (length code.now < 2 ^ 32) }
     requires by_index { (first : List ℕ) × (t : Trace) × Ready code.now sub.now (length work.old) budget first (go entry (get_or wanted.now 0 0) regs.old []) t }
     ensures { Noted proposal.new result }
@@ -153,25 +138,22 @@ pub fn walk_to(
     let first = wanted[0];
     let mut rest = budget;
     let mut head = start(entry, first);
-    let mut log = begin(proposal, ways, first);
+    let mut log = begin(proposal, ways, first)?;
     while head.live {
-        if !log.whole {
-            return Walk::Full;
-        }
         if rest == 0 {
-            return Walk::Spent;
+            return Err(Unmade::Exhausted);
         }
         let kind = code[head.pc as usize];
         if BREAK <= kind {
-            return Walk::Nothing;
+            return Err(Unmade::Unfound);
         }
         if is_there(kind, head, regs, wanted) {
-            return Walk::Arrived(log.used);
+            return Ok(log.used);
         }
-        let turn = take_turn(code, sub, regs, work, head, proposal, ways, log);
+        let turn = take_turn(code, sub, regs, work, head, proposal, ways, log)?;
         head = turn.head;
         log = turn.log;
         rest -= 1;
     }
-    Walk::Nothing
+    Err(Unmade::Unfound)
 }

@@ -1,4 +1,6 @@
 -- The invariant of the loop over all starts: each walk is plain, and the best is that of the failures of the walks before.
+use Rattle.std.specs.Prelude as option
+use Rattle.std.specs.Prelude.{None, unwrap_or}
 use mathlib.Core.Path.{◌≡◌, refl, ap, sym, ◌∙◌, subst}
 use mathlib.Core.List.{List, [], ◌++◌}
 use mathlib.Core.Option.{Option, none}
@@ -16,7 +18,7 @@ use Rattle.machine.specs.Moves.{Bytes, go}
 use Rattle.machine.specs.Theorem.{Stands, Clear}
 use Rattle.plain.specs.Telling.{hears_all}
 use Rattle.greatest.specs.declared.greatest.Best.{Best}
-use Rattle.greatest.specs.declared.leading.Kept.{Kept}
+use Rattle.plain.specs.declared.Miss.{Miss}
 use Rattle.failures.specs.Accounts.{bests}
 use Rattle.greatest.specs.Leading.{kept_of, listed}
 use Rattle.greatest.specs.Best.{Blank, Keeps, Finds}
@@ -25,8 +27,8 @@ use Rattle.greatest.specs.Laws.Best.{keeps-none, keeps-more, keeps-finds, keeps-
 use Rattle.failures.specs.Laws.Accounts.{bests-all}
 use Rattle.failures.specs.Laws.Walks.{plain-begins}
 
-module _ (p sub regs₀ work₀ : List ℕ) (entry budget : ℕ) (best₀ : Best) where
-  pub record Walked (regs work : List ℕ) (best : Best) (begin : ℕ) : Type 0 where
+module _ (p sub regs₀ work₀ : List ℕ) (entry budget : ℕ) (best₀ : option.Option Best) where
+  pub record Walked (regs work : List ℕ) (best : option.Option Best) (begin : ℕ) : Type 0 where
     pub same : regs ≡ regs₀
     pub wide : length work ≡ length work₀
     pub few : begin ≤ suc (length sub)
@@ -36,12 +38,12 @@ module _ (p sub regs₀ work₀ : List ℕ) (entry budget : ℕ) (best₀ : Best
   unfolding failed_from
   walked_start = record { same = refl; wide = refl; few = omega arith; keeps = λ x s. keeps-none best₀ }
 
-module _ {p sub regs₀ work₀ : List ℕ} {entry budget : ℕ} {best₀ : Best} {regs work : List ℕ} {best : Best} {begin : ℕ} (g : Walked p sub regs₀ work₀ entry budget best₀ regs work best begin) where
-  pub walked_all : Blank best₀ → length sub < begin → (x : Rule) → Stands p x entry → Finds (failures sub x) best
+module _ {p sub regs₀ work₀ : List ℕ} {entry budget : ℕ} {best₀ : option.Option Best} {regs work : List ℕ} {best : option.Option Best} {begin : ℕ} (g : Walked p sub regs₀ work₀ entry budget best₀ regs work best begin) where
+  pub walked_all : best₀ ≡ None → (n : Best) → Blank n → length sub < begin → (x : Rule) → Stands p x entry → Finds (failures sub x) (unwrap_or best n)
   unfolding failures
-  walked_all b h x s =
+  walked_all none_yet n b h x s =
       let e : begin ≡ suc (length sub) = omega (arith, g.few) in
-      keeps-finds (failed_from (trace sub x) 0 (suc (length sub))) b (rw e at (g.keeps x s))
+      keeps-finds (failed_from (trace sub x) 0 (suc (length sub))) n best b (rw (none_yet, e) at (g.keeps x s))
 
   module _ (bytes : Bytes sub) (clear : Clear regs₀) (room : 8 * budget ≤ length work₀) (small : 2 * budget < 2 ^ 32) (none_end : (x : Rule) → Stands p x entry → Fruitless sub x budget) (h : begin ≤ length sub) where
     pub walked-plain : (x : Rule) → Stands p x entry → Plain p sub (bests begin) (hears_all (bests begin) none (trace sub x begin)) (length work) budget regs none (go entry begin regs []) (trace sub x begin)
@@ -53,7 +55,7 @@ module _ {p sub regs₀ work₀ : List ℕ} {entry budget : ℕ} {best₀ : Best
       unfolding unset
       kept-greatest x = bests-all begin none (trace sub x begin) (λ place at i. (let z = miss-inside sub x begin h place at i in omega (arith, z.1)))
 
-      pub walked_on : (x : Rule) → Stands p x entry → {regs' work' : List ℕ} {best' : Best} (k : Kept)
+      pub walked_on : (x : Rule) → Stands p x entry → {regs' work' : List ℕ} {best' : option.Option Best} (k : option.Option Miss)
           → ((first : List ℕ) (t : Trace) (final : Option Failure) → Plain p sub (bests begin) final (length work) budget first none (go entry begin regs []) t → (regs' ≡ first) × (kept_of begin k ≡ final))
           → Keeps best (listed (kept_of begin k)) best' → length work' ≡ length work → Walked p sub regs₀ work₀ entry budget best₀ regs' work' best' (begin + 1)
       walked_on tree stands {regs'} {work'} {best'} k did considered w = record {

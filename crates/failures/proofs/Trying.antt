@@ -1,7 +1,8 @@
 -- The invariant of the loops over the moves of a walk from one start: the machine is ready for what is left, with x told by now.
+use Rattle.std.specs.Prelude as option
 use mathlib.Core.Path.{◌≡◌, refl, sym, ◌∙◌, subst}
 use mathlib.Core.List.{List, []}
-use mathlib.Core.Bool.{Bool, true, false}
+use mathlib.Core.Bool.{true, false}
 use Prim.Native.Nat.{ℕ, ◌+◌, ◌*◌, ◌-◌, ◌^◌, ◌≤◌, ◌<◌}
 use native.Mathlib.Omega.{arith}
 use lib.ListN.{length, get_or}
@@ -13,11 +14,14 @@ use Rattle.machine.specs.Words.{stack_of, configuration_of, now_of}
 use Rattle.machine.specs.Ready.{StackFits}
 use Rattle.machine.specs.Laws.Run.{Account}
 use Rattle.machine.specs.Laws.Stack.{length-stack_of}
-use Rattle.plain.specs.declared.Missed.{Missed}
+use Rattle.plain.specs.declared.Miss.{Miss}
+use Rattle.plain.specs.declared.Refuted as late
+use Rattle.plain.specs.declared.Told.{Told}
+use Rattle.plain.specs.declared.Told.TheVariants.{Item, Refuted}
 use Rattle.plain.specs.Telling.{notes, leads, hears_all, hears_by}
 use Rattle.plain.specs.Misses.{missed_of, TellsLate}
 use Rattle.failures.specs.Walks.{Plain, Tried}
-use Rattle.failures.specs.Laws.Accounts.{tells_all, Steady, hears-missed, hears-plain}
+use Rattle.failures.specs.Laws.Accounts.{tells_all, tells_by, Steady, hears-missed, hears-plain}
 use Rattle.failures.specs.Laws.Walks.{after, plain-idle, plain_fits, plain-some, plain-low, plain-high, plain-no_end, plain-move}
 
 -- A walk from the start `begin`, with the registers regs₀ and the work area work₀, and x₀ told before it.
@@ -72,25 +76,25 @@ module _ {p sub regs₀ work₀ : List ℕ} {entry begin budget : ℕ} {A : Acco
     trying-some = plain-some p sub A g.some.2 one
 
     -- what is told after a move
-    told-late : (missed : Missed) → get_or p m.pc 0 ≡ 17 → TellsLate p regs m missed → after p sub A g.some.2 x here ≡ A.settle missed.at missed.place x
+    told-late : (r : late.Refuted) → get_or p m.pc 0 ≡ 17 → TellsLate p regs m r → after p sub A g.some.2 x here ≡ A.settle r.note r.place x
     unfolding move decode notes carry_out hears_by hears_all
-    told-late missed k e = rw (k, e.note, e.place)
+    told-late r k e = rw (k, e.note, e.place)
 
-    told-now : (missed : Missed) → Steady A → Tried false p sub regs m missed → after p sub A g.some.2 x here ≡ tells_all A x (missed_of begin missed)
-    told-now missed steady e = hears-plain A p sub here x e.0 ∙ hears-missed A steady begin x _ missed (e.1 begin work)
+    told-now : (r : option.Option Miss) → Steady A → Tried p sub regs m (Item r) → after p sub A g.some.2 x here ≡ tells_all A x (missed_of begin r)
+    told-now r steady e = hears-plain A p sub here x e.0 ∙ hears-missed A steady begin x _ r (e.1 begin work)
 
     -- a move, after which y is told
-    pub trying-on : (steady : Steady A) (late : Bool) (missed : Missed) → Tried late p sub regs m missed
-        → (y : A.X) → (late ≡ true → y ≡ A.settle missed.at missed.place x) → (late ≡ false → y ≡ tells_all A x (missed_of begin missed))
+    pub trying-on : (steady : Steady A) (told : Told) → Tried p sub regs m told → (y : A.X) → y ≡ tells_by A begin x told
         → (regs' work' : List ℕ) (m' : Machine) → now_of regs' work' m' ≡ leads p sub (A.note x m.at) here → length regs' ≡ length regs → length work' ≡ length work
         → Trying p sub regs₀ work₀ entry begin budget A x₀ y regs' work' (rest - 1) m'
-    trying-on steady late missed tried y l n regs' work' m' e s s' = record {
+    unfolding tells_by
+    trying-on steady told tried y l regs' work' m' e s s' = record {
       size = s ∙ g.size;
       wide = s' ∙ g.wide;
       some = g.some;
-      tries = λ first t final z. (let w = plain-move p sub A final (at_work first t final z) in (w.0, rw (e, said late tried l n) w.1));
+      tries = λ first t final z. (let w = plain-move p sub A final (at_work first t final z) in (w.0, rw (e, l ∙ said told tried) w.1));
     }
       where
-        said : (b : Bool) → Tried b p sub regs m missed → (b ≡ true → y ≡ A.settle missed.at missed.place x) → (b ≡ false → y ≡ tells_all A x (missed_of begin missed)) → y ≡ after p sub A g.some.2 x here
-        said true t l n = l refl ∙ sym (told-late missed t.0 t.1)
-        said false t l n = n refl ∙ sym (told-now missed steady t)
+        said : (told : Told) → Tried p sub regs m told → tells_by A begin x told ≡ after p sub A g.some.2 x here
+        said (Refuted r) t = sym (told-late r t.0 t.1)
+        said (Item r) t = sym (told-now r steady t)

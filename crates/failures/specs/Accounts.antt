@@ -1,5 +1,5 @@
 -- The two accounts that an explanation keeps over the walk from a start: the first of its greatest failures, and the marks of those at a position.
-use Rattle.std.specs.Prelude.{◌≡◌, List, [], ◌∷◌, Bool, ◌&&◌, ℕ, zero, suc, ◌≤◌, eqb, set, if◌then◌else◌}
+use Rattle.std.specs.Prelude.{◌≡◌, List, [], ◌∷◌, Bool, None, Some, ◌&&◌, ℕ, zero, suc, ◌≤◌, eqb, set, if◌then◌else◌}
 use Rattle.std.proofs.Math.Path.{refl}
 use Rattle.std.proofs.Common.{ap, arith}
 use Rattle.std.proofs.Math.Bool.{true, false}
@@ -9,6 +9,8 @@ use Rattle.std.proofs.Math.Dec.{ltb}
 use Rattle.syntax.specs.Limits.{unset}
 use Rattle.semantics.specs.Explanations.{Failure, greater, position}
 use Rattle.machine.specs.Laws.Run.{Account}
+use Rattle.plain.specs.declared.Told.{Told}
+use Rattle.plain.specs.declared.Told.TheVariants.{Item, Refuted}
 use Rattle.greatest.specs.Leading.{failing, better, would_lead, note_of, settled}
 
 -- The greatest --------------------------------------------------------------------
@@ -63,9 +65,11 @@ bests start = record { X = Option Failure; told = better start; note = note_of; 
 unfoldable pub marked_if : (at : ℕ) → List ℕ → (place there : ℕ) → List ℕ
 marked_if at bytes place there = if eqb there at then set bytes place 1 else bytes
 
-unfoldable pub marked_by : Bool → (at : ℕ) → List ℕ → (place there : ℕ) → List ℕ
-marked_by true at bytes place there = marked_if at bytes place there
-marked_by false at bytes place there = bytes
+-- by what a move told
+unfoldable pub marked_by : (at : ℕ) → List ℕ → Told → List ℕ
+marked_by at bytes (Item None) = bytes
+marked_by at bytes (Item (Some r)) = marked_if at bytes r.place r.at
+marked_by at bytes (Refuted r) = marked_if at bytes r.place r.note
 
 -- in whatever order they are set
 set_both : (l : List ℕ) (a b v : ℕ) → set (set l a v) b v ≡ set (set l b v) a v

@@ -1,6 +1,6 @@
 -- Walks that reach no end and stay within the budget, as those of a line that isn't matched do: they can be walked plainly to where nothing is left.
 -- docs/REFERENCE.md, 16.5
-use Rattle.std.specs.Prelude.{◌≡◌, List, [], Bool, true, false, ℕ, ◌+◌, ◌*◌, ◌^◌, ◌≤◌, ◌<◌, length, get_or}
+use Rattle.std.specs.Prelude.{◌≡◌, List, [], ℕ, ◌+◌, ◌*◌, ◌^◌, ◌≤◌, ◌<◌, length, get_or}
 use Rattle.syntax.specs.Tree.{Rule}
 use Rattle.semantics.specs.Walk.{Trace, trace}
 use Rattle.semantics.proofs.Laws.Loops.{Quiet}
@@ -8,7 +8,8 @@ use Rattle.machine.specs.declared.Machine.{Machine}
 use Rattle.machine.specs.Moves.{Now}
 use Rattle.machine.specs.Ready.{StackFits, frames, origin}
 use Rattle.machine.specs.Laws.Run.{Account}
-use Rattle.plain.specs.declared.Missed.{Missed}
+use Rattle.plain.specs.declared.Told.{Told}
+use Rattle.plain.specs.declared.Told.TheVariants.{Item, Refuted}
 use Rattle.plain.specs.Telling.{Explains}
 use Rattle.plain.specs.Misses.{Tells, TellsLate}
 
@@ -28,9 +29,9 @@ abbrev pub Fruitless : (sub : List ℕ) → Rule → (budget : ℕ) → Type 0
 Fruitless sub x budget = (n : ℕ) → n ≤ length sub → Quiet (trace sub x n) × (length (trace sub x n) ≤ budget)
 
 -- what is told of the next move: the `(?!` that fails in it, or the items
-abbrev pub Tried : (late : Bool) (p sub regs : List ℕ) → Machine → Missed → Type 0
-Tried true p sub regs m r = (get_or p m.pc 0 ≡ 17) × TellsLate p regs m r
-Tried false p sub regs m r = (get_or p m.pc 0 ≡ 17 → ⊥) × Tells p sub regs m r
+abbrev pub Tried : (p sub regs : List ℕ) → Machine → Told → Type 0
+Tried p sub regs m (Refuted r) = (get_or p m.pc 0 ≡ 17) × TellsLate p regs m r
+Tried p sub regs m (Item r) = (get_or p m.pc 0 ≡ 17 → ⊥) × Tells p sub regs m r
 
 -- what is lent to a walk
 pub record Sized (code sub work : List ℕ) (budget : ℕ) : Type 0 where

@@ -1,49 +1,44 @@
 // The marks: for each byte of the rule, as far as there is room, 1 where an item begins that failed at the closest attempt's position in that attempt,
 // else 0. Its start is walked once more, and each failure that it tells there is marked.
-ghost use Rattle.std.specs.Prelude.{◌≡◌, List, [], ℕ, ◌≤◌, ◌<◌, ◌^◌, length, replicate};
+ghost use Rattle.std.specs.Prelude.{◌≡◌, List, [], ℕ, ◌≤◌, ◌<◌, ◌^◌, length};
 ghost use Rattle.syntax.specs.Limits.{registers};
 ghost use Rattle.syntax.specs.Tree.{Rule};
 ghost use Rattle.semantics.specs.Walk.{Trace};
 ghost use Rattle.semantics.specs.Explanations.{failures, marks as marks_of};
 ghost use Rattle.machine.specs.Moves.{go};
 ghost use Rattle.machine.specs.Theorem.{Stands, Clear};
-ghost use Rattle.failures.specs.Accounts.{marked_by, marking};
+ghost use Rattle.failures.specs.Accounts.{marked_if, marked_by, marking};
 ghost use Rattle.greatest.specs.Best.{failure_of, Finds};
 ghost use Rattle.failures.specs.Walks.{Plain, Fruitless, Sized};
 
 use crate::walking::{try_next, walk_all};
 use greatest::{Best, Failed};
 use machine::start;
-use plain::Missed;
+use plain::Told;
 
-// Sets all bytes to 0.
-fn clear_marks(marks: &mut [u8])
-    ensures { marks.new ≡ replicate (length marks.old) 0 }
+// Marks the place of an item that failed at the position `there`, if that is `at` and there is room for it.
+fn mark(marks: &mut [u8], at: u32, there: u32, place: u32)
+    ensures { marks.new ≡ marked_if at marks.old place there }
 {
-    let n = marks.len();
-    let mut i: usize = 0;
-    while i < n {
-        marks[i] = 0;
-        i += 1;
-    }
-}
-
-// Marks what failed in a move, if it failed at the position `at` and there is room for its place.
-fn mark(marks: &mut [u8], at: u32, missed: Missed)
-    ensures { marks.new ≡ marked_by missed.any at marks.old missed.place missed.at }
-{
-    if !missed.any {
-        return;
-    }
-    let there = missed.at;
     if there != at {
         return;
     }
-    let place = missed.place as usize;
+    let place = place as usize;
     if marks.len() <= place {
         return;
     }
     marks[place] = 1;
+}
+
+// Marks what a move told. The note of a `(?!` is the position where it was entered.
+fn mark_told(marks: &mut [u8], at: u32, told: Told)
+    ensures { marks.new ≡ marked_by at marks.old told }
+{
+    match told {
+        Told::Item(Some(missed)) => mark(marks, at, missed.at, missed.place),
+        Told::Item(None) => {}
+        Told::Refuted(refuted) => mark(marks, at, refuted.note, refuted.place),
+    }
 }
 
 // Marks what failed at the position `at` in the walk from `begin`.
@@ -67,7 +62,7 @@ fn mark_start(
     let mut head = start(entry, begin);
     while head.live {
         let turn = try_next(code, sub, regs, work, head, head.at);
-        mark(marks, at, turn.missed);
+        mark_told(marks, at, turn.told);
         head = turn.head;
         rest -= 1;
     }
@@ -89,7 +84,7 @@ fn mark_attempt(
     requires fruitless { (x : Rule) → Stands code.now x entry → Fruitless sub.now x budget }
     ensures { (x : Rule) → Stands code.now x entry → marks.new ≡ marks_of sub.now x (failure_of attempt) (length marks.old) }
 {
-    clear_marks(marks);
+    marks.fill(0);
     mark_start(
         code,
         sub,

@@ -19,44 +19,28 @@ ghost use Rattle.greatest.specs.Leading.{kept_of, kept_by};
 ghost use Rattle.greatest.specs.Best.{Finds};
 ghost use Rattle.failures.specs.Walks.{Plain, Fruitless, Sized, Tried};
 
-use greatest::{Best, Kept, blank, consider, lead, note_of, nothing, settle};
+use greatest::{Best, blank, consider, lead, note_of, settle};
 use machine::{Machine, start};
-use plain::{Missed, make_move, tell_missed, tell_refuted};
+use plain::{Miss, Told, make_move, tell_missed, tell_refuted};
 use syntax::node::REFUTE;
 
-// What failed in a move, or at its inner end a `(?!`, told by its note; and where the machine stands after it.
-#[derive(Drop)]
+// What a move told, and where the machine stands after it.
+#[derive(Clone, Copy, Debug, PartialEq, Eq)]
 pub struct Turn {
-    pub missed: Missed,
-    pub late: bool,
+    pub told: Told,
     pub head: Machine,
 }
 
-// What fails in the next move, and whether it is a `(?!`.
-#[derive(Drop)]
-struct Telling {
-    missed: Missed,
-    late: bool,
-}
-
-// At the inner end of a `(?!` that one fails, and else it may be an item.
-fn tell(code: &[u32], sub: &[u8], regs: &[u32], m: Machine) -> Telling
+// What fails in the next move: at the inner end of a `(?!` that one, and else it may be an item.
+fn tell(code: &[u32], sub: &[u8], regs: &[u32], m: Machine) -> Told
     requires regs_len { (length regs.now ≡ registers) × (length sub.now < 2 ^ 31) }
     requires fits { Fits code.now m.pc }
-    ensures { Tried result.late code.now sub.now regs.now m result.missed }
+    ensures { Tried code.now sub.now regs.now m result }
 {
     if code[m.pc as usize] == REFUTE {
-        let missed = tell_refuted(code, regs, m);
-        return Telling {
-            missed: missed,
-            late: true,
-        };
+        return Told::Refuted(tell_refuted(code, regs, m));
     }
-    let missed = tell_missed(code, sub, regs, m);
-    Telling {
-        missed: missed,
-        late: false,
-    }
+    Told::Item(tell_missed(code, sub, regs, m))
 }
 
 // One move, with the note for a `(?!` that it may enter, and what failed in it.
@@ -71,27 +55,22 @@ pub fn try_next(
     requires fact { (get_or code.now m.pc 0 ≡ 9 → ⊥) × (length regs.old ≡ registers) × (4 * m.height + 8 ≤ length work.old) × (length sub.now < 2 ^ 31) × (length code.now < 2 ^ 32) × (m.height < 2 ^ 32) }
     requires fits { Fits code.now m.pc }
     requires stack_fits { StackFits code.now (stack_of work.old m.height) }
-    ensures tried { Tried result.late code.now sub.now regs.old m result.missed }
+    ensures tried { Tried code.now sub.now regs.old m result.told }
     ensures head_after { now_of regs.new work.new result.head ≡ leads code.now sub.now note (configuration_of regs.old work.old m) }
 {
     let told = tell(code, sub, regs, m);
-    let missed = told.missed;
     let head = make_move(code, sub, regs, work, m, note);
-    Turn {
-        missed: missed,
-        late: told.late,
-        head: head,
-    }
+    Turn { told, head }
 }
 
 // What is kept after a move.
-fn keep_on(kept: Kept, late: bool, missed: Missed) -> Kept
-    ensures { (start : ℕ) → kept_of start result ≡ kept_by late start (kept_of start kept) missed }
+fn keep_on(kept: Option<Miss>, told: Told) -> Option<Miss>
+    ensures { (start : ℕ) → kept_of start result ≡ kept_by start (kept_of start kept) told }
 {
-    if late {
-        return settle(kept, missed.at, missed.place);
+    match told {
+        Told::Item(missed) => lead(kept, missed),
+        Told::Refuted(refuted) => settle(kept, refuted),
     }
-    lead(kept, missed)
 }
 
 // What is kept of the walk from `begin`.
@@ -103,7 +82,7 @@ fn walk_start(
     entry: u32,
     begin: u32,
     budget: u32,
-) -> Kept
+) -> Option<Miss>
     requires regs_len { (length regs.old ≡ registers) × (length sub.now < 2 ^ 31) × (length code.now < 2 ^ 32) }
     requires by_index { (first : List ℕ) × (t : Trace) × (final : Option Failure) × Plain code.now sub.now (bests begin) final (length work.old) budget first none (go entry begin regs.old []) t }
     ensures { (first : List ℕ) (t : Trace) (final : Option Failure) → Plain code.now sub.now (bests begin) final (length work.old) budget first none (go entry begin regs.old []) t
@@ -111,11 +90,11 @@ fn walk_start(
 {
     let mut rest = budget;
     let mut head = start(entry, begin);
-    let mut kept = nothing();
+    let mut kept = None;
     while head.live {
         let note = note_of(kept, head.at);
         let turn = try_next(code, sub, regs, work, head, note);
-        kept = keep_on(kept, turn.late, turn.missed);
+        kept = keep_on(kept, turn.told);
         head = turn.head;
         rest -= 1;
     }
@@ -136,12 +115,12 @@ pub fn walk_all(
     requires fruitless { (x : Rule) → Stands code.now x entry → Fruitless sub.now x budget }
     ensures { ((x : Rule) → Stands code.now x entry → Finds (failures sub.now x) result) × (regs.new ≡ regs.old) }
 {
-    let mut best = blank();
+    let mut best = None;
     let mut begin: u32 = 0;
     while begin as usize <= sub.len() {
         let kept = walk_start(code, sub, regs, work, entry, begin, budget);
         best = consider(best, begin, kept);
         begin += 1;
     }
-    best
+    best.unwrap_or(blank())
 }

@@ -8,7 +8,7 @@ mod paths;
 pub use paths::follow_path;
 
 // How following went: to the rule's end with all choices used, at this position, in so many steps; to no reading, in so many; or the steps are spent.
-#[derive(Drop)]
+#[derive(Clone, Copy, Debug, PartialEq, Eq)]
 pub enum Followed {
     Arrived(u32, u32),
     Missed(u32),

@@ -6,7 +6,7 @@ ghost use Rattle.following.specs.Paths.{Follows};
 
 use crate::Followed;
 use syntax::node::END;
-use turns::{Pace, take_turn};
+use turns::{Lost, take_turn};
 
 // Follows the choices from a start of the subject, where the rule is entered at `entry`; no group is set in the registers.
 pub fn follow_path(
@@ -37,20 +37,20 @@ pub fn follow_path(
             return Followed::Arrived(at, budget - left + 1);
         }
         match take_turn(code, sub, choices, regs, pc, at, read) {
-            Pace::Lost(n) => {
-                if left < n {
+            Err(Lost { steps }) => {
+                if left < steps {
                     return Followed::Spent;
                 }
-                return Followed::Missed(budget - left + n);
+                return Followed::Missed(budget - left + steps);
             }
-            Pace::Along(more, next, behind, used) => {
-                if left <= more {
+            Ok(step) => {
+                if left <= step.more {
                     return Followed::Spent;
                 }
-                left = left - more - 1;
-                pc = next;
-                at = behind;
-                read = used;
+                left = left - step.more - 1;
+                pc = step.pc;
+                at = step.at;
+                read = step.read;
             }
         }
     }

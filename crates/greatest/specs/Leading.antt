@@ -1,10 +1,12 @@
 -- What is kept of the walk from one start, and what the code keeps of it, as the failure that it means.
-use Rattle.std.specs.Prelude.{List, [], ◌∷◌, Bool, true, false, ◌&&◌, ℕ, zero, suc, ltb, if◌then◌else◌}
+use Rattle.std.specs.Prelude as option
+use Rattle.std.specs.Prelude.{List, [], ◌∷◌, Bool, true, ◌&&◌, None, Some, ℕ, zero, suc, ltb, if◌then◌else◌}
 use Rattle.std.proofs.Math.Option.{Option, none, some}
 use Rattle.syntax.specs.Limits.{unset}
 use Rattle.semantics.specs.Explanations.{Failure, greater, position}
-use Rattle.plain.specs.declared.Missed.{Missed}
-use Rattle.greatest.specs.declared.leading.Kept.{Kept}
+use Rattle.plain.specs.declared.Miss.{Miss}
+use Rattle.plain.specs.declared.Told.{Told}
+use Rattle.plain.specs.declared.Told.TheVariants.{Item, Refuted}
 
 abbrev pub failing : (start at place : ℕ) → Failure
 failing start at place = record { start = start; at = at; place = place }
@@ -30,26 +32,20 @@ settled start (suc at) place (some y) = some (if ltb at y.at then y else failing
 
 -- As the code keeps it --------------------------------------------------------------
 
-unfoldable pub kept_if : Bool → Failure → Option Failure
-kept_if true x = some x
-kept_if false x = none
-
-unfoldable pub kept_of : (start : ℕ) → Kept → Option Failure
-kept_of start k = kept_if k.any (failing start k.at k.place)
+unfoldable pub kept_of : (start : ℕ) → option.Option Miss → Option Failure
+kept_of start None = none
+kept_of start (Some k) = some (failing start k.at k.place)
 
 unfoldable pub listed : Option Failure → List Failure
 listed none = []
 listed (some x) = x ∷ []
 
 -- after a move that told this
-unfoldable pub better_by : Bool → (start : ℕ) → Option Failure → (place at : ℕ) → Option Failure
-better_by true start x place at = better start x place at
-better_by false start x place at = x
-
-unfoldable pub better_if : (start : ℕ) → Option Failure → Missed → Option Failure
-better_if start x r = better_by r.any start x r.place r.at
+unfoldable pub better_if : (start : ℕ) → Option Failure → option.Option Miss → Option Failure
+better_if start x None = x
+better_if start x (Some r) = better start x r.place r.at
 
 -- at once, or by a note
-unfoldable pub kept_by : (late : Bool) (start : ℕ) → Option Failure → Missed → Option Failure
-kept_by true start x r = settled start r.at r.place x
-kept_by false start x r = better_if start x r
+unfoldable pub kept_by : (start : ℕ) → Option Failure → Told → Option Failure
+kept_by start x (Item r) = better_if start x r
+kept_by start x (Refuted r) = settled start r.note r.place x

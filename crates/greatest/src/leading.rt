@@ -4,98 +4,67 @@
 // A `(?!` that fails is told at its inner end, but it was tried when it was entered, before all that is inside. So it keeps a note there: whether it would
 // have taken the place of what was kept by then, and where it was tried. If so, it takes that place now, unless a later failure lies further.
 ghost use Rattle.std.specs.Prelude.{◌≡◌, ℕ};
-ghost use Rattle.std.proofs.Math.Option.{none};
-ghost use Rattle.greatest.specs.Leading.{better, note_of, settled, kept_of, better_if};
+ghost use Rattle.greatest.specs.Leading.{better, would_lead, note_of, settled, kept_of, better_if};
 
-use plain::Missed;
+use plain::{Miss, Refuted};
 
 // No position is as great.
-const NOWHERE: u32 = 4294967295;
+const NOWHERE: u32 = u32::MAX;
 
-// Whether anything failed; if so, where in the subject it was tried, and its place in the rule.
-#[derive(Clone, Copy)]
-pub struct Kept {
-    pub any: bool,
-    pub at: u32,
-    pub place: u32,
-}
-
-// Before anything failed.
-pub fn nothing() -> Kept
-    ensures { (start : ℕ) → kept_of start result ≡ none }
+// Whether a failure at a position would take the place of what is kept.
+fn leads(kept: Option<Miss>, at: u32) -> bool
+    ensures { (start : ℕ) → result ≡ would_lead (kept_of start kept) at }
 {
-    Kept {
-        any: false,
-        at: 0,
-        place: 0,
+    match kept {
+        Some(miss) => miss.at < at,
+        None => true,
     }
 }
 
-// The note of a `(?!` that is entered at a position.
-pub fn note_of(k: Kept, at: u32) -> u32
-    ensures { (start : ℕ) → result ≡ note_of (kept_of start k) at }
+// The note of a `(?!` that is entered at a position: one more than the position if it would take the place of what is kept, else 0. It is a number and no
+// `Option`, since a register keeps it (`note_of` of specs/Leading).
+pub fn note_of(kept: Option<Miss>, at: u32) -> u32
+    ensures { (start : ℕ) → result ≡ note_of (kept_of start kept) at }
 {
-    if at == NOWHERE {
-        return 0;
-    }
-    if !k.any {
-        return at + 1;
-    }
-    if k.at < at {
+    if at != NOWHERE && leads(kept, at) {
         return at + 1;
     }
     0
 }
 
 // One more failure.
-fn further(k: Kept, at: u32, place: u32) -> Kept
-    ensures { (start : ℕ) → kept_of start result ≡ better start (kept_of start k) place at }
+fn further(kept: Option<Miss>, next: Miss) -> Option<Miss>
+    ensures { (start : ℕ) → kept_of start result ≡ better start (kept_of start kept) next.place next.at }
 {
-    if at == NOWHERE {
-        return k;
+    if next.at != NOWHERE && leads(kept, next.at) {
+        return Some(next);
     }
-    let next = Kept {
-        any: true,
-        at: at,
-        place: place,
-    };
-    if !k.any {
-        return next;
-    }
-    if k.at < at {
-        return next;
-    }
-    k
+    kept
 }
 
 // What is kept after a move that told this.
-pub fn lead(k: Kept, missed: Missed) -> Kept
-    ensures { (start : ℕ) → kept_of start result ≡ better_if start (kept_of start k) missed }
+pub fn lead(kept: Option<Miss>, missed: Option<Miss>) -> Option<Miss>
+    ensures { (start : ℕ) → kept_of start result ≡ better_if start (kept_of start kept) missed }
 {
-    if !missed.any {
-        return k;
+    match missed {
+        Some(next) => further(kept, next),
+        None => kept,
     }
-    further(k, missed.at, missed.place)
 }
 
-// What is kept after a `(?!` has failed that kept this note.
-pub fn settle(k: Kept, note: u32, place: u32) -> Kept
-    ensures { (start : ℕ) → kept_of start result ≡ settled start note place (kept_of start k) }
+// What is kept after a `(?!` has failed.
+pub fn settle(kept: Option<Miss>, refuted: Refuted) -> Option<Miss>
+    ensures { (start : ℕ) → kept_of start result ≡ settled start refuted.note refuted.place (kept_of start kept) }
 {
-    if note == 0 {
-        return k;
-    }
-    let at = note - 1;
-    let first = Kept {
-        any: true,
-        at: at,
-        place: place,
+    let Some(at) = refuted.note.checked_sub(1) else {
+        return kept;
     };
-    if !k.any {
-        return first;
+    let first = Miss {
+        at,
+        place: refuted.place,
+    };
+    match kept {
+        Some(later) if at < later.at => kept,
+        _ => Some(first),
     }
-    if at < k.at {
-        return k;
-    }
-    first
 }

@@ -6,4 +6,4 @@ mod greatest;
 mod leading;
 
 pub use greatest::{Best, Failed, blank, consider};
-pub use leading::{Kept, lead, note_of, nothing, settle};
+pub use leading::{lead, note_of, settle};

@@ -4,8 +4,10 @@
 // reference makes a step more for each byte that it looks at.
 #![tactic(auto)]
 
-ghost use Rattle.std.specs.Prelude.{◌≡◌, List, true, ℕ, ◌+◌, ◌*◌, ◌≤◌, ◌<◌, ◌^◌, length, get_or};
+ghost use Rattle.std.specs.Prelude.{◌≡◌, List, true, ℕ, ◌+◌, ◌*◌, ◌≤◌, ◌<◌, ◌^◌, length, get_or, drop};
+ghost use Rattle.charset.specs.Class.{has};
 ghost use Rattle.syntax.specs.Limits.{spans_length, registers};
+ghost use Rattle.machine.specs.Moves.{takes};
 ghost use Rattle.machine.specs.Words.{stack_of, now_of, carried};
 ghost use Rattle.machine.specs.Ready.{RanBy, StackFits};
 
@@ -16,6 +18,17 @@ mod references;
 
 pub use assertions::assertion_holds;
 pub use references::{Compared, compare};
+
+// Whether the byte item at `pc` has its byte at a position.
+pub fn byte_holds(code: &[u32], sub: &[u8], pc: usize, at: usize) -> bool
+    requires { pc + 11 ≤ length code.now }
+    ensures { result ≡ takes sub.now (has (drop (pc + 3) code.now)) at }
+{
+    if at < sub.len() {
+        return charset::contains(code, pc + 3, sub[at]);
+    }
+    false
+}
 
 // A byte of a set.
 pub fn take_byte(

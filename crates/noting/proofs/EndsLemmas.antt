@@ -1,4 +1,5 @@
 -- One start of a listing: what a run to the next end makes of it, and what noting a reading does.
+use Rattle.std.specs.Prelude.{None, Some}
 use mathlib.Core.Path.{◌≡◌, ap, sym, ◌∙◌}
 use mathlib.Core.List.{List, [], ◌∷◌, ◌++◌, append_assoc, append-nil}
 use mathlib.Core.Logic.{inl, inr}
@@ -20,7 +21,6 @@ use Rattle.machine.specs.Ready.{until, StackFits, Ready, Agrees}
 use Rattle.machine.specs.Theorem.{at-end, at-nothing, at-spent}
 use Rattle.machine.specs.Laws.Code.{spans-in-registers}
 use Rattle.machine.specs.Laws.Loop.{until-ended, until-nothing, until-spent}
-use Rattle.noting.specs.declared.noting.Noted.TheVariants.{Kept, NoRoom}
 use Rattle.index.specs.Rows.{row_of, rows_at, Whole}
 use Rattle.noting.specs.Noting.{Notes, Course, Going, Tells, Through}
 use Rattle.index.specs.Laws.Rows.{row_of-length, row_of-row}
@@ -38,7 +38,7 @@ whole-right [] more h = h
 whole-right (x ∷ rows) more h = whole-right rows more h.1
 
 -- noting a reading writes at most one row
-pub noted_one : {area : List ℕ} {earlier rows : ℕ} {x : Row} {new : List ℕ} {n : ℕ} → Notes area earlier rows x new (Kept n) → n ≤ rows + 1
+pub noted_one : {area : List ℕ} {earlier rows : ℕ} {x : Row} {new : List ℕ} {n : ℕ} → Notes area earlier rows x new (Some n) → n ≤ rows + 1
 noted_one (inl h) = omega (arith, h.1)
 noted_one (inr h) = omega (arith, h.more)
 
@@ -127,7 +127,7 @@ module _ {code sub : List ℕ} {budget start earlier : ℕ} {k : Course} {wide :
         long = row_of-length start e.at regs (omega (arith, spans-in-registers))
 
         -- the reading is noted, and the machine has fallen back
-        pub going_on : {n : ℕ} {new : List ℕ} → Notes area earlier rows (row_of start e.at regs) new (Kept n) → {next : Now} → next ≡ fall code regs (stack_of work e.height) → Going code sub budget start earlier k wide next new (left - used) n
+        pub going_on : {n : ℕ} {new : List ℕ} → Notes area earlier rows (row_of start e.at regs) new (Some n) → {next : Now} → next ≡ fall code regs (stack_of work e.height) → Going code sub budget start earlier k wide next new (left - used) n
         going_on {n} {new} (inl h) {next} f = record {
           seen = g.seen;
           rest = m.rest;
@@ -155,7 +155,7 @@ module _ {code sub : List ℕ} {budget start earlier : ℕ} {k : Course} {wide :
             }
 
         -- no row is left for it
-        pub going-full : {new : List ℕ} → Notes area earlier rows (row_of start e.at regs) new NoRoom → Tells sub k.tree budget k.area new full rows (k.before + (budget - (left - used)))
+        pub going-full : {new : List ℕ} → Notes area earlier rows (row_of start e.at regs) new None → Tells sub k.tree budget k.area new full rows (k.before + (budget - (left - used)))
         going-full {new} h =
             let s : m.steps + 1 ≡ k.before + (budget - (left - used)) = omega (arith, m.paid, g.few) in
             record {

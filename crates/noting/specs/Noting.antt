@@ -1,6 +1,6 @@
 -- What a listing holds on its way over the ends of one start.
 -- docs/REFERENCE.md, 16.3
-use Rattle.std.specs.Prelude.{◌≡◌, true, false, List, [], ◌++◌, ◌⊎◌, ℕ, ◌+◌, ◌-◌, ◌*◌, ◌≤◌, ◌<◌, length, take, drop}
+use Rattle.std.specs.Prelude.{◌≡◌, true, false, List, [], ◌++◌, ◌⊎◌, Option, None, Some, ℕ, ◌+◌, ◌-◌, ◌*◌, ◌≤◌, ◌<◌, length, take, drop}
 use Rattle.syntax.specs.Limits.{row_length}
 use Rattle.syntax.specs.Tree.{Rule}
 use Rattle.semantics.specs.States.{Row}
@@ -10,8 +10,6 @@ use Rattle.semantics.specs.Calls.{over, joined, room}
 use Rattle.semantics.proofs.Laws.Loops.{ListAt}
 use Rattle.machine.specs.Moves.{Now}
 use Rattle.machine.specs.Ready.{Ready}
-use Rattle.noting.specs.declared.noting.Noted.{Noted}
-use Rattle.noting.specs.declared.noting.Noted.TheVariants.{Kept, NoRoom}
 use Rattle.noting.specs.declared.walking.Ends.{Ends}
 use Rattle.noting.specs.declared.walking.Ends.TheVariants.{Done, Full as NoneLeft, Spent}
 use Rattle.index.specs.Rows.{rows_at, Whole}
@@ -33,9 +31,9 @@ pub record Written (area : List ℕ) (earlier rows : ℕ) (x : Row) (new : List 
   pub is : new ≡ take (rows * row_length) area ++ (x ++ drop (rows * row_length + row_length) area)
 
 -- what noting the row x makes of an area
-abbrev pub Notes : List ℕ → (earlier rows : ℕ) → Row → List ℕ → Noted → Type 0
-Notes area earlier rows x new (Kept n) = (Met area earlier rows x × (n ≡ rows) × (new ≡ area)) ⊎ Written area earlier rows x new n
-Notes area earlier rows x new NoRoom = New area earlier rows x × (room area ≤ rows) × (new ≡ area)
+abbrev pub Notes : List ℕ → (earlier rows : ℕ) → Row → List ℕ → Option ℕ → Type 0
+Notes area earlier rows x new (Some n) = (Met area earlier rows x × (n ≡ rows) × (new ≡ area)) ⊎ Written area earlier rows x new n
+Notes area earlier rows x new None = New area earlier rows x × (room area ≤ rows) × (new ≡ area)
 
 -- One start ---------------------------------------------------------------------
 

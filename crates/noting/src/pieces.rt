@@ -48,9 +48,5 @@ pub fn fall_below(
 pub fn spans_of(groups: u32) -> usize
     ensures { result ≡ min (2 * groups) spans_length }
 {
-    let spans = 2 * groups as usize;
-    if spans < SPANS_LENGTH {
-        return spans;
-    }
-    SPANS_LENGTH
+    (2 * groups as usize).min(SPANS_LENGTH)
 }

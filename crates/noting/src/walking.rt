@@ -4,13 +4,13 @@ ghost use Rattle.syntax.specs.Limits.{spans_length, registers};
 ghost use Rattle.machine.specs.Words.{now_of};
 ghost use Rattle.noting.specs.Noting.{Course, Going, Listed};
 
-use crate::noting::{Noted, note};
+use crate::noting::note;
 use crate::pieces::{fall_below, run_below};
 use machine::{Machine, Stop};
 
 // How the ends of one start came out, with the rows so far: all are listed, after so many steps of this start; no row was left, after so
 // many; or the steps are spent.
-#[derive(Drop)]
+#[derive(Clone, Copy, Debug, PartialEq, Eq)]
 pub enum Ends {
     Done(usize, u32),
     Full(usize, u32),
@@ -47,12 +47,11 @@ pub fn list_start(
                 match note(
                     results, work, half, heads, spans, earlier, rows, start, e.at, regs,
                 ) {
-                    Noted::Kept(n) => {
+                    Some(n) => {
                         rows = n;
-                        let next = fall_below(code, regs, work, half, e.height);
-                        head = next;
+                        head = fall_below(code, regs, work, half, e.height);
                     }
-                    Noted::NoRoom => return Ends::Full(rows, budget - left),
+                    None => return Ends::Full(rows, budget - left),
                 }
             }
             Stop::Nothing(used) => {

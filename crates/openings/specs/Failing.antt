@@ -1,10 +1,10 @@
 -- How an opening is found: the machine is followed from a node over every way that takes no byte, until it falls back.
-use Rattle.std.specs.Prelude.{◌≡◌, List, [], ◌∷◌, ◌⊎◌, Bool, true, false, ◌||◌, ℕ, zero, suc, ◌+◌, ◌-◌, ◌≤◌, ◌<◌, length, get_or, drop, set}
+use Rattle.std.specs.Prelude.{◌≡◌, List, [], ◌∷◌, Option, IfSome, Bool, true, false, ◌||◌, ℕ, zero, suc, ◌+◌, ◌-◌, ◌≤◌, ◌<◌, length, get_or, drop, set}
 use Rattle.charset.specs.Class.{has}
 use Rattle.machine.specs.Moves.{Bytes, Stack, go, takes, fall}
 use Rattle.machine.specs.Ready.{Leads}
 use Rattle.openings.specs.declared.nodes.Seen.{Seen}
-use Rattle.openings.specs.declared.nodes.Seen.TheVariants.{Unknown, Leaf, Byte, On, Both, ByteOn}
+use Rattle.openings.specs.declared.nodes.Seen.TheVariants.{Leaf, Byte, On, Both, ByteOn}
 use Rattle.openings.specs.declared.finding.Search.{Search}
 use Rattle.openings.specs.Openings.{Outside}
 
@@ -30,13 +30,16 @@ pub record Reduces (p : List ℕ) (pc : ℕ) (f : ℕ → Bool) (nexts : List �
 abbrev pub nobody : ℕ → Bool
 nobody x = false
 
-abbrev pub Means : (p : List ℕ) (pc : ℕ) → Seen → Type 0
-Means p pc Unknown = Unit {0}
-Means p pc (Leaf c) = Reduces p pc nobody [] c
-Means p pc (Byte c base) = (base + 8 ≤ length p) × Reduces p pc (has (drop base p)) [] c
-Means p pc (On c next) = Reduces p pc nobody (next ∷ []) c
-Means p pc (Both c first second) = Reduces p pc nobody (first ∷ second ∷ []) c
-Means p pc (ByteOn c base next) = (base + 8 ≤ length p) × Reduces p pc (has (drop base p)) (next ∷ []) c
+abbrev pub Sees : (p : List ℕ) (pc : ℕ) → Seen → Type 0
+Sees p pc (Leaf c) = Reduces p pc nobody [] c
+Sees p pc (Byte c base) = (base + 8 ≤ length p) × Reduces p pc (has (drop base p)) [] c
+Sees p pc (On c next) = Reduces p pc nobody (next ∷ []) c
+Sees p pc (Both c first second) = Reduces p pc nobody (first ∷ second ∷ []) c
+Sees p pc (ByteOn c base next) = (base + 8 ≤ length p) × Reduces p pc (has (drop base p)) (next ∷ []) c
+
+-- if anything is known of it
+abbrev pub Means : (p : List ℕ) (pc : ℕ) → Option Seen → Type 0
+Means p pc r = IfSome r (Sees p pc)
 
 -- The search ------------------------------------------------------------------------
 
@@ -68,14 +71,11 @@ pub record Told (p : List ℕ) (entry : ℕ) (s : Search) : Type 0 where
   pub low : s.height ≤ 16
   pub tells : (sub : List ℕ) (at n : ℕ) → Bytes sub → 1 ≤ at → Outside s.set s.any sub at → AllFail p sub at (waiting s) n → Fails p sub at entry (s.cost + n)
 
--- nothing is known
-abbrev pub Lost : Search → Type 0
-Lost s = (s.height ≡ 0) × (s.cost ≡ 0)
-
-abbrev pub Knows : (p : List ℕ) (entry : ℕ) → Search → Type 0
-Knows p entry s = Lost s ⊎ Told p entry s
-
 -- the topmost node was looked at
-pub record Turned (p : List ℕ) (s r : Search) : Type 0 where
+pub record Follows (p : List ℕ) (s r : Search) : Type 0 where
   pub few : r.cost ≤ s.cost + 2
-  pub follows : (entry : ℕ) → Told p entry s → Knows p entry r
+  pub follows : (entry : ℕ) → Told p entry s → Told p entry r
+
+-- if all that is needed is known
+abbrev pub Turned : (p : List ℕ) (s : Search) → Option Search → Type 0
+Turned p s r = IfSome r (Follows p s)

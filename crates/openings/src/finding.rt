@@ -17,7 +17,7 @@ const NODES: u32 = 128;
 const FEW: usize = 16;
 
 // The nodes still to look at, the topmost first; the steps counted so far; and the bytes that begin, if there are any.
-#[derive(Drop)]
+#[derive(Clone, Copy, Debug, PartialEq, Eq)]
 pub struct Search {
     pub pending: [u32; PENDING],
     pub height: usize,
@@ -56,11 +56,8 @@ fn push(search: Search, pc: u32) -> Search
     ensures { result ≡ pushed search pc }
 {
     let mut s = search;
-    let h = s.height;
-    let mut pending = s.pending;
-    pending[h] = pc;
-    s.pending = pending;
-    s.height = h + 1;
+    s.pending[s.height] = pc;
+    s.height += 1;
     s
 }
 
@@ -71,41 +68,29 @@ fn widen(code: &[u32], search: Search, base: usize) -> Search
 {
     let mut s = search;
     let more = class_at(code, base);
-    let class = s.set;
-    let wider = charset::add_class(class, more);
-    s.set = wider;
+    s.set = charset::add_class(s.set, more);
     s.any = true;
     s
 }
 
-// Nothing is known of the rule: nothing is left to look at, and no steps.
-fn give_up(search: Search) -> Search
-    ensures { (result.height ≡ 0) × (result.cost ≡ 0) }
-{
-    let mut s = search;
-    s.height = 0;
-    s.cost = 0;
-    s
-}
-
-// The topmost node is looked at, and those that it leads to take its place.
-fn turn(code: &[u32], search: Search) -> Search
+// The topmost node is looked at, and those that it leads to take its place, if all that is needed is known.
+fn turn(code: &[u32], search: Search) -> Option<Search>
     requires { (1 ≤ search.height) × (search.height ≤ 16) × (search.cost + 2 < 2 ^ 32) }
     ensures { Turned code.now search result }
 {
     let h = search.height - 1;
     if PENDING < h + 2 {
-        return give_up(search);
+        return None;
     }
-    let pending = search.pending;
-    let seen = look(code, pending[h]);
+    let seen = look(code, search.pending[h])?;
     match seen {
-        Seen::Unknown => give_up(search),
-        Seen::Leaf(cost) => count(search, cost),
-        Seen::Byte(cost, base) => widen(code, count(search, cost), base),
-        Seen::On(cost, next) => push(count(search, cost), next),
-        Seen::Both(cost, first, second) => push(push(count(search, cost), second), first),
-        Seen::ByteOn(cost, base, next) => push(widen(code, count(search, cost), base), next),
+        Seen::Leaf(cost) => Some(count(search, cost)),
+        Seen::Byte(cost, base) => Some(widen(code, count(search, cost), base)),
+        Seen::On(cost, next) => Some(push(count(search, cost), next)),
+        Seen::Both(cost, first, second) => { Some(push(push(count(search, cost), second), first)) }
+        Seen::ByteOn(cost, base, next) => {
+            Some(push(widen(code, count(search, cost), base), next))
+        }
     }
 }
 
@@ -116,7 +101,7 @@ fn nothing_known() -> Opening
     Opening {
         cost: 0,
         any: true,
-        set: [4294967295; 8],
+        set: [u32::MAX; 8],
     }
 }
 
@@ -127,7 +112,7 @@ fn begin(entry: u32) -> Search
     let mut pending = [0; PENDING];
     pending[0] = entry;
     Search {
-        pending: pending,
+        pending,
         height: 1,
         cost: 0,
         any: false,
@@ -150,8 +135,10 @@ pub fn find_opening(code: &[u32], entry: u32, budget: u32, starts: usize) -> Ope
             return nothing_known();
         }
         left -= 1;
-        let t = turn(code, s);
-        s = t;
+        let Some(next) = turn(code, s) else {
+            return nothing_known();
+        };
+        s = next;
     }
     if s.cost > budget {
         return nothing_known();
@@ -163,6 +150,6 @@ pub fn find_opening(code: &[u32], entry: u32, budget: u32, starts: usize) -> Ope
     Opening {
         cost: s.cost,
         any: s.any,
-        set: set,
+        set,
     }
 }

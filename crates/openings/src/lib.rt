@@ -18,7 +18,7 @@ pub use finding::find_opening;
 
 // The bytes that a start from 1 on can begin with, and the steps of one that cannot. No steps: nothing is known. Not any: no byte can begin,
 // so that no start but 0 can.
-#[derive(Clone, Copy)]
+#[derive(Clone, Copy, Debug, PartialEq, Eq)]
 pub struct Opening {
     pub cost: u32,
     pub any: bool,

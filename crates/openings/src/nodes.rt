@@ -1,6 +1,6 @@
 // What a node does on a walk in which every byte fails.
 ghost use Rattle.std.specs.Prelude.{◌≡◌, ◌+◌, ◌≤◌, length, get_or};
-ghost use Rattle.openings.specs.Failing.{Means};
+ghost use Rattle.openings.specs.Failing.{Sees, Means};
 
 use syntax::node::{ASSERTION, BRANCH, BYTE, CLOSE, LAST, NODE_LENGTH, OPEN, REPEAT, RUN};
 
@@ -8,10 +8,8 @@ use syntax::node::{ASSERTION, BRANCH, BYTE, CLOSE, LAST, NODE_LENGTH, OPEN, REPE
 const TEXT_START: u32 = 0;
 
 // What is known of a node on such a walk. The first number is the steps that it makes.
-#[derive(Drop)]
+#[derive(Clone, Copy, Debug, PartialEq, Eq)]
 pub enum Seen {
-    // Nothing is known of it.
-    Unknown,
     // It fails then, at any position from 1 on.
     Leaf(u32),
     // It fails then, if the byte is not in the class whose eight words stand there.
@@ -27,7 +25,7 @@ pub enum Seen {
 // A repeat as it is entered: a round is owed, or none may be made, or the greed says which way comes first.
 fn look_at_repeat(code: &[u32], pc: usize) -> Seen
     requires { (pc + 11 ≤ length code.now) × (get_or code.now pc 0 ≡ 7) }
-    ensures { Means code.now pc result }
+    ensures { Sees code.now pc result }
 {
     let body = code[pc + 6];
     let next = code[pc + 7];
@@ -43,8 +41,8 @@ fn look_at_repeat(code: &[u32], pc: usize) -> Seen
     Seen::Both(1, next, body)
 }
 
-// A run takes no byte: that it is entered is a step, and the byte that fails another. It falls back if it owes a round, else it goes on.
-fn look_at_run(code: &[u32], pc: usize) -> Seen
+// What is known of a run, if anything is. It takes no byte: that it is entered is a step, and the byte that fails another. It falls back if it owes a round, else it goes on.
+fn look_at_run(code: &[u32], pc: usize) -> Option<Seen>
     requires { (pc + 11 ≤ length code.now) × (get_or code.now pc 0 ≡ 10) }
     ensures { Means code.now pc result }
 {
@@ -53,55 +51,42 @@ fn look_at_run(code: &[u32], pc: usize) -> Seen
     let body = code[pc + 6] as usize;
     let next = code[pc + 7];
     if code.len() < body + NODE_LENGTH {
-        return Seen::Unknown;
+        return None;
     }
     if most == 0 {
         if least > 0 {
-            return Seen::Unknown;
+            return None;
         }
-        return Seen::On(1, next);
+        return Some(Seen::On(1, next));
     }
     if least > 0 {
-        return Seen::Byte(2, body + 3);
+        return Some(Seen::Byte(2, body + 3));
     }
-    Seen::ByteOn(2, body + 3, next)
+    Some(Seen::ByteOn(2, body + 3, next))
 }
 
-// The node at `at`. It is no hot path, so that it tests itself what it reads, and asks nothing of the code.
-pub fn look(code: &[u32], at: u32) -> Seen
+// What is known of the node at `at`, if anything is. It is no hot path, so that it tests itself what it reads, and asks nothing of the code.
+pub fn look(code: &[u32], at: u32) -> Option<Seen>
     ensures { Means code.now at result }
 {
     let pc = at as usize;
     if code.len() < pc + NODE_LENGTH {
-        return Seen::Unknown;
+        return None;
     }
-    let kind = code[pc];
-    if kind == BYTE {
-        return Seen::Byte(1, pc + 3);
-    }
-    if kind == ASSERTION {
-        if code[pc + 3] != TEXT_START {
-            return Seen::Unknown;
+    match code[pc] {
+        BYTE => Some(Seen::Byte(1, pc + 3)),
+        ASSERTION => {
+            if code[pc + 3] != TEXT_START {
+                return None;
+            }
+            Some(Seen::Leaf(1))
         }
-        return Seen::Leaf(1);
+        OPEN => Some(Seen::On(1, code[pc + 1])),
+        CLOSE => Some(Seen::On(1, code[pc + 1])),
+        BRANCH => Some(Seen::Both(1, code[pc + 1], code[pc + 2])),
+        LAST => Some(Seen::On(1, code[pc + 1])),
+        REPEAT => Some(look_at_repeat(code, pc)),
+        RUN => look_at_run(code, pc),
+        _ => None,
     }
-    if kind == OPEN {
-        return Seen::On(1, code[pc + 1]);
-    }
-    if kind == CLOSE {
-        return Seen::On(1, code[pc + 1]);
-    }
-    if kind == BRANCH {
-        return Seen::Both(1, code[pc + 1], code[pc + 2]);
-    }
-    if kind == LAST {
-        return Seen::On(1, code[pc + 1]);
-    }
-    if kind == REPEAT {
-        return look_at_repeat(code, pc);
-    }
-    if kind == RUN {
-        return look_at_run(code, pc);
-    }
-    Seen::Unknown
 }

@@ -1,6 +1,6 @@
 -- The failures among the events of a move: an item's, where it does not hold; a run's, where the most rounds are not made; those of the items of `\R`; no
 -- other node has any. Assumes nothing.
-use Rattle.std.specs.Prelude.{if◌then◌else◌}
+use Rattle.std.specs.Prelude.{if◌then◌else◌, Option, None, Some, is_some}
 use mathlib.Core.Path.{◌≡◌, refl, sym, ◌∙◌}
 use mathlib.Core.Logic.{inl, inr}
 use mathlib.Core.List.{List, []}
@@ -25,8 +25,7 @@ use Rattle.machine.specs.Laws.Loop.{move-run}
 use Rattle.breaks.specs.declared.Break.{Break}
 use Rattle.breaks.specs.Breaks.{break_steps, break_bytes, BreaksAs}
 use Rattle.breaks.proofs.Breaking.{return-breaks}
-use Rattle.plain.specs.declared.Missed.{Missed}
-use Rattle.plain.specs.declared.Referred.{Referred}
+use Rattle.plain.specs.declared.Miss.{Miss}
 use Rattle.plain.specs.Misses.{emitted, failed_if, missed_of, OnceOrTwice, Tells, RefersAs}
 use Rattle.plain.proofs.Trying.{tested-byte}
 
@@ -101,18 +100,13 @@ one_byte sub at b y e = y.bytes ∙ by (takes sub is_return at) (takes sub is_fe
     by false z false e = absurd (omega arith)
 
 -- The machine stands at m, and the code tells r.
-module _ (p sub regs : List ℕ) (m : Machine) (r : Missed) where
-  -- what it tells where one item fails, or none
-  tells-one : (any : Bool) (at place : ℕ) → r.any ≡ any → r.at ≡ at → r.place ≡ place → (start : ℕ) → failed_if any (told start at place) ≡ missed_of start r
-  unfolding missed_of
-  tells-one any at place e₀ e₁ e₂ start = rw (e₀, e₁, e₂)
-
+module _ (p sub regs : List ℕ) (m : Machine) (r : Option Miss) where
   -- the node of an item, of which it is known whether it holds
-  module _ (holds : Bool) (any : r.any ≡ not holds) (at : r.at ≡ m.at) (place : r.place ≡ get_or p (m.pc + 2) 0) where
+  module _ (holds : Bool) (says : (start : ℕ) → missed_of start r ≡ failed_if (not holds) (told start m.at (get_or p (m.pc + 2) 0))) where
     tells-item : (n : ℕ) (t : Test) → get_or p m.pc 0 ≡ n → decode_as n p m.pc ≡ tests t (get_or p (m.pc + 2) 0) (get_or p (m.pc + 1) 0) → (u : State) → tested sub t (state m.at regs) ≡ when holds (goes u) → Tells p sub regs m r
     unfolding move decode carry_out
     tells-item n t is d u e start work =
-        inl (rw (is, d, failed-paid start, e, failed-tried start p holds u) (tells-one (not holds) m.at (get_or p (m.pc + 2) 0) any at place start))
+        inl (rw (is, d, failed-paid start, e, failed-tried start p holds u) (sym (says start)))
 
     pub tells-byte : get_or p m.pc 0 ≡ 0 → holds ≡ takes sub (has (drop (m.pc + 3) p)) m.at → Tells p sub regs m r
     tells-byte is e = tells-item 0 (in_set (has (drop (m.pc + 3) p))) is refl (moved (suc m.at) (state m.at regs)) (rw e (tested-byte sub (has (drop (m.pc + 3) p)) (state m.at regs)))
@@ -121,32 +115,36 @@ module _ (p sub regs : List ℕ) (m : Machine) (r : Missed) where
     unfolding tested
     tells-assertion is e = tells-item 1 (holding (assertion_of (get_or p (m.pc + 3) 0))) is refl (state m.at regs) (rw e)
 
-    pub tells-reference : get_or p m.pc 0 ≡ 11 → (x : Referred) → holds ≡ x.holds → RefersAs p sub regs m.pc m.at x → Tells p sub regs m r
-    tells-reference is x e w = tells-item 11 (same_as (folded_of (get_or p (m.pc + 4) 0)) (get_or p (m.pc + 3) 0)) is refl (moved x.behind (state m.at regs)) (rw e w)
+    pub tells-reference : get_or p m.pc 0 ≡ 11 → (x : Option ℕ) → holds ≡ is_some x → RefersAs p sub regs m.pc m.at x → Tells p sub regs m r
+    unfolding when
+    tells-reference is None e w = tells-item 11 (same_as (folded_of (get_or p (m.pc + 4) 0)) (get_or p (m.pc + 3) 0)) is refl (state m.at regs) (rw e w)
+    tells-reference is (Some behind) e w = tells-item 11 (same_as (folded_of (get_or p (m.pc + 4) 0)) (get_or p (m.pc + 3) 0)) is refl (moved behind (state m.at regs)) (rw e w)
 
   -- a run of k bytes
-  pub tells-run : get_or p m.pc 0 ≡ 10 → (k : ℕ) → k ≡ bytes_of p sub (repeat_at p (m.pc + 2)) 0 m.at → r.any ≡ not (is_full (most_of (get_or p (m.pc + 3) 0)) k) → r.at ≡ m.at + k → r.place ≡ get_or p (get_or p (m.pc + 6) 0 + 2) 0 → Tells p sub regs m r
+  pub tells-run : get_or p m.pc 0 ≡ 10 → (k : ℕ) → k ≡ bytes_of p sub (repeat_at p (m.pc + 2)) 0 m.at
+      → ((start : ℕ) → missed_of start r ≡ failed_if (not (is_full (most_of (get_or p (m.pc + 3) 0)) k)) (told start (m.at + k) (get_or p (get_or p (m.pc + 6) 0 + 2) 0))) → Tells p sub regs m r
   unfolding ran repeat_at failed
-  tells-run is k e any at place start work =
+  tells-run is k e says start work =
       let e₀ : m.pc + 2 + 1 ≡ m.pc + 3 = omega arith in
       let e₁ : m.pc + 2 + 4 ≡ m.pc + 6 = omega arith in
-      inl (rw (move-run p sub (configuration_of regs work m) is, ← e, failed-strides start, failed-stopped start, e₀, e₁) (tells-one (not (is_full (most_of (get_or p (m.pc + 3) 0)) k)) (m.at + k) (get_or p (get_or p (m.pc + 6) 0 + 2) 0) any at place start))
+      inl (rw (move-run p sub (configuration_of regs work m) is, ← e, failed-strides start, failed-stopped start, e₀, e₁) (sym (says start)))
 
   -- `\R`
-  module _ (is : get_or p m.pc 0 ≡ 12) (b : Break) (y : BreaksAs sub m.at b) (place : r.place ≡ get_or p (m.pc + 2) 0) where
-    tells-broke : r.any ≡ not (eqb b.bytes 2) → r.at ≡ (if eqb b.steps 7 then suc m.at else m.at) → Tells p sub regs m r
-    unfolding move decode carry_out missed_of
-    tells-broke e at start work =
-        rw (is, e, at, place, y.bytes, y.steps) (failed-broke start p (takes sub is_return m.at) (takes sub is_feed (suc m.at)) (takes sub is_break m.at) (get_or p (m.pc + 2) 0) (get_or p (m.pc + 1) 0) m.at regs (stack_of work m.height) (return-breaks sub m.at))
+  module _ (is : get_or p m.pc 0 ≡ 12) (b : Break) (y : BreaksAs sub m.at b) where
+    tells-broke : ((start : ℕ) → missed_of start r ≡ failed_if (not (eqb b.bytes 2)) (told start (if eqb b.steps 7 then suc m.at else m.at) (get_or p (m.pc + 2) 0))) → Tells p sub regs m r
+    unfolding move decode carry_out
+    tells-broke says start work =
+        rw (is, says start, y.bytes, y.steps) (failed-broke start p (takes sub is_return m.at) (takes sub is_feed (suc m.at)) (takes sub is_break m.at) (get_or p (m.pc + 2) 0) (get_or p (m.pc + 1) 0) m.at regs (stack_of work m.height) (return-breaks sub m.at))
 
     -- a return without a feed
-    pub tells-feed : b.steps ≡ 7 → r.any ≡ true → r.at ≡ m.at + 1 → Tells p sub regs m r
-    tells-feed e any at = tells-broke (any ∙ rw (one_byte sub m.at b y e)) (rw e (let z : m.at + 1 ≡ suc m.at = omega arith in at ∙ z))
+    pub tells-feed : b.steps ≡ 7 → r ≡ Some (record { at = m.at + 1; place = get_or p (m.pc + 2) 0 }) → Tells p sub regs m r
+    unfolding missed_of failed_if
+    tells-feed e same = tells-broke (λ start. rw (same, one_byte sub m.at b y e, e) (let z : m.at + 1 ≡ suc m.at = omega arith in rw z))
 
-    pub tells-return : (b.steps ≡ 7 → ⊥) → r.any ≡ not (eqb b.bytes 2) → r.at ≡ m.at → Tells p sub regs m r
-    tells-return n any at = tells-broke any (rw (ne_eqb b.steps 7 n) at)
+    pub tells-return : (b.steps ≡ 7 → ⊥) → ((start : ℕ) → missed_of start r ≡ failed_if (not (eqb b.bytes 2)) (told start m.at (get_or p (m.pc + 2) 0))) → Tells p sub regs m r
+    tells-return n says = tells-broke (λ start. rw (ne_eqb b.steps 7 n) (says start))
 
   -- any other node
-  pub tells_none : (get_or p m.pc 0 ≡ 0 → ⊥) → (get_or p m.pc 0 ≡ 1 → ⊥) → (get_or p m.pc 0 ≡ 10 → ⊥) → (get_or p m.pc 0 ≡ 11 → ⊥) → (get_or p m.pc 0 ≡ 12 → ⊥) → r.any ≡ false → Tells p sub regs m r
-  unfolding move decode missed_of failed_if
+  pub tells_none : (get_or p m.pc 0 ≡ 0 → ⊥) → (get_or p m.pc 0 ≡ 1 → ⊥) → (get_or p m.pc 0 ≡ 10 → ⊥) → (get_or p m.pc 0 ≡ 11 → ⊥) → (get_or p m.pc 0 ≡ 12 → ⊥) → r ≡ None → Tells p sub regs m r
+  unfolding move decode missed_of
   tells_none a b c d f e start work = inl (failed-other start p sub (get_or p m.pc 0) m.pc m.at regs (stack_of work m.height) a b c d f ∙ rw e)

@@ -1,12 +1,12 @@
 -- Where the nodes lead that `walker` carries out together with others: a run, a reference and `\R`; and which nodes are left beside them. Assumes nothing.
+use Rattle.std.specs.Prelude.{None, Some}
 use mathlib.Core.Path.{◌≡◌, refl, sym, ◌∙◌}
 use mathlib.Core.List.{List}
-use mathlib.Core.Bool.{true, false}
+use mathlib.Core.Bool.{true}
 use Prim.Native.Nat.{ℕ, ◌+◌, ◌≤◌, ◌<◌}
 use native.Mathlib.Omega.{arith}
 use lib.ListN.{get_or}
 use Rattle.semantics.specs.States.{moved}
-use Rattle.semantics.specs.Items.{when}
 use Rattle.machine.specs.declared.Machine.{Machine}
 use Rattle.machine.specs.Code.{repeat_at}
 use Rattle.machine.specs.Moves.{Stack, go, below, fall, tried, bytes_of, carry_out}
@@ -17,7 +17,6 @@ use Rattle.breaks.specs.Breaks.{BreaksAs}
 use Rattle.breaks.proofs.Breaking.{break-back as falling, break-on as going}
 use Rattle.runs.proofs.Leaving.{ran-few, ran-enough}
 use Rattle.walker.proofs.Stepping.{moved_as}
-use Rattle.plain.specs.declared.Referred.{Referred}
 use Rattle.plain.specs.Telling.{leads, leads-plain}
 use Rattle.plain.specs.Misses.{RefersAs}
 
@@ -39,14 +38,13 @@ module _ (p sub regs work : List ℕ) (m : Machine) where
     run-enough h = rw (carried, ← all) (ran-enough p m.pc k m.at regs stack h)
 
   -- a reference
-  module _ (x : Referred) (w : RefersAs p sub regs m.pc m.at x) where
-    pub reference-back : x.holds ≡ false → carried 11 p sub regs work m ≡ fall p regs stack
-    unfolding carry_out tried when
-    reference-back e = rw (paid-after, w, e)
+  pub reference-back : RefersAs p sub regs m.pc m.at None → carried 11 p sub regs work m ≡ fall p regs stack
+  unfolding carry_out tried
+  reference-back w = rw (paid-after, w)
 
-    pub reference-on : x.holds ≡ true → carried 11 p sub regs work m ≡ go (get_or p (m.pc + 1) 0) x.behind regs stack
-    unfolding carry_out tried when moved
-    reference-on e = rw (paid-after, w, e)
+  pub reference-on : (behind : ℕ) → RefersAs p sub regs m.pc m.at (Some behind) → carried 11 p sub regs work m ≡ go (get_or p (m.pc + 1) 0) behind regs stack
+  unfolding carry_out tried moved
+  reference-on behind w = rw (paid-after, w)
 
   -- `\R`: a move is the same whether the machine is said to be at work or not
   module _ (is : get_or p m.pc 0 ≡ 12) (b : Break) (tells : BreaksAs sub m.at b) where

@@ -1,5 +1,5 @@
 -- What trying an item or a run comes to, where no budget cuts it. Assumes nothing.
-use Rattle.std.specs.Prelude.{if◌then◌else◌}
+use Rattle.std.specs.Prelude.{if◌then◌else◌, None, Some}
 use mathlib.Core.Path.{◌≡◌, refl, ◌∙◌}
 use mathlib.Core.Logic.{⊎_elim}
 use mathlib.Core.List.{List}
@@ -77,7 +77,7 @@ module _ (p sub regs : List ℕ) (pc at : ℕ) (fit : get_or p (pc + 3) 0 + 2 �
   unfolding tested
   refers = rw (span-at slot (omega arith), span-at (slot + 1) (omega arith))
 
-  pub refers-unset : from ≡ unset → RefersAs p sub regs pc at (record { holds = false; behind = at })
+  pub refers-unset : from ≡ unset → RefersAs p sub regs pc at None
   unfolding refer when
   refers-unset e = refers ∙ rw (le-ltb from unset (omega arith))
 
@@ -91,10 +91,11 @@ module _ (p sub regs : List ℕ) (pc at : ℕ) (fit : get_or p (pc + 3) 0 + 2 �
         by false y b e = rw (← e)
 
     module _ (left : ℕ) where
-      pub refers-same : ComparedAs folded sub n from at left Same → RefersAs p sub regs pc at (record { holds = true; behind = at + n })
+      pub refers-same : ComparedAs folded sub n from at left Same → RefersAs p sub regs pc at (Some (at + n))
+      unfolding when
       refers-same w = refers ∙ both true w.0
 
-      pub refers-unlike : (k : ℕ) → ComparedAs folded sub n from at left (Unlike k) → RefersAs p sub regs pc at (record { holds = false; behind = at })
+      pub refers-unlike : (k : ℕ) → ComparedAs folded sub n from at left (Unlike k) → RefersAs p sub regs pc at None
       unfolding when
       refers-unlike k w = refers ∙ both false w.0
 

@@ -10,52 +10,45 @@
 #![tactic(auto)]
 
 ghost use Rattle.std.specs.Prelude.{◌≡◌, List, not, ℕ, ◌+◌, ◌*◌, ◌≤◌, ◌<◌, ◌^◌, length, get_or, drop};
-ghost use Rattle.charset.specs.Class.{has};
 ghost use Rattle.syntax.specs.Limits.{spans_length, registers};
 ghost use Rattle.machine.specs.Code.{repeat_at, Fits};
-ghost use Rattle.machine.specs.Moves.{takes, bytes_of};
+ghost use Rattle.machine.specs.Moves.{bytes_of};
 ghost use Rattle.machine.specs.Words.{stack_of, configuration_of, now_of, moved_on, carried};
 ghost use Rattle.machine.specs.Ready.{StackFits};
 ghost use Rattle.plain.specs.Telling.{leads};
-ghost use Rattle.plain.specs.Misses.{Tells, TellsLate, RefersAs};
+ghost use Rattle.plain.specs.Misses.{failed_if, missed_of, Tells, TellsLate, RefersAs};
 
 use breaks::break_at;
-use charset::contains;
 use machine::{Machine, fall_back, go_down, push_explore};
 use marks::{forbid, take_marked};
-use nodes::{Compared, assertion_holds, compare};
+use nodes::{Compared, assertion_holds, byte_holds, compare};
 use repeats::is_full;
 use run_ends::run_length;
-use syntax::node::{BRANCH, BREAK, FORBID, MARK, REFERENCE, RUN};
+use syntax::node::{ASSERTION, BRANCH, BREAK, BYTE, FORBID, MARK, REFERENCE, RUN};
 use walker::step;
 
 // More steps than any run or reference makes: no budget cuts a move that is made here.
-const ALL_STEPS: u32 = 4294967295;
+const ALL_STEPS: u32 = u32::MAX;
 
-// Whether an item failed; if so, where in the subject it was tried, and its place in the rule.
-#[derive(Drop)]
-pub struct Missed {
-    pub any: bool,
+// An item that failed: where in the subject it was tried, and its place in the rule.
+#[derive(Clone, Copy, Debug, PartialEq, Eq)]
+pub struct Miss {
     pub at: u32,
     pub place: u32,
 }
 
-// Whether a reference holds, and if so the position behind its bytes.
-#[derive(Drop)]
-struct Referred {
-    holds: bool,
-    behind: u32,
+// A `(?!` that failed: the note that it kept where it was entered, and its place in the rule.
+#[derive(Clone, Copy, Debug, PartialEq, Eq)]
+pub struct Refuted {
+    pub note: u32,
+    pub place: u32,
 }
 
-// Whether the byte item at `pc` has its byte at a position.
-fn byte_holds(code: &[u32], sub: &[u8], pc: usize, at: usize) -> bool
-    requires { pc + 11 ≤ length code.now }
-    ensures { result ≡ takes sub.now (has (drop (pc + 3) code.now)) at }
-{
-    if at < sub.len() {
-        return contains(code, pc + 3, sub[at]);
-    }
-    false
+// What a move tells: the item that failed in it, if one did; or, at its inner end, a `(?!` that failed.
+#[derive(Clone, Copy, Debug, PartialEq, Eq)]
+pub enum Told {
+    Item(Option<Miss>),
+    Refuted(Refuted),
 }
 
 // How many bytes the run at `pc` takes, all of them.
@@ -66,48 +59,38 @@ fn run_bytes(code: &[u32], sub: &[u8], pc: usize, at: u32) -> u32
     run_length(code, sub, pc, at, ALL_STEPS)
 }
 
-// Whether the reference at `pc` holds at a position.
-fn refer(code: &[u32], sub: &[u8], regs: &[u32], pc: usize, at: u32) -> Referred
+// The position behind the bytes of the reference at `pc`, if it holds at a position.
+fn refer(code: &[u32], sub: &[u8], regs: &[u32], pc: usize, at: u32) -> Option<u32>
     requires { (pc + 5 ≤ length code.now) × (get_or code.now (pc + 3) 0 + 2 ≤ spans_length) × (spans_length ≤ length regs.now) × (length sub.now < 2 ^ 31) }
     ensures { RefersAs code.now sub.now regs.now pc at result }
 {
     let slot = code[pc + 3] as usize;
     let from = regs[slot];
     let to = regs[slot + 1];
-    let fails = Referred {
-        holds: false,
-        behind: at,
-    };
     if from == machine::unset_position() {
-        return fails;
+        return None;
     }
     let n = to.saturating_sub(from);
     let folded = code[pc + 4] == 1;
     match compare(sub, n, from, at, ALL_STEPS, folded) {
-        Compared::Same => Referred {
-            holds: true,
-            behind: at + n,
-        },
-        Compared::Unlike(_k) => fails,
-        Compared::TooMany => fails,
+        Compared::Same => Some(at + n),
+        Compared::Unlike(_k) => None,
+        Compared::TooMany => None,
     }
 }
 
-// What the item at `pc` tells, of which it is known whether it holds.
-fn tell_item(code: &[u32], pc: usize, at: u32, holds: bool) -> Missed
-    requires { pc + 3 ≤ length code.now }
-    ensures { (result.any ≡ not holds) × (result.at ≡ at) × (result.place ≡ get_or code.now (pc + 2) 0) }
+// An item fails unless it holds.
+fn miss_unless(holds: bool, at: u32, place: u32) -> Option<Miss>
+    ensures { (start : ℕ) → missed_of start result ≡ failed_if (not holds) (record { start = start; at = at; place = place }) }
 {
-    let place = code[pc + 2];
-    Missed {
-        any: !holds,
-        at: at,
-        place: place,
+    if holds {
+        return None;
     }
+    Some(Miss { at, place })
 }
 
 // What the run at `m` tells: the byte behind its bytes failed, at the place of its body, unless the most rounds were made.
-fn tell_run(code: &[u32], sub: &[u8], regs: &[u32], m: Machine) -> Missed
+fn tell_run(code: &[u32], sub: &[u8], regs: &[u32], m: Machine) -> Option<Miss>
     requires { (get_or code.now m.pc 0 ≡ 10) × (m.pc + 8 ≤ length code.now) × (get_or code.now (m.pc + 6) 0 + 11 ≤ length code.now) × (length sub.now < 2 ^ 31) }
     ensures { Tells code.now sub.now regs.now m result }
 {
@@ -116,16 +99,11 @@ fn tell_run(code: &[u32], sub: &[u8], regs: &[u32], m: Machine) -> Missed
     let most = code[pc + 3];
     let body = code[pc + 6] as usize;
     let full = is_full(most, k);
-    let place = code[body + 2];
-    Missed {
-        any: !full,
-        at: m.at + k,
-        place: place,
-    }
+    miss_unless(full, m.at + k, code[body + 2])
 }
 
 // What `\R` at `m` tells: the feed behind a return, or the return, which it tries twice if nothing else fits.
-fn tell_break(code: &[u32], sub: &[u8], regs: &[u32], m: Machine) -> Missed
+fn tell_break(code: &[u32], sub: &[u8], regs: &[u32], m: Machine) -> Option<Miss>
     requires { (get_or code.now m.pc 0 ≡ 12) × (m.pc + 3 ≤ length code.now) × (length sub.now < 2 ^ 31) }
     ensures { Tells code.now sub.now regs.now m result }
 {
@@ -133,21 +111,16 @@ fn tell_break(code: &[u32], sub: &[u8], regs: &[u32], m: Machine) -> Missed
     let place = code[pc + 2];
     let found = break_at(sub, m.at as usize);
     if found.steps == 7 {
-        return Missed {
-            any: true,
+        return Some(Miss {
             at: m.at + 1,
-            place: place,
-        };
+            place,
+        });
     }
-    Missed {
-        any: found.bytes != 2,
-        at: m.at,
-        place: place,
-    }
+    miss_unless(found.bytes == 2, m.at, place)
 }
 
-// What a `(?!` at `m` tells that fails: its note, in place of a position, and its place in the rule.
-pub fn tell_refuted(code: &[u32], regs: &[u32], m: Machine) -> Missed
+// What a `(?!` at `m` tells that fails: its note, and its place in the rule.
+pub fn tell_refuted(code: &[u32], regs: &[u32], m: Machine) -> Refuted
     requires pc_value { (get_or code.now m.pc 0 ≡ 17) × (length regs.now ≡ registers) }
     requires fits { Fits code.now m.pc }
     ensures { TellsLate code.now regs.now m result }
@@ -156,42 +129,33 @@ pub fn tell_refuted(code: &[u32], regs: &[u32], m: Machine) -> Missed
     let register = code[pc + 2] as usize;
     let place = code[pc + 3];
     let note = regs[register + 1];
-    Missed {
-        any: true,
-        at: note,
-        place: place,
-    }
+    Refuted { note, place }
 }
 
 // Which item fails in the move that the machine makes next, if one does: a byte item, an assertion or a reference, the byte at which a run stops, or one of
 // `\R`'s. That a `(?!` fails is told by `tell_refuted`.
-pub fn tell_missed(code: &[u32], sub: &[u8], regs: &[u32], m: Machine) -> Missed
+pub fn tell_missed(code: &[u32], sub: &[u8], regs: &[u32], m: Machine) -> Option<Miss>
     requires regs_len { (length regs.now ≡ registers) × (length sub.now < 2 ^ 31) }
     requires fits { Fits code.now m.pc }
     ensures { Tells code.now sub.now regs.now m result }
 {
     let pc = m.pc as usize;
     match code[pc] {
-        0 => {
+        BYTE => {
             let has_byte = byte_holds(code, sub, pc, m.at as usize);
-            tell_item(code, pc, m.at, has_byte)
+            miss_unless(has_byte, m.at, code[pc + 2])
         }
-        1 => {
-            let which = code[pc + 3];
-            let holds = assertion_holds(sub, which, m.at as usize);
-            tell_item(code, pc, m.at, holds)
+        ASSERTION => {
+            let holds = assertion_holds(sub, code[pc + 3], m.at as usize);
+            miss_unless(holds, m.at, code[pc + 2])
         }
-        10 => tell_run(code, sub, regs, m),
-        11 => {
-            let referred = refer(code, sub, regs, pc, m.at);
-            tell_item(code, pc, m.at, referred.holds)
+        RUN => tell_run(code, sub, regs, m),
+        REFERENCE => {
+            let behind = refer(code, sub, regs, pc, m.at);
+            miss_unless(behind.is_some(), m.at, code[pc + 2])
         }
-        12 => tell_break(code, sub, regs, m),
-        _ => Missed {
-            any: false,
-            at: 0,
-            place: 0,
-        },
+        BREAK => tell_break(code, sub, regs, m),
+        _ => None,
     }
 }
 
@@ -241,17 +205,15 @@ fn follow_reference(
     ensures { now_of regs.new work.new result ≡ carried 11 code.now sub.now regs.old work.old m }
 {
     let pc = m.pc as usize;
-    let referred = refer(code, sub, regs, pc, m.at);
-    if referred.holds {
-        let next = code[pc + 1];
-        return Machine {
-            pc: next,
-            at: referred.behind,
+    match refer(code, sub, regs, pc, m.at) {
+        Some(behind) => Machine {
+            pc: code[pc + 1],
+            at: behind,
             height: m.height,
             live: true,
-        };
+        },
+        None => fall_back(code, regs, work, m.height),
     }
-    fall_back(code, regs, work, m.height)
 }
 
 // `\R`: it goes on behind its bytes, or falls back.

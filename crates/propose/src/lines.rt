@@ -6,7 +6,7 @@ use finding::{Outcome, match_held};
 use frame::{BUDGET_LIMIT, SUBJECT_LIMIT};
 use index::ROW_LENGTH;
 use office::{CLOSED, PIECE, ROOM, Rest, flush, next_line, put, put_number};
-use proposing::{Proposed, propose_held};
+use proposing::{Proposal, Unmade, propose_held};
 use std::fs::File;
 use std::io::{Error, ErrorKind};
 
@@ -55,21 +55,21 @@ fn put_proposed(
     rt: &HostRuntime,
     out: &mut [u8; ROOM],
     at: usize,
-    proposed: Proposed,
+    proposed: Result<Proposal, Unmade>,
     proposal: &[u8],
 ) -> usize {
     match proposed {
-        Proposed::Made(n, steps) => {
+        Ok(Proposal { bytes, steps }) => {
             // it has no more bytes than were lent
-            if proposal.len() < n {
+            if proposal.len() < bytes {
                 return put(rt, out, at, b"- no room\n");
             }
-            let p = put_bytes(rt, out, at, &proposal[..n]);
+            let p = put_bytes(rt, out, at, &proposal[..bytes]);
             put_number(rt, out, p, b" ", steps, b"\n")
         }
-        Proposed::Exhausted => put(rt, out, at, b"- exhausted\n"),
-        Proposed::NoRoom => put(rt, out, at, b"- no room\n"),
-        Proposed::Unfound => put(rt, out, at, b"- not made\n"),
+        Err(Unmade::Exhausted) => put(rt, out, at, b"- exhausted\n"),
+        Err(Unmade::NoRoom) => put(rt, out, at, b"- no room\n"),
+        Err(Unmade::Unfound) => put(rt, out, at, b"- not made\n"),
     }
 }
 

@@ -1,4 +1,5 @@
 -- What is promised of a proposal follows from what the check of its bytes tells, and the walk can begin because the rule is held.
+use Rattle.std.specs.Prelude.{Result, Ok, Err}
 use mathlib.Core.Path.{◌≡◌, ap, sym, ◌∙◌, subst}
 use mathlib.Core.List.{List, [], ◌++◌, append-nil}
 use Prim.Native.Nat.{ℕ, ◌≤◌}
@@ -18,8 +19,8 @@ use Rattle.checking.specs.declared.Verdict.{Verdict}
 use Rattle.checking.specs.declared.Verdict.TheVariants.{Reading}
 use Rattle.following.specs.Paths.{told}
 use Rattle.checking.specs.Verdicts.{Reports}
-use Rattle.proposing.specs.declared.Proposed.{Proposed}
-use Rattle.proposing.specs.declared.Proposed.TheVariants.{Made, Exhausted, NoRoom, Unfound}
+use Rattle.choosing.specs.declared.Unmade.{Unmade}
+use Rattle.proposing.specs.declared.Proposal.{Proposal}
 use Rattle.proposing.specs.Promises.{Accepted, Accepts, Proposes}
 
 -- a rule that is held can be walked from every start of the subject
@@ -45,10 +46,8 @@ reading-accepted old new wanted a v steps e h size same =
     (z.0, z.1, z.2, sym (over-whole (row z.0 z.1) old (omega (arith, z.4))) ∙ sym z.3 ∙ same)
 
 -- all of the bytes that were checked are the first of their area
-pub proposes : (code subject wanted area : List ℕ) (n entry budget : ℕ) (r : Proposed) → n ≤ length area → Accepts code subject wanted (take n area) entry budget r → Proposes code subject wanted area entry budget r
-proposes code subject wanted area n entry budget (Made k steps) h a =
-    let e : k ≡ n = a.0 ∙ length-take-le n area h in
-    (omega arith, subst (λ (j : ℕ). Accepted code subject wanted (take j area) entry budget steps) (sym e) a.1)
-proposes code subject wanted area n entry budget Exhausted h a = tt
-proposes code subject wanted area n entry budget NoRoom h a = tt
-proposes code subject wanted area n entry budget Unfound h a = tt
+pub proposes : (code subject wanted area : List ℕ) (n entry budget : ℕ) (r : Result Proposal Unmade) → n ≤ length area → Accepts code subject wanted (take n area) entry budget r → Proposes code subject wanted area entry budget r
+proposes code subject wanted area n entry budget (Ok made) h a =
+    let e : made.bytes ≡ n = a.0 ∙ length-take-le n area h in
+    (omega arith, subst (λ (j : ℕ). Accepted code subject wanted (take j area) entry budget made.steps) (sym e) a.1)
+proposes code subject wanted area n entry budget (Err why) h a = tt

@@ -7,14 +7,12 @@
 
 mod proposals;
 
+pub use choosing::Unmade;
 pub use proposals::propose_held;
 
-// What came of it: so many bytes, whose path takes so many steps; or none, since the walk needs more steps than the budget has, since the bytes or the
-// log do not fit into what is lent, or since no reading was found that a check can follow.
-#[derive(Drop)]
-pub enum Proposed {
-    Made(usize, u64),
-    Exhausted,
-    NoRoom,
-    Unfound,
+// A proposal that was made: so many bytes, whose path takes so many steps.
+#[derive(Clone, Copy, Debug, PartialEq, Eq)]
+pub struct Proposal {
+    pub bytes: usize,
+    pub steps: u64,
 }

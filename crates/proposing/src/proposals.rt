@@ -6,9 +6,9 @@ ghost use Rattle.machine.specs.Theorem.{Stands};
 ghost use Rattle.frame.specs.Inputs.{Held};
 ghost use Rattle.proposing.specs.Promises.{Accepts, Proposes};
 
-use crate::Proposed;
+use crate::Proposal;
 use checking::{Verdict, check_held};
-use choosing::{Walk, same_numbers, walk_to};
+use choosing::{Unmade, walk_to};
 use index::{ROW_LENGTH, UNSET};
 use syntax::REGISTERS;
 
@@ -20,21 +20,24 @@ fn accept(
     budget: u32,
     wanted: &[u32],
     proposal: &[u8],
-) -> Proposed
+) -> Result<Proposal, Unmade>
     requires { ((x : Rule) × Stands code.now x entry) × (length subject.now ≤ subject_limit) × (length wanted.now ≡ row_length) }
     ensures { Accepts code.now subject.now wanted.now proposal.now entry budget result }
 {
     let mut row = [0u32; ROW_LENGTH];
     match check_held(code, entry, subject, budget, proposal, &mut row) {
         Verdict::Reading(steps) => {
-            if same_numbers(&row, wanted) {
-                return Proposed::Made(proposal.len(), steps);
+            if row.as_slice() == wanted {
+                return Ok(Proposal {
+                    bytes: proposal.len(),
+                    steps,
+                });
             }
-            Proposed::Unfound
+            Err(Unmade::Unfound)
         }
-        Verdict::Nothing(_steps) => Proposed::Unfound,
-        Verdict::Exhausted(_start, _steps) => Proposed::Exhausted,
-        Verdict::Refused(_why) => Proposed::Unfound,
+        Verdict::Nothing(_steps) => Err(Unmade::Unfound),
+        Verdict::Exhausted(_start, _steps) => Err(Unmade::Exhausted),
+        Verdict::Refused(_why) => Err(Unmade::Unfound),
     }
 }
 
@@ -49,20 +52,16 @@ pub fn propose_held(
     work: &mut [u32],
     ways: &mut [u8],
     proposal: &mut [u8],
-) -> Proposed
+) -> Result<Proposal, Unmade>
     requires { Held code.now subject.now work.old entry budget × (length wanted.now ≡ row_length) }
     ensures { Proposes code.now subject.now wanted.now proposal.new entry budget result }
 {
     if subject.len() < wanted[0] as usize {
-        return Proposed::Unfound;
+        return Err(Unmade::Unfound);
     }
     let mut regs = [UNSET; REGISTERS];
-    match walk_to(
+    let n = walk_to(
         code, subject, &mut regs, work, entry, budget, wanted, proposal, ways,
-    ) {
-        Walk::Arrived(n) => accept(code, entry, subject, budget, wanted, &proposal[..n]),
-        Walk::Spent => Proposed::Exhausted,
-        Walk::Full => Proposed::NoRoom,
-        Walk::Nothing => Proposed::Unfound,
-    }
+    )?;
+    accept(code, entry, subject, budget, wanted, &proposal[..n])
 }

@@ -16,7 +16,7 @@ use machine::{AGAIN, Counter, Machine, begin_over, push, push_explore};
 const BOUND_LIMIT: u32 = 255;
 
 // One round more, counted up to the greatest bound.
-fn count_round(n: u32) -> u32
+pub fn count_round(n: u32) -> u32
     ensures { result ≡ bump n }
 {
     if n < BOUND_LIMIT {

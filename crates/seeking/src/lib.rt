@@ -27,7 +27,7 @@ use walker::run_to_end;
 
 // What is told of the starts: a match, with its start, its end and the steps; or nothing is found, after so many steps; or the start at which the budget
 // was used up, and the steps. The groups of a match stand in the registers.
-#[derive(Drop)]
+#[derive(Clone, Copy, Debug, PartialEq, Eq)]
 pub enum Sought {
     Found(u32, u32, u64),
     Nothing(u64),

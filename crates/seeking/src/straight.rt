@@ -15,7 +15,7 @@ const LOOKS: u32 = 5;
 
 // What is seen of a node at a position: it fails after so many steps; or it is one step on the way to another node and position; or it is no node of a
 // straight way.
-#[derive(Drop)]
+#[derive(Clone, Copy, Debug, PartialEq, Eq)]
 pub enum Seen {
     Missed(u32),
     Next(u32, u32),
@@ -130,15 +130,9 @@ pub fn looks_at(code: &[u32], entry: u32, budget: u32) -> u32
     if code.len() <= node {
         return 0;
     }
-    let kind = code[node];
-    if kind == BRANCH {
-        return 0;
+    match code[node] {
+        BRANCH => 0,
+        RUN => 0,
+        _ => LOOKS.min(budget),
     }
-    if kind == RUN {
-        return 0;
-    }
-    if budget < LOOKS {
-        return budget;
-    }
-    LOOKS
 }

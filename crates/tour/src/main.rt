@@ -111,8 +111,7 @@ fn put_move(rt: &HostRuntime, code: &[u32], sub: &[u8], regs: &[u32], work: &[u3
     put_number(rt, m.pc as u64);
     put_number(rt, m.at as u64);
     put_numbers(rt, work, 4 * m.height);
-    let missed = tell_missed(code, sub, regs, m);
-    if missed.any {
+    if let Some(missed) = tell_missed(code, sub, regs, m) {
         put(rt, b"missed");
         put_number(rt, missed.place as u64);
         put_number(rt, missed.at as u64);

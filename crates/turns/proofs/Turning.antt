@@ -12,7 +12,7 @@ use lib.ListN.{drop_of_length-le, get_or-eq_default}
 use lib.Dec.{ltb, leb, eqb}
 use borrow.Author.Tests.{lt-ltb, le-ltb, ltb-true, leb-true}
 use Rattle.charset.specs.Class.{has}
-use Rattle.syntax.specs.Limits.{unset, spans_length, bound_limit}
+use Rattle.syntax.specs.Limits.{unset, spans_length}
 use Rattle.syntax.specs.Read.{byte}
 use Rattle.semantics.specs.Assertions.{holds}
 use Rattle.semantics.specs.States.{State, moved}
@@ -142,16 +142,6 @@ module _ (p : Program) where
   pub branch-unread : (sub : List ℕ) (pc at : ℕ) (regs cs : List ℕ) (i : ℕ) → length cs ≤ i → astray 0 ≡ turn_as 5 p sub pc at regs (drop i cs)
   unfolding turn_by choosing_branch
   branch-unread sub pc at regs cs i l = rw (drop_of_length-le cs l)
-
--- Rounds ----------------------------------------------------------------------------------
-
-pub bump-less : (n : ℕ) → n < 255 → n + 1 ≡ bump n
-unfolding bump bound_limit
-bump-less n l = omega arith
-
-pub bump-full : (n : ℕ) → 255 ≤ n → 255 ≡ bump n
-unfolding bump bound_limit
-bump-full n l = omega arith
 
 -- References --------------------------------------------------------------------------------
 

@@ -1,51 +1,53 @@
 // Items: a byte of a set, an assertion, a reference.
 ghost use Rattle.std.specs.Prelude.{◌≡◌, List, ℕ, ◌+◌, ◌≤◌, ◌<◌, ◌^◌, length, get_or, drop};
-ghost use Rattle.charset.specs.Class.{has};
 ghost use Rattle.syntax.specs.Limits.{spans_length};
-ghost use Rattle.machine.specs.Moves.{takes};
 ghost use Rattle.turns.specs.Paces.{said_by, turn_as};
 
-use crate::Pace;
-use charset::contains;
-use nodes::{Compared, assertion_holds, compare};
+use crate::{Lost, Step};
+use nodes::{Compared, assertion_holds, byte_holds, compare};
 
 // More steps than any reference makes: what is beyond the budget is seen by its cost.
-const ALL_STEPS: u32 = 4294967295;
-
-// Whether the byte item at `pc` has its byte at a position.
-fn byte_holds(code: &[u32], sub: &[u8], pc: usize, at: usize) -> bool
-    requires { pc + 11 ≤ length code.now }
-    ensures { result ≡ takes sub.now (has (drop (pc + 3) code.now)) at }
-{
-    if at < sub.len() {
-        return contains(code, pc + 3, sub[at]);
-    }
-    false
-}
+const ALL_STEPS: u32 = u32::MAX;
 
 // A byte of a set.
-pub fn take_byte(code: &[u32], sub: &[u8], pc: usize, at: u32, read: usize) -> Pace
+pub fn take_byte(code: &[u32], sub: &[u8], pc: usize, at: u32, read: usize) -> Result<Step, Lost>
     requires { (pc + 11 ≤ length code.now) × (length sub.now < 2 ^ 31) × (at ≤ length sub.now) }
     ensures { (regs choices : List ℕ) → said_by result regs choices ≡ turn_as 0 code.now sub.now pc at regs (drop read choices) }
 {
     if byte_holds(code, sub, pc, at as usize) {
         let next = code[pc + 1];
-        return Pace::Along(0, next, at + 1, read);
+        return Ok(Step {
+            more: 0,
+            pc: next,
+            at: at + 1,
+            read,
+        });
     }
-    Pace::Lost(1)
+    Err(Lost { steps: 1 })
 }
 
 // An assertion.
-pub fn test_assertion(code: &[u32], sub: &[u8], pc: usize, at: u32, read: usize) -> Pace
+pub fn test_assertion(
+    code: &[u32],
+    sub: &[u8],
+    pc: usize,
+    at: u32,
+    read: usize,
+) -> Result<Step, Lost>
     requires { pc + 4 ≤ length code.now }
     ensures { (regs choices : List ℕ) → said_by result regs choices ≡ turn_as 1 code.now sub.now pc at regs (drop read choices) }
 {
     let which = code[pc + 3];
     if assertion_holds(sub, which, at as usize) {
         let next = code[pc + 1];
-        return Pace::Along(0, next, at, read);
+        return Ok(Step {
+            more: 0,
+            pc: next,
+            at,
+            read,
+        });
     }
-    Pace::Lost(1)
+    Err(Lost { steps: 1 })
 }
 
 // A reference: it pays for the bytes that it compares.
@@ -56,7 +58,7 @@ pub fn take_reference(
     pc: usize,
     at: u32,
     read: usize,
-) -> Pace
+) -> Result<Step, Lost>
     requires { (pc + 5 ≤ length code.now) × (get_or code.now (pc + 3) 0 + 2 ≤ spans_length) × (spans_length ≤ length regs.now) × (length sub.now < 2 ^ 31) }
     ensures { (choices : List ℕ) → said_by result regs.now choices ≡ turn_as 11 code.now sub.now pc at regs.now (drop read choices) }
 {
@@ -64,16 +66,21 @@ pub fn take_reference(
     let from = regs[slot];
     let to = regs[slot + 1];
     if from == machine::unset_position() {
-        return Pace::Lost(1);
+        return Err(Lost { steps: 1 });
     }
     let n = to.saturating_sub(from);
     let folded = code[pc + 4] == 1;
     match compare(sub, n, from, at, ALL_STEPS, folded) {
         Compared::Same => {
             let next = code[pc + 1];
-            Pace::Along(n, next, at + n, read)
+            Ok(Step {
+                more: n,
+                pc: next,
+                at: at + n,
+                read,
+            })
         }
-        Compared::Unlike(k) => Pace::Lost(1 + k),
-        Compared::TooMany => Pace::Lost(0),
+        Compared::Unlike(k) => Err(Lost { steps: 1 + k }),
+        Compared::TooMany => Err(Lost { steps: 0 }),
     }
 }

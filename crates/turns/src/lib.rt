@@ -9,16 +9,17 @@ mod turns;
 
 pub use turns::take_turn;
 
-// What a turn leads to: in a step and so many more to another node and position, with so many choices used; or no further, after so many steps.
-#[derive(Drop)]
-pub enum Pace {
-    Along(u32, u32, u32, usize),
-    Lost(u32),
+// What a turn leads to: in a step and so many more to another node and position, with so many choices used.
+#[derive(Clone, Copy, Debug, PartialEq, Eq)]
+pub struct Step {
+    pub more: u32,
+    pub pc: u32,
+    pub at: u32,
+    pub read: usize,
 }
 
-// The body of a branch, or that there is none of its number.
-#[derive(Drop)]
-enum Branch {
-    Body(u32),
-    Missing,
+// A turn that leads no further, after so many steps.
+#[derive(Clone, Copy, Debug, PartialEq, Eq)]
+pub struct Lost {
+    pub steps: u32,
 }

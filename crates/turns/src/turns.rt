@@ -1,16 +1,14 @@
 // Groups, branches and repeats, and a turn at any node.
 ghost use Rattle.std.specs.Prelude.{◌≡◌, List, ℕ, ◌+◌, ◌≤◌, ◌<◌, ◌^◌, length, get_or, drop, Bool};
-ghost use Rattle.machine.specs.Moves.{set2, bump};
+ghost use Rattle.machine.specs.Moves.{set2};
 ghost use Rattle.machine.specs.Code.{repeat_at};
 ghost use Rattle.turns.specs.Turns.{body_of, beginning, deciding, turn, Safe};
 ghost use Rattle.turns.specs.Paces.{said_by, turn_as, branch_said};
 
 use crate::items::{take_byte, take_reference, test_assertion};
-use crate::{Branch, Pace};
-use repeats::is_full;
-
-// The greatest bound of a repeat.
-const BOUND_LIMIT: u32 = 255;
+use crate::{Lost, Step};
+use repeats::{count_round, is_full};
+use syntax::node::{AGAIN, ASSERTION, BRANCH, BYTE, CLOSE, LAST, OPEN, REFERENCE, REPEAT, RUN};
 
 // The number at a position of the compiled rule, and 0 past its end.
 fn number(code: &[u32], i: usize) -> u32
@@ -32,18 +30,29 @@ fn put_two(regs: &mut [u32], i: usize, x: u32, y: u32)
 }
 
 // A group opens: where, is kept in its registers.
-fn open_group(code: &[u32], regs: &mut [u32], pc: usize, at: u32, read: usize) -> Pace
+fn open_group(code: &[u32], regs: &mut [u32], pc: usize, at: u32, read: usize) -> Result<Step, Lost>
     requires { (pc + 3 ≤ length code.now) × (get_or code.now (pc + 2) 0 + 2 ≤ length regs.old) }
     ensures { (sub choices : List ℕ) → said_by result regs.new choices ≡ turn_as 3 code.now sub pc at regs.old (drop read choices) }
 {
     let body = code[pc + 1];
     let register = code[pc + 2] as usize;
     put_two(regs, register, at, 0);
-    Pace::Along(0, body, at, read)
+    Ok(Step {
+        more: 0,
+        pc: body,
+        at,
+        read,
+    })
 }
 
 // A group closes: its span is set, from where it opened.
-fn close_group(code: &[u32], regs: &mut [u32], pc: usize, at: u32, read: usize) -> Pace
+fn close_group(
+    code: &[u32],
+    regs: &mut [u32],
+    pc: usize,
+    at: u32,
+    read: usize,
+) -> Result<Step, Lost>
     requires { (pc + 4 ≤ length code.now) × (get_or code.now (pc + 2) 0 + 2 ≤ length regs.old) × (get_or code.now (pc + 3) 0 + 2 ≤ length regs.old) }
     ensures { (sub choices : List ℕ) → said_by result regs.new choices ≡ turn_as 4 code.now sub pc at regs.old (drop read choices) }
 {
@@ -52,11 +61,16 @@ fn close_group(code: &[u32], regs: &mut [u32], pc: usize, at: u32, read: usize) 
     let slot = code[pc + 3] as usize;
     let from = regs[register];
     put_two(regs, slot, from, at);
-    Pace::Along(0, next, at, read)
+    Ok(Step {
+        more: 0,
+        pc: next,
+        at,
+        read,
+    })
 }
 
-// The body of the branch of a number, counted from the branch at `pc`.
-fn branch_body(code: &[u32], pc: u32, c: u32) -> Branch
+// The body of the branch of a number, counted from the branch at `pc`, if there is one.
+fn branch_body(code: &[u32], pc: u32, c: u32) -> Option<u32>
     ensures { branch_said result ≡ body_of code.now c pc }
 {
     let mut q = pc;
@@ -64,8 +78,8 @@ fn branch_body(code: &[u32], pc: u32, c: u32) -> Branch
     while 0 < k {
         let i = q as usize;
         let kind = number(code, i);
-        if kind != 5 {
-            return Branch::Missing;
+        if kind != BRANCH {
+            return None;
         }
         q = number(code, i + 2);
         k -= 1;
@@ -74,38 +88,40 @@ fn branch_body(code: &[u32], pc: u32, c: u32) -> Branch
     let kind = number(code, i);
     let body = number(code, i + 1);
     match kind {
-        5 => Branch::Body(body),
-        6 => Branch::Body(body),
-        _ => Branch::Missing,
+        BRANCH => Some(body),
+        LAST => Some(body),
+        _ => None,
     }
 }
 
 // An alternation: the choice is read before the branch's step.
-fn begin_branch(code: &[u32], choices: &[u8], pc: u32, at: u32, read: usize) -> Pace
+fn begin_branch(code: &[u32], choices: &[u8], pc: u32, at: u32, read: usize) -> Result<Step, Lost>
     ensures { (sub regs : List ℕ) → said_by result regs choices.now ≡ turn_as 5 code.now sub pc at regs (drop read choices.now) }
 {
     if choices.len() <= read {
-        return Pace::Lost(0);
+        return Err(Lost { steps: 0 });
     }
     let c = choices[read] as u32;
     match branch_body(code, pc, c) {
-        Branch::Missing => Pace::Lost(0),
-        Branch::Body(body) => Pace::Along(0, body, at, read + 1),
+        None => Err(Lost { steps: 0 }),
+        Some(body) => Ok(Step {
+            more: 0,
+            pc: body,
+            at,
+            read: read + 1,
+        }),
     }
-}
-
-// One round more, counted up to the greatest bound.
-fn count_round(n: u32) -> u32
-    ensures { result ≡ bump n }
-{
-    if n < BOUND_LIMIT {
-        return n + 1;
-    }
-    BOUND_LIMIT
 }
 
 // A round of the repeat whose numbers stand at `q` begins, after `n`.
-fn begin_round(code: &[u32], regs: &mut [u32], q: usize, n: u32, at: u32, read: usize) -> Pace
+fn begin_round(
+    code: &[u32],
+    regs: &mut [u32],
+    q: usize,
+    n: u32,
+    at: u32,
+    read: usize,
+) -> Result<Step, Lost>
     requires { (q + 6 ≤ length code.now) × (get_or code.now (q + 3) 0 + 2 ≤ length regs.old) }
     ensures { (choices : List ℕ) → said_by result regs.new choices ≡ beginning code.now (repeat_at code.now q) n at regs.old (drop read choices) }
 {
@@ -113,7 +129,12 @@ fn begin_round(code: &[u32], regs: &mut [u32], q: usize, n: u32, at: u32, read: 
     let body = code[q + 4];
     let rounds = count_round(n);
     put_two(regs, register, rounds, at);
-    Pace::Along(0, body, at, read)
+    Ok(Step {
+        more: 0,
+        pc: body,
+        at,
+        read,
+    })
 }
 
 // A decision after `n` rounds of the repeat whose numbers stand at `q`; `still`: the last round took no bytes. Where both ways are allowed the choice is read.
@@ -126,7 +147,7 @@ fn decide(
     still: bool,
     at: u32,
     read: usize,
-) -> Pace
+) -> Result<Step, Lost>
     requires { (q + 6 ≤ length code.now) × (get_or code.now (q + 3) 0 + 2 ≤ length regs.old) }
     ensures { said_by result regs.new choices.now ≡ deciding code.now q n still at regs.old (drop read choices.now) }
 {
@@ -137,22 +158,37 @@ fn decide(
         return begin_round(code, regs, q, n, at, read);
     }
     if is_full(most, n) {
-        return Pace::Along(0, next, at, read);
+        return Ok(Step {
+            more: 0,
+            pc: next,
+            at,
+            read,
+        });
     }
     if still {
-        return Pace::Along(0, next, at, read);
+        return Ok(Step {
+            more: 0,
+            pc: next,
+            at,
+            read,
+        });
     }
     if choices.len() <= read {
-        return Pace::Lost(1);
+        return Err(Lost { steps: 1 });
     }
     let c = choices[read];
     if c == 0 {
-        return Pace::Along(0, next, at, read + 1);
+        return Ok(Step {
+            more: 0,
+            pc: next,
+            at,
+            read: read + 1,
+        });
     }
     if c == 1 {
         return begin_round(code, regs, q, n, at, read + 1);
     }
-    Pace::Lost(1)
+    Err(Lost { steps: 1 })
 }
 
 // A round of the repeat whose node `pc` is ends.
@@ -163,7 +199,7 @@ fn end_round(
     pc: usize,
     at: u32,
     read: usize,
-) -> Pace
+) -> Result<Step, Lost>
     requires { (pc + 7 ≤ length code.now) × (get_or code.now (pc + 1 + 3) 0 + 2 ≤ length regs.old) }
     ensures { (sub : List ℕ) → said_by result regs.new choices.now ≡ turn_as 8 code.now sub pc at regs.old (drop read choices.now) }
 {
@@ -184,22 +220,22 @@ pub fn take_turn(
     pc: u32,
     at: u32,
     read: usize,
-) -> Pace
+) -> Result<Step, Lost>
     requires { Safe code.now sub.now pc at regs.old × (get_or code.now pc 0 ≡ 9 → ⊥) × (length sub.now < 2 ^ 31) }
     ensures { said_by result regs.new choices.now ≡ turn code.now sub.now pc at regs.old (drop read choices.now) }
 {
     let p = pc as usize;
     let kind = code[p];
     match kind {
-        0 => take_byte(code, sub, p, at, read),
-        1 => test_assertion(code, sub, p, at, read),
-        3 => open_group(code, regs, p, at, read),
-        4 => close_group(code, regs, p, at, read),
-        5 => begin_branch(code, choices, pc, at, read),
-        7 => decide(code, choices, regs, p + 2, 0, false, at, read),
-        8 => end_round(code, choices, regs, p, at, read),
-        10 => decide(code, choices, regs, p + 2, 0, false, at, read),
-        11 => take_reference(code, sub, regs, p, at, read),
-        _ => Pace::Lost(0),
+        BYTE => take_byte(code, sub, p, at, read),
+        ASSERTION => test_assertion(code, sub, p, at, read),
+        OPEN => open_group(code, regs, p, at, read),
+        CLOSE => close_group(code, regs, p, at, read),
+        BRANCH => begin_branch(code, choices, pc, at, read),
+        REPEAT => decide(code, choices, regs, p + 2, 0, false, at, read),
+        AGAIN => end_round(code, choices, regs, p, at, read),
+        RUN => decide(code, choices, regs, p + 2, 0, false, at, read),
+        REFERENCE => take_reference(code, sub, regs, p, at, read),
+        _ => Err(Lost { steps: 0 }),
     }
 }

@@ -1,5 +1,6 @@
 -- What is told over a walk is what failed in it: the first of its greatest failures, or the marks.
-use Rattle.std.specs.Prelude.{◌≡◌, Bool, eqb, ltb, get_or, set, if◌then◌else◌}
+use Rattle.std.specs.Prelude as option
+use Rattle.std.specs.Prelude.{◌≡◌, Bool, None, Some, eqb, ltb, get_or, set, if◌then◌else◌}
 use Rattle.std.proofs.Math.Path.{refl, ap}
 use Rattle.std.proofs.Common.{◌∙◌, inl, inr, arith, lt-ltb, le-ltb}
 use mathlib.Core.List.{List, [], ◌∷◌, ◌++◌}
@@ -13,10 +14,12 @@ use Rattle.semantics.specs.Demands.{In}
 use Rattle.machine.specs.Code.{Program, decode_as, decode}
 use Rattle.machine.specs.Moves.{Configuration, carry_out, move}
 use Rattle.machine.specs.Laws.Run.{Account}
-use Rattle.plain.specs.declared.Missed.{Missed}
+use Rattle.plain.specs.declared.Miss.{Miss}
+use Rattle.plain.specs.declared.Told.{Told}
+use Rattle.plain.specs.declared.Told.TheVariants.{Item, Refuted}
 use Rattle.plain.specs.Telling.{notes, hears, hears_all, hears_by}
-use Rattle.plain.specs.Misses.{emitted, failed_if, missed_of, OnceOrTwice}
-use Rattle.greatest.specs.Leading.{failing, better, better_by, better_if}
+use Rattle.plain.specs.Misses.{emitted, missed_of, OnceOrTwice}
+use Rattle.greatest.specs.Leading.{failing, better, better_if, kept_by}
 use Rattle.failures.specs.Accounts.{bests, marked_if, marked_by, marking}
 
 -- By failures ----------------------------------------------------------------------
@@ -25,6 +28,11 @@ module _ (A : Account) where
   unfoldable pub tells_all : A.X → List Failure → A.X
   tells_all x [] = x
   tells_all x (f ∷ l) = tells_all (A.told x f.place f.at) l
+
+  -- by what the code tells of a move, in an attempt from `start`
+  unfoldable pub tells_by : (start : ℕ) → A.X → Told → A.X
+  tells_by start x (Item r) = tells_all x (missed_of start r)
+  tells_by start x (Refuted r) = A.settle r.note r.place x
 
   pub hears-failed : (start : ℕ) (x : A.X) (t : Trace) → hears_all A x t ≡ tells_all x (failed start t)
   unfolding hears_all hears tells_all failed
@@ -37,15 +45,14 @@ module _ (A : Account) where
   abbrev pub Steady : Type 0
   Steady = (x : A.X) (place at : ℕ) → A.told (A.told x place at) place at ≡ A.told x place at
 
-  tells-twice : Steady → (x : A.X) (any : Bool) (f : Failure) → tells_all x (failed_if any f ++ failed_if any f) ≡ tells_all x (failed_if any f)
-  unfolding tells_all failed_if
-  tells-twice s x true f = s x f.place f.at
-  tells-twice s x false f = refl
+  tells-twice : Steady → (start : ℕ) (x : A.X) (r : option.Option Miss) → tells_all x (missed_of start r ++ missed_of start r) ≡ tells_all x (missed_of start r)
+  unfolding tells_all missed_of
+  tells-twice s start x (Some r) = s x r.place r.at
+  tells-twice s start x None = refl
 
-  pub hears-missed : Steady → (start : ℕ) (x : A.X) (t : Trace) (r : Missed) → OnceOrTwice (failed start t) (missed_of start r) → hears_all A x t ≡ tells_all x (missed_of start r)
-  unfolding missed_of
+  pub hears-missed : Steady → (start : ℕ) (x : A.X) (t : Trace) (r : option.Option Miss) → OnceOrTwice (failed start t) (missed_of start r) → hears_all A x t ≡ tells_all x (missed_of start r)
   hears-missed s start x t r (inl e) = hears-failed start x t ∙ ap (tells_all x) e
-  hears-missed s start x t r (inr e) = hears-failed start x t ∙ ap (tells_all x) e ∙ tells-twice s x r.any (failing start r.at r.place)
+  hears-missed s start x t r (inr e) = hears-failed start x t ∙ ap (tells_all x) e ∙ tells-twice s start x r
 
   -- Where no `(?!` fails, a move tells what its events tell.
   pub hears-plain : (p : Program) (sub : List ℕ) (c : Configuration) (x : A.X) → (get_or p c.pc 0 ≡ 17 → ⊥)
@@ -94,13 +101,11 @@ bests-steady start x place at = by (ltb at unset)
     by false = refl
 
 -- what the code keeps after a move
-pub bests-missed : (start : ℕ) (x : Option Failure) (r : Missed) → tells_all (bests start) x (missed_of start r) ≡ better_if start x r
-unfolding missed_of better_if
-bests-missed start x r = by r.any
-  where
-    by : (b : Bool) → tells_all (bests start) x (failed_if b (failing start r.at r.place)) ≡ better_by b start x r.place r.at
-    by true = unfold tells_all failed_if better_by in refl
-    by false = unfold tells_all failed_if better_by in refl
+pub bests-told : (start : ℕ) (x : Option Failure) (t : Told) → tells_by (bests start) start x t ≡ kept_by start x t
+unfolding tells_by kept_by better_if missed_of tells_all
+bests-told start x (Item None) = refl
+bests-told start x (Item (Some r)) = refl
+bests-told start x (Refuted r) = refl
 
 -- where all positions are small, it is the greatest
 pub bests-all : (start : ℕ) (x : Option Failure) (t : Trace) → ((place at : ℕ) → In (miss place at) t → at < unset) → hears_all (bests start) x t ≡ greatest position x (failed start t)
@@ -125,13 +130,11 @@ marking-steady at x place there = by (eqb there at)
     by true = set_twice x place 1
     by false = refl
 
-pub marking-missed : (start at : ℕ) (x : List ℕ) (r : Missed) → tells_all (marking at) x (missed_of start r) ≡ marked_by r.any at x r.place r.at
-unfolding missed_of
-marking-missed start at x r = by r.any
-  where
-    by : (b : Bool) → tells_all (marking at) x (failed_if b (failing start r.at r.place)) ≡ marked_by b at x r.place r.at
-    by true = unfold tells_all failed_if marked_by in refl
-    by false = unfold tells_all failed_if marked_by in refl
+pub marking-told : (start at : ℕ) (x : List ℕ) (t : Told) → tells_by (marking at) start x t ≡ marked_by at x t
+unfolding tells_by marked_by missed_of tells_all
+marking-told start at x (Item None) = refl
+marking-told start at x (Item (Some r)) = refl
+marking-told start at x (Refuted r) = refl
 
 pub marking-all : (start at : ℕ) (x : List ℕ) (t : Trace) → hears_all (marking at) x t ≡ marked (places_at at (failed start t)) x
 unfolding hears_all hears failed places_at marked marked_if

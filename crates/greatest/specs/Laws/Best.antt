@@ -1,5 +1,6 @@
 -- Keeping the best over one list of failures after another.
-use Rattle.std.specs.Prelude.{◌≡◌, Bool, ℕ, ◌≤◌, ◌<◌, if◌then◌else◌}
+use Rattle.std.specs.Prelude as option
+use Rattle.std.specs.Prelude.{◌≡◌, Bool, None, Some, unwrap_or, ℕ, ◌≤◌, ◌<◌, if◌then◌else◌}
 use Rattle.std.proofs.Math.Path.{refl, ap}
 use Rattle.std.proofs.Common.{sym, ◌∙◌, inl, inr, arith}
 use mathlib.Core.List.{List, [], ◌∷◌, ◌++◌}
@@ -8,40 +9,26 @@ use Rattle.std.proofs.Math.Option.{Option, none, some}
 use borrow.Author.Tests.{lt-ltb, le-ltb, ltb-true, ltb-false}
 use Rattle.std.proofs.Math.Dec.{ltb}
 use Rattle.semantics.specs.Walk.{step, miss, end, Trace}
-use Rattle.semantics.specs.Explanations.{Failure, failed, greater, greatest, nowhere, or_nowhere, position, furthest, reach, closest}
+use Rattle.semantics.specs.Explanations.{Failure, failed, greater, greatest, or_nowhere, position, furthest, reach, closest}
 use Rattle.semantics.specs.Demands.{In}
 use Rattle.semantics.proofs.Laws.Failures.{greatest-append}
 use Rattle.greatest.specs.declared.greatest.Failed.{Failed}
 use Rattle.greatest.specs.declared.greatest.Best.{Best}
-use Rattle.greatest.specs.declared.leading.Kept.{Kept}
-use Rattle.greatest.specs.Leading.{kept_if, kept_of, listed}
-use Rattle.greatest.specs.Best.{failure_of, kept, Blank, Keeps, Finds}
+use Rattle.greatest.specs.Leading.{listed}
+use Rattle.greatest.specs.Best.{failure_of, furthest_of, closest_of, Blank, Keeps, Finds}
 
 -- One more failure ----------------------------------------------------------------
 
-module _ (by : Failure → ℕ) (any : Bool) (best x : Failed) where
-  pub first_one : any ≡ false → some (failure_of x) ≡ greater by (kept any best) (failure_of x)
-  unfolding kept greater
-  first_one e = rw e
+module _ (by : Failure → ℕ) (best x : Failed) where
+  pub greater-one : by (failure_of best) < by (failure_of x) → some (failure_of x) ≡ greater by (some (failure_of best)) (failure_of x)
+  unfolding greater
+  greater-one h = rw (lt-ltb (by (failure_of best)) (by (failure_of x)) h)
 
-  pub greater-one : any ≡ true → by (failure_of best) < by (failure_of x) → some (failure_of x) ≡ greater by (kept any best) (failure_of x)
-  unfolding kept greater
-  greater-one e h = rw (e, lt-ltb (by (failure_of best)) (by (failure_of x)) h)
-
-  pub no_greater : any ≡ true → by (failure_of x) ≤ by (failure_of best) → some (failure_of best) ≡ greater by (kept any best) (failure_of x)
-  unfolding kept greater
-  no_greater e h = rw (e, le-ltb (by (failure_of best)) (by (failure_of x)) h)
+  pub no_greater : by (failure_of x) ≤ by (failure_of best) → some (failure_of best) ≡ greater by (some (failure_of best)) (failure_of x)
+  unfolding greater
+  no_greater h = rw (le-ltb (by (failure_of best)) (by (failure_of x)) h)
 
 -- The greatest of one start ---------------------------------------------------------
-
--- what was kept of the walk from a start, as failures
-pub listed-none : (start : ℕ) (k : Kept) → k.any ≡ false → listed (kept_of start k) ≡ []
-unfolding listed kept_of kept_if
-listed-none start k e = rw e
-
-pub listed-one : (start : ℕ) (k : Kept) → k.any ≡ true → listed (kept_of start k) ≡ record { start = start; at = k.at; place = k.place } ∷ []
-unfolding listed kept_of kept_if
-listed-one start k e = rw e
 
 -- all failures of one start, each at it or behind
 abbrev Since : (start : ℕ) → Failure → Type 0
@@ -93,12 +80,11 @@ reach-grows start x y s t = cases (ltb x.at y.at) refl
     cases false e = let a = ltb-false x.at y.at e in le-ltb (reach x) (reach y) (omega (arith, s.0, s.1, t.0, t.1))
 
 -- keeping the greatest of a walk is keeping them all
-pub keeps-start : (start : ℕ) (l : List Failure) (b r : Best) → SinceAll start l → Keeps b (listed (greatest position none l)) r → Keeps b l r
+pub keeps-start : (start : ℕ) (l : List Failure) (b r : option.Option Best) → SinceAll start l → Keeps b (listed (greatest position none l)) r → Keeps b l r
 unfolding listed greatest
 keeps-start start l b r s k = record {
-  far = k.far ∙ sym (greatest-start position start (λ x y _ _. refl) (kept b.any b.furthest) none l tt s);
-  near = k.near ∙ sym (greatest-start reach start (reach-grows start) (kept b.any b.closest) none l tt s);
-  unchanged = k.unchanged;
+  far = k.far ∙ sym (greatest-start position start (λ x y _ _. refl) (furthest_of b) none l tt s);
+  near = k.near ∙ sym (greatest-start reach start (reach-grows start) (closest_of b) none l tt s);
 }
 
 -- the failures of a walk are
@@ -111,33 +97,26 @@ walk-since start (end s ∷ t) h = walk-since start t (λ place at i. h place at
 
 -- Failures one after another -------------------------------------------------------
 
-clash : ◌≡◌ {A = Bool} true false → ◌≡◌ {A = ℕ} 0 1
-clash e = cc
+pub keeps-one : (b r : Best) (x : Failure) → some (failure_of r.furthest) ≡ greater position (some (failure_of b.furthest)) x → some (failure_of r.closest) ≡ greater reach (some (failure_of b.closest)) x → Keeps (Some b) (x ∷ []) (Some r)
+unfolding furthest_of closest_of greatest
+keeps-one b r x far near = record { far = far; near = near }
 
-pub keeps-one : (b r : Best) (x : Failure) → r.any ≡ true → some (failure_of r.furthest) ≡ greater position (kept b.any b.furthest) x → some (failure_of r.closest) ≡ greater reach (kept b.any b.closest) x → Keeps b (x ∷ []) r
-unfolding kept greatest
-keeps-one b r x e f n = record { far = rw e f; near = rw e n; unchanged = λ q. absurd (omega (arith, clash (sym e ∙ q))) }
+pub keeps-first : (x : Failed) → Keeps None (failure_of x ∷ []) (Some (record { furthest = x; closest = x }))
+unfolding furthest_of closest_of greatest greater
+keeps-first x = record { far = refl; near = refl }
 
-pub keeps-none : (b : Best) → Keeps b [] b
+pub keeps-none : (b : option.Option Best) → Keeps b [] b
 unfolding greatest
-keeps-none b = record { far = refl; near = refl; unchanged = λ e. refl }
+keeps-none b = record { far = refl; near = refl }
 
-pub keeps-more : {b r s : Best} (l m : List Failure) → Keeps b l r → Keeps r m s → Keeps b (l ++ m) s
+pub keeps-more : {b r s : option.Option Best} (l m : List Failure) → Keeps b l r → Keeps r m s → Keeps b (l ++ m) s
 keeps-more {b} {r} {s} l m x y = record {
-  far = y.far ∙ ap (λ (o : Option Failure). greatest position o m) x.far ∙ sym (greatest-append position (kept b.any b.furthest) l m);
-  near = y.near ∙ ap (λ (o : Option Failure). greatest reach o m) x.near ∙ sym (greatest-append reach (kept b.any b.closest) l m);
-  unchanged = λ e. (let q = y.unchanged e in q ∙ x.unchanged (sym (ap (λ (z : Best). z.any) q) ∙ e));
+  far = y.far ∙ ap (λ (o : Option Failure). greatest position o m) x.far ∙ sym (greatest-append position (furthest_of b) l m);
+  near = y.near ∙ ap (λ (o : Option Failure). greatest reach o m) x.near ∙ sym (greatest-append reach (closest_of b) l m);
 }
 
--- what is kept is told, once it began with nothing: it is the failure itself, or nothing failed and it is still what it was
-told : (any : Bool) (x : Failed) (o : Option Failure) → kept any x ≡ o → (any ≡ false → failure_of x ≡ nowhere) → failure_of x ≡ or_nowhere o
-unfolding kept or_nowhere
-told true x o e h = rw (← e)
-told false x o e h = rw (← e) (h refl)
-
-pub keeps-finds : {b r : Best} (l : List Failure) → Blank b → Keeps b l r → Finds l r
-unfolding kept furthest closest
-keeps-finds {b} {r} l n k = record {
-  far = told r.any r.furthest (greatest position none l) (rw n.none_yet at k.far) (λ e. ap (λ (z : Best). failure_of z.furthest) (k.unchanged e) ∙ n.far);
-  near = told r.any r.closest (greatest reach none l) (rw n.none_yet at k.near) (λ e. ap (λ (z : Best). failure_of z.closest) (k.unchanged e) ∙ n.near);
-}
+-- what is kept is told, once it began with nothing: it is the failure itself, or nothing failed
+pub keeps-finds : (l : List Failure) (n : Best) (r : option.Option Best) → Blank n → Keeps None l r → Finds l (unwrap_or r n)
+unfolding furthest_of closest_of furthest closest or_nowhere
+keeps-finds l n None blank k = record { far = blank.far ∙ ap or_nowhere k.far; near = blank.near ∙ ap or_nowhere k.near }
+keeps-finds l n (Some b) blank k = record { far = ap or_nowhere k.far; near = ap or_nowhere k.near }

@@ -1,19 +1,15 @@
 -- What the code keeps of the walk from one start, return by return.
-use Rattle.std.specs.Prelude.{◌≡◌, Bool, true, false, ℕ, suc, ◌+◌, ◌≤◌, ◌<◌}
-use Rattle.std.proofs.Math.Option.{Option, none}
+use Rattle.std.specs.Prelude as option
+use Rattle.std.specs.Prelude.{◌≡◌, Bool, true, false, None, Some, ℕ, suc, ◌+◌, ◌≤◌, ◌<◌}
+use Rattle.std.proofs.Math.Option.{Option}
 use Rattle.std.proofs.Common.{arith, add-one}
 use borrow.Author.Tests.{lt-ltb, le-ltb}
 use Rattle.syntax.specs.Limits.{unset}
 use Rattle.semantics.specs.Explanations.{Failure, greater}
-use Rattle.plain.specs.declared.Missed.{Missed}
-use Rattle.greatest.specs.declared.leading.Kept.{Kept}
-use Rattle.greatest.specs.Leading.{better, would_lead, note_of, settled, kept_if, kept_of, better_by, better_if, kept_by}
+use Rattle.plain.specs.declared.Miss.{Miss}
+use Rattle.greatest.specs.Leading.{better, would_lead, note_of, settled, kept_of}
 
-module _ (start : ℕ) (k : Kept) where
-  pub kept-none : k.any ≡ false → kept_of start k ≡ none
-  unfolding kept_of kept_if
-  kept-none e = rw e
-
+module _ (start : ℕ) (k : option.Option Miss) where
   -- The note ------------------------------------------------------------------------
 
   module _ (at : ℕ) where
@@ -22,76 +18,48 @@ module _ (start : ℕ) (k : Kept) where
     note-nowhere e = rw (le-ltb at 4294967295 (omega arith))
 
     module _ (somewhere : at < 4294967295) where
-      pub note-first : k.any ≡ false → at + 1 ≡ note_of (kept_of start k) at
-      unfolding note_of kept_of kept_if would_lead unset
-      note-first e = rw (lt-ltb at 4294967295 somewhere, e) (add-one at)
+      pub note-greater : would_lead (kept_of start k) at ≡ true → at + 1 ≡ note_of (kept_of start k) at
+      unfolding note_of unset
+      note-greater e = rw (lt-ltb at 4294967295 somewhere, e) (add-one at)
 
-      pub note-greater : k.any ≡ true → k.at < at → at + 1 ≡ note_of (kept_of start k) at
-      unfolding note_of kept_of kept_if would_lead unset
-      note-greater e h = rw (lt-ltb at 4294967295 somewhere, e, lt-ltb k.at at h) (add-one at)
+      pub note-not : would_lead (kept_of start k) at ≡ false → 0 ≡ note_of (kept_of start k) at
+      unfolding note_of unset
+      note-not e = rw (lt-ltb at 4294967295 somewhere, e)
 
-      pub note-not : k.any ≡ true → at ≤ k.at → 0 ≡ note_of (kept_of start k) at
-      unfolding note_of kept_of kept_if would_lead unset
-      note-not e h = rw (lt-ltb at 4294967295 somewhere, e, le-ltb k.at at h)
+-- One more failure ------------------------------------------------------------------
 
-  -- One more failure ------------------------------------------------------------------
+module _ (start place at : ℕ) where
+  pub lead-nowhere : (k : option.Option Miss) → at ≡ 4294967295 → kept_of start k ≡ better start (kept_of start k) place at
+  unfolding better unset
+  lead-nowhere k e = rw (le-ltb at 4294967295 (omega arith))
 
-  module _ (place at : ℕ) where
-    pub lead-nowhere : at ≡ 4294967295 → kept_of start k ≡ better start (kept_of start k) place at
-    unfolding better unset
-    lead-nowhere e = rw (le-ltb at 4294967295 (omega arith))
+  module _ (somewhere : at < 4294967295) where
+    pub lead-greater : (k : option.Option Miss) → would_lead (kept_of start k) at ≡ true → kept_of start (Some (record { at = at; place = place })) ≡ better start (kept_of start k) place at
+    unfolding better kept_of greater would_lead unset
+    lead-greater None e = rw (lt-ltb at 4294967295 somewhere)
+    lead-greater (Some y) e = rw (lt-ltb at 4294967295 somewhere, e)
 
-    module _ (somewhere : at < 4294967295) where
-      pub lead-first : k.any ≡ false → kept_of start (record { any = true; at = at; place = place }) ≡ better start (kept_of start k) place at
-      unfolding better kept_of kept_if greater unset
-      lead-first e = rw (lt-ltb at 4294967295 somewhere, e)
+    pub lead-not : (k : option.Option Miss) → would_lead (kept_of start k) at ≡ false → kept_of start k ≡ better start (kept_of start k) place at
+    unfolding better kept_of greater would_lead unset
+    lead-not None e = let z : ◌≡◌ {A = ℕ} 0 1 = cc in absurd (omega arith)
+    lead-not (Some y) e = rw (lt-ltb at 4294967295 somewhere, e)
 
-      pub lead-greater : k.any ≡ true → k.at < at → kept_of start (record { any = true; at = at; place = place }) ≡ better start (kept_of start k) place at
-      unfolding better kept_of kept_if greater unset
-      lead-greater e h = rw (lt-ltb at 4294967295 somewhere, e, lt-ltb k.at at h)
+-- A `(?!` that failed ---------------------------------------------------------------
 
-      pub lead-not : k.any ≡ true → at ≤ k.at → kept_of start k ≡ better start (kept_of start k) place at
-      unfolding better kept_of kept_if greater unset
-      lead-not e h = rw (lt-ltb at 4294967295 somewhere, e, le-ltb k.at at h)
+module _ (start note place : ℕ) where
+  pub settle-none : (x : Option Failure) → note ≡ 0 → x ≡ settled start note place x
+  unfolding settled
+  settle-none x e = rw e
 
-  -- A move --------------------------------------------------------------------------
+  module _ (at : ℕ) (is : note ≡ suc at) where
+    pub settle-first : kept_of start (Some (record { at = at; place = place })) ≡ settled start note place (kept_of start None)
+    unfolding settled kept_of
+    settle-first = rw is
 
-  module _ (r : Missed) where
-    pub lead-nothing : r.any ≡ false → kept_of start k ≡ better_if start (kept_of start k) r
-    unfolding better_if better_by
-    lead-nothing e = rw e
+    pub settle-later : (y : Miss) → at < y.at → kept_of start (Some y) ≡ settled start note place (kept_of start (Some y))
+    unfolding settled kept_of
+    settle-later y h = rw (is, lt-ltb at y.at h)
 
-    pub lead-one : r.any ≡ true → better start (kept_of start k) r.place r.at ≡ better_if start (kept_of start k) r
-    unfolding better_if better_by
-    lead-one e = rw e
-
-  -- A `(?!` that failed ---------------------------------------------------------------
-
-  module _ (note place : ℕ) where
-    pub settle-none : note ≡ 0 → kept_of start k ≡ settled start note place (kept_of start k)
-    unfolding settled
-    settle-none e = rw e
-
-    module _ (at : ℕ) (is : note ≡ suc at) where
-      pub settle-first : k.any ≡ false → kept_of start (record { any = true; at = at; place = place }) ≡ settled start note place (kept_of start k)
-      unfolding settled kept_of kept_if
-      settle-first e = rw (is, e)
-
-      pub settle-later : k.any ≡ true → at < k.at → kept_of start k ≡ settled start note place (kept_of start k)
-      unfolding settled kept_of kept_if
-      settle-later e h = rw (is, e, lt-ltb at k.at h)
-
-      pub settle-here : k.any ≡ true → k.at ≤ at → kept_of start (record { any = true; at = at; place = place }) ≡ settled start note place (kept_of start k)
-      unfolding settled kept_of kept_if
-      settle-here e h = rw (is, e, le-ltb at k.at h)
-
--- At once, or by its note -------------------------------------------------------------
-
-module _ (start : ℕ) (x : Option Failure) (r : Missed) (late : Bool) where
-  pub kept-late : late ≡ true → kept_by late start x r ≡ settled start r.at r.place x
-  unfolding kept_by
-  kept-late e = rw e
-
-  pub kept-now : late ≡ false → kept_by late start x r ≡ better_if start x r
-  unfolding kept_by
-  kept-now e = rw e
+    pub settle-here : (y : Miss) → y.at ≤ at → kept_of start (Some (record { at = at; place = place })) ≡ settled start note place (kept_of start (Some y))
+    unfolding settled kept_of
+    settle-here y h = rw (is, le-ltb at y.at h)

@@ -1,7 +1,7 @@
 -- A search: it knows as much after a turn as before, and with nothing left it knows the opening.
-use Rattle.std.specs.Prelude.{◌≡◌, refl, List, [], ◌∷◌, ◌++◌, ◌⊎◌, Bool, true, false, ◌&&◌, ◌||◌, ℕ, zero, suc, ◌+◌, ◌-◌, ◌≤◌, ◌<◌, length, get_or, drop, set, ltb}
+use Rattle.std.specs.Prelude.{◌≡◌, refl, List, [], ◌∷◌, ◌++◌, Bool, true, false, ◌&&◌, ◌||◌, ℕ, zero, suc, ◌+◌, ◌-◌, ◌≤◌, ◌<◌, length, get_or, drop, set, ltb}
 use Rattle.std.proofs.Common.{sym, ◌∙◌, add-one, length-set, get_or-set_same, get_or-set_other, ltb-true}
-use Rattle.std.proofs.Math.Logic.{inl, inr, ⊎_elim}
+use Rattle.std.proofs.Math.Logic.{inr, ⊎_elim}
 use native.Mathlib.Omega.{arith}
 use Rattle.charset.specs.Class.{has}
 use Rattle.syntax.specs.Read.{byte}
@@ -9,7 +9,7 @@ use Rattle.machine.specs.Moves.{Bytes, takes}
 use Rattle.machine.specs.Laws.Extent.{byte_small}
 use Rattle.openings.specs.declared.finding.Search.{Search}
 use Rattle.openings.specs.Openings.{Outside, Skips}
-use Rattle.openings.specs.Failing.{AllFail, Reduces, nobody, pending_of, waiting, counted, pushed, Widened, Told, Lost, Knows, Turned}
+use Rattle.openings.specs.Failing.{AllFail, Reduces, nobody, pending_of, waiting, counted, pushed, Widened, Told, Follows}
 use Rattle.openings.specs.Laws.Leading.{fails-until, all_split}
 
 -- Nodes that wait -----------------------------------------------------------------------
@@ -81,43 +81,40 @@ told-on p entry s r pc rest f nexts c top red now cost held low narrow t = recor
       rw z at (t.tells sub at (c + x.0 + x.1) bytes l y.0 (rw top (c + x.0, x.1, refl, red.fails sub at x.0 l y.1 x.3, x.4)));
 }
 
-pub turned-lost : (p : List ℕ) (s r : Search) → Lost r → Turned p s r
-turned-lost p s r l = record { few = omega (arith, l.1); follows = λ entry t. inl l }
-
 -- One law for each thing that may be seen of the topmost node.
 module _ (p : List ℕ) (s : Search) (h : 1 ≤ s.height) (room : s.height + 1 ≤ 16) where
   abbrev top : ℕ
   top = get_or s.pending (s.height - 1) 0
 
   -- the topmost node gives way to no node, and to its bytes
-  done : (r : Search) (f : ℕ → Bool) (c : ℕ) → r.pending ≡ s.pending → r.height ≡ s.height - 1 → r.cost ≡ s.cost + c → Narrows r s f → Reduces p top f [] c → Turned p s r
+  done : (r : Search) (f : ℕ → Bool) (c : ℕ) → r.pending ≡ s.pending → r.height ≡ s.height - 1 → r.cost ≡ s.cost + c → Narrows r s f → Reduces p top f [] c → Follows p s r
   done r f c e₀ e₁ e₂ narrow red = record {
     few = omega (arith, red.few);
-    follows = λ entry t. inr (told-on p entry s r top (pending_of s.pending (s.height - 1)) f [] c (pending-popped s.pending s.height h) red (rw (e₀, e₁)) e₂ (rw e₀ t.held) (omega arith) narrow t);
+    follows = λ entry t. told-on p entry s r top (pending_of s.pending (s.height - 1)) f [] c (pending-popped s.pending s.height h) red (rw (e₀, e₁)) e₂ (rw e₀ t.held) (omega arith) narrow t;
   }
 
   -- and to one node
-  gone-on : (r : Search) (f : ℕ → Bool) (c next : ℕ) → r.pending ≡ set s.pending (s.height - 1) next → r.height ≡ s.height - 1 + 1 → r.cost ≡ s.cost + c → Narrows r s f → Reduces p top f (next ∷ []) c → Turned p s r
+  gone-on : (r : Search) (f : ℕ → Bool) (c next : ℕ) → r.pending ≡ set s.pending (s.height - 1) next → r.height ≡ s.height - 1 + 1 → r.cost ≡ s.cost + c → Narrows r s f → Reduces p top f (next ∷ []) c → Follows p s r
   gone-on r f c next e₀ e₁ e₂ narrow red = record {
     few = omega (arith, red.few);
     follows = λ entry t.
         let l : s.height - 1 < length s.pending = omega (arith, t.held) in
-        inr (told-on p entry s r top (pending_of s.pending (s.height - 1)) f (next ∷ []) c (pending-popped s.pending s.height h) red (rw (e₀, e₁) (pending-pushed s.pending (s.height - 1) next l)) e₂ (rw e₀ (rw length-set t.held)) (omega arith) narrow t);
+        told-on p entry s r top (pending_of s.pending (s.height - 1)) f (next ∷ []) c (pending-popped s.pending s.height h) red (rw (e₀, e₁) (pending-pushed s.pending (s.height - 1) next l)) e₂ (rw e₀ (rw length-set t.held)) (omega arith) narrow t;
   }
 
-  pub turned-leaf : (c : ℕ) → Reduces p top nobody [] c → Turned p s (counted s c)
+  pub turned-leaf : (c : ℕ) → Reduces p top nobody [] c → Follows p s (counted s c)
   turned-leaf c red = done (counted s c) nobody c refl refl refl (narrows_same (counted s c) s refl refl) red
 
-  pub turned-byte : (base c : ℕ) (r : Search) → Widened p (counted s c) base r → Reduces p top (has (drop base p)) [] c → Turned p s r
+  pub turned-byte : (base c : ℕ) (r : Search) → Widened p (counted s c) base r → Reduces p top (has (drop base p)) [] c → Follows p s r
   turned-byte base c r w red = done r (has (drop base p)) c w.pending w.height w.cost (narrows-wider p r s base w.any w.both) red
 
-  pub turned_on : (c next : ℕ) → Reduces p top nobody (next ∷ []) c → Turned p s (pushed (counted s c) next)
+  pub turned_on : (c next : ℕ) → Reduces p top nobody (next ∷ []) c → Follows p s (pushed (counted s c) next)
   turned_on c next red = gone-on (pushed (counted s c) next) nobody c next refl refl refl (narrows_same (pushed (counted s c) next) s refl refl) red
 
-  pub turned-byte-on : (base c next : ℕ) (u : Search) → Widened p (counted s c) base u → Reduces p top (has (drop base p)) (next ∷ []) c → Turned p s (pushed u next)
+  pub turned-byte-on : (base c next : ℕ) (u : Search) → Widened p (counted s c) base u → Reduces p top (has (drop base p)) (next ∷ []) c → Follows p s (pushed u next)
   turned-byte-on base c next u w red = gone-on (pushed u next) (has (drop base p)) c next (rw (w.pending, w.height)) (rw w.height) w.cost (narrows-wider p (pushed u next) s base w.any w.both) red
 
-  pub turned-both : (c first second : ℕ) → Reduces p top nobody (first ∷ second ∷ []) c → Turned p s (pushed (pushed (counted s c) second) first)
+  pub turned-both : (c first second : ℕ) → Reduces p top nobody (first ∷ second ∷ []) c → Follows p s (pushed (pushed (counted s c) second) first)
   turned-both c first second red =
       let r = pushed (pushed (counted s c) second) first in
       record {
@@ -125,8 +122,8 @@ module _ (p : List ℕ) (s : Search) (h : 1 ≤ s.height) (room : s.height + 1 �
         follows = λ entry t.
             let l : s.height - 1 < length s.pending = omega (arith, t.held) in
             let l' : s.height - 1 + 1 < length (set s.pending (s.height - 1) second) = rw length-set (omega (arith, t.held)) in
-            inr (told-on p entry s r top (pending_of s.pending (s.height - 1)) nobody (first ∷ second ∷ []) c (pending-popped s.pending s.height h) red
-            (rw (pending-pushed (set s.pending (s.height - 1) second) (s.height - 1 + 1) first l', pending-pushed s.pending (s.height - 1) second l)) refl (simp length-set t.held) (omega arith) (narrows_same r s refl refl) t);
+            told-on p entry s r top (pending_of s.pending (s.height - 1)) nobody (first ∷ second ∷ []) c (pending-popped s.pending s.height h) red
+            (rw (pending-pushed (set s.pending (s.height - 1) second) (s.height - 1 + 1) first l', pending-pushed s.pending (s.height - 1) second l)) refl (simp length-set t.held) (omega arith) (narrows_same r s refl refl) t;
       }
 
 -- Begin and end ----------------------------------------------------------------------------------
@@ -143,22 +140,13 @@ told-first p entry s held is one none = record {
       rw z at x.3;
 }
 
-module _ (p : List ℕ) (entry : ℕ) (s : Search) (k : Knows p entry s) where
-  pub knows-low : s.height ≤ 16
-  knows-low = ⊎_elim (λ l. omega (arith, l.0)) (λ t. t.low) k
-
-  pub knows_on : (r : Search) → 0 < s.height → Turned p s r → Knows p entry r
-  knows_on r h t = ⊎_elim (λ l. absurd (omega (arith, l.0))) (t.follows entry) k
-
+module _ (p : List ℕ) (entry : ℕ) (s : Search) (t : Told p entry s) where
   -- with nothing left, the rule fails
-  pub knows-all : (budget : ℕ) → s.height ≡ 0 → s.cost ≤ budget → (s.cost ≡ 0) ⊎ Skips p entry budget s.set s.any s.cost
+  pub told-all : (budget : ℕ) → s.height ≡ 0 → s.cost ≤ budget → Skips p entry budget s.set s.any s.cost
   unfolding pending_of
-  knows-all budget none few =
-      ⊎_elim (λ l. inl l.1)
-      (λ t. inr (record {
-        few = few;
-        tells = λ sub regs room first tr begin bytes x l o.
-            let z : s.cost + 0 ≡ s.cost = omega arith in
-            fails-until p sub entry begin s.cost room budget first regs tr (rw z at (t.tells sub begin 0 bytes l o (rw none refl))) few x;
-      }))
-      k
+  told-all budget none few = record {
+    few = few;
+    tells = λ sub regs room first tr begin bytes x l o.
+        let z : s.cost + 0 ≡ s.cost = omega arith in
+        fails-until p sub entry begin s.cost room budget first regs tr (rw z at (t.tells sub begin 0 bytes l o (rw none refl))) few x;
+  }

@@ -10,7 +10,7 @@ overflow_add-result c = let y = c.break_at-found.ensures in
     omega (arith, e, y.inside (λ z. omega (arith, e, z)), c.requires.2)
 
 pub returns-then-found-eq7 : goal.returns-then-found-eq7
-returns-then-found-eq7 c = tells-feed c.args.code.now c.args.sub.now c.args.regs.now c.args.m _ c.requires.0 c.break_at-found.result c.break_at-found.ensures refl c.if-found-eq7.true refl refl
+returns-then-found-eq7 c = tells-feed c.args.code.now c.args.sub.now c.args.regs.now c.args.m _ c.requires.0 c.break_at-found.result c.break_at-found.ensures c.if-found-eq7.true refl
 
 pub returns : goal.returns
-returns c = tells-return c.args.code.now c.args.sub.now c.args.regs.now c.args.m _ c.requires.0 c.break_at-found.result c.break_at-found.ensures refl c.if-found-eq7.false refl refl
+returns c = tells-return c.args.code.now c.args.sub.now c.args.regs.now c.args.m _ c.requires.0 c.break_at-found.result c.break_at-found.ensures c.if-found-eq7.false c.miss_unless.ensures

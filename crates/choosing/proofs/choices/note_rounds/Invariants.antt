@@ -3,8 +3,5 @@ use lib.ListN.{length}
 use Rattle.choosing.specs.Logs.{Within}
 use Rattle.choosing.proofs.choices.note_rounds.Given as goal
 
-abbrev pub invariant-loop-left : goal.invariant-loop-left
-invariant-loop-left l = Within l.proposal l.ways l.on × (length l.proposal ≡ length l.initial.proposal) × (length l.ways ≡ length l.initial.ways)
-
-abbrev pub decreases-loop-left : goal.decreases-loop-left
-decreases-loop-left l = l.left
+abbrev pub invariant-loop : goal.invariant-loop
+invariant-loop l = Within l.proposal l.ways l.on × (length l.proposal ≡ length l.initial.proposal) × (length l.ways ≡ length l.initial.ways)

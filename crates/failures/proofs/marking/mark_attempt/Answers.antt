@@ -18,4 +18,4 @@ pub returns : goal.returns
 unfolding marks
 returns c = λ x st.
     (let b = c.shared_slice_known-2-1 in
-    c.mark_start.ensures _ _ _ (plain-begins _ _ (marking c.args.attempt.at) x _ _ _ _ _ _ st (λ i. omega (arith, c.type_inv.sub i)) c.requires.sized.1 (c.requires.fruitless x st) c.requires.sized.2 c.requires.sized.0.work_fits c.requires.sized.0.budget_small) ∙ marking-all c.args.attempt.start c.args.attempt.at _ _ ∙ ap (marked _) c.clear_marks.ensures)
+    c.mark_start.ensures _ _ _ (plain-begins _ _ (marking c.args.attempt.at) x _ _ _ _ _ _ st (λ i. omega (arith, c.type_inv.sub i)) c.requires.sized.1 (c.requires.fruitless x st) c.requires.sized.2 c.requires.sized.0.work_fits c.requires.sized.0.budget_small) ∙ marking-all c.args.attempt.start c.args.attempt.at _ _ ∙ ap (marked _) (c.fill.ensures.after (λ y e. e)))

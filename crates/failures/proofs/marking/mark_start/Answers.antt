@@ -3,8 +3,7 @@
 use mathlib.Core.Path.{refl, sym, ◌∙◌}
 use native.Mathlib.Omega.{arith}
 use Rattle.failures.specs.Accounts.{marking}
-use Rattle.failures.specs.Laws.Accounts.{marking-steady, marking-missed}
-use Rattle.failures.specs.Laws.Marks.{marks-late}
+use Rattle.failures.specs.Laws.Accounts.{marking-steady, marking-told}
 use Rattle.failures.proofs.Trying.{trying_start, trying-end, trying-fits, trying-stack, trying-low, trying-high, trying-no-end, trying-some, trying-on}
 use Rattle.failures.proofs.marking.mark_start.Goals as goal
 
@@ -28,11 +27,8 @@ loop-head-smaller c = omega (arith, trying-some c.loop-head.invariant.0 c.loop-h
 
 pub loop-head-preserved : goal.loop-head-preserved
 loop-head-preserved c = let k = c.try_next-turn in (
-  trying-on c.loop-head.invariant.0 c.loop-head-test.true (marking-steady c.args.at) k.result.late k.result.missed k.ensures.tried _
-      (λ e. c.mark.ensures ∙ marks-late _ _ _ _ _ _ _ _ e k.ensures.tried)
-      (λ e. c.mark.ensures ∙ sym (marking-missed c.args.begin c.args.at _ k.result.missed))
-      _ _ k.result.head k.ensures.head_after k.auto.regs k.auto.work,
-  c.mark.auto.marks ∙ c.loop-head.invariant.1,
+  trying-on c.loop-head.invariant.0 c.loop-head-test.true (marking-steady c.args.at) k.result.told k.ensures.tried _ (c.mark_told.ensures ∙ sym (marking-told c.args.begin c.args.at _ k.result.told)) _ _ k.result.head k.ensures.head_after k.auto.regs k.auto.work,
+  c.mark_told.auto.marks ∙ c.loop-head.invariant.1,
 )
 
 pub shape_of-regs : goal.shape_of-regs

@@ -2,10 +2,10 @@
 use Rattle.greatest.specs.Leading.{kept_by}
 use Rattle.failures.proofs.walking.keep_on.Goals as goal
 
-pub returns-then-late : goal.returns-then-late
+pub returns-in-Item : goal.returns-in-Item
 unfolding kept_by
-returns-then-late c = λ start. rw c.if-late.true (c.settle.ensures start)
+returns-in-Item c = λ start. rw c.in-Item.is (c.lead.ensures start)
 
-pub returns : goal.returns
+pub returns-in-Refuted : goal.returns-in-Refuted
 unfolding kept_by
-returns c = λ start. rw c.if-late.false (c.lead.ensures start)
+returns-in-Refuted c = λ start. rw c.in-Refuted.is (c.settle.ensures start)

@@ -1,5 +1,5 @@
 -- `walk_all` meets its contract: the loop's invariant is that of Starts. The measure is the starts that are left.
-use mathlib.Core.Path.{◌∙◌, ap}
+use mathlib.Core.Path.{refl, ◌∙◌, ap}
 use mathlib.Core.List.{List}
 use Prim.Native.Nat.{ℕ}
 use native.Mathlib.Omega.{arith}
@@ -35,4 +35,4 @@ pub shape_of-work : goal.shape_of-work
 shape_of-work c = c.loop-begin.invariant.wide
 
 pub returns : goal.returns
-returns c = (walked_all c.loop-begin.invariant c.blank-best.ensures (omega (arith, c.loop-begin-test.false)), c.loop-begin.invariant.same)
+returns c = (λ x s. rw c.unwrap_or.ensures (walked_all c.loop-begin.invariant refl _ c.blank.ensures (omega (arith, c.loop-begin-test.false)) x s), c.loop-begin.invariant.same)

@@ -1,16 +1,16 @@
 -- The loop's invariant: the machine is at a plain walk's rest, and what is kept is what was told by now. The measure is counted down with the moves.
-use mathlib.Core.Path.{sym, ◌∙◌}
+use mathlib.Core.Path.{refl, sym, ◌∙◌}
 use mathlib.Core.Option.{none}
 use native.Mathlib.Omega.{arith}
 use Rattle.failures.specs.Accounts.{bests}
 use Rattle.greatest.specs.Leading.{kept_of}
-use Rattle.failures.specs.Laws.Accounts.{bests-steady, bests-missed}
-use Rattle.greatest.specs.Laws.Leading.{kept-late, kept-now}
+use Rattle.failures.specs.Laws.Accounts.{bests-steady, bests-told}
 use Rattle.failures.proofs.Trying.{trying_start, trying-end, trying-fits, trying-stack, trying-low, trying-high, trying-no-end, trying-some, trying-on}
 use Rattle.failures.proofs.walking.walk_start.Goals as goal
 
 pub loop-head-init : goal.loop-head-init
-loop-head-init c = trying_start c.args.code.now c.args.sub.now c.args.regs.now c.args.work.now c.args.entry c.args.begin c.args.budget (bests c.args.begin) none c.requires.by_index _ c.start-head.ensures _ (c.nothing-kept.ensures c.args.begin)
+unfolding kept_of
+loop-head-init c = trying_start c.args.code.now c.args.sub.now c.args.regs.now c.args.work.now c.args.entry c.args.begin c.args.budget (bests c.args.begin) none c.requires.by_index _ c.start-head.ensures _ refl
 
 pub try_next-turn-requires : goal.try_next-turn-requires
 try_next-turn-requires c = let g = c.loop-head.invariant in
@@ -30,10 +30,8 @@ loop-head-smaller c = omega (arith, trying-some c.loop-head.invariant c.loop-hea
 pub loop-head-preserved : goal.loop-head-preserved
 loop-head-preserved c = let b = c.args.begin in
     let k = c.try_next-turn in
-    let x = kept_of b c.loop-head.kept in
-    trying-on c.loop-head.invariant c.loop-head-test.true (bests-steady b) k.result.late k.result.missed k.ensures.tried _
-    (λ e. c.keep_on-kept.ensures b ∙ kept-late b x k.result.missed k.result.late e)
-    (λ e. c.keep_on-kept.ensures b ∙ kept-now b x k.result.missed k.result.late e ∙ sym (bests-missed b x k.result.missed))
+    trying-on c.loop-head.invariant c.loop-head-test.true (bests-steady b) k.result.told k.ensures.tried _
+    (c.keep_on-kept.ensures b ∙ sym (bests-told b (kept_of b c.loop-head.kept) k.result.told))
     _ _ k.result.head (rw (c.note_of-note.ensures b) at k.ensures.head_after) k.auto.regs k.auto.work
 
 pub shape_of-regs : goal.shape_of-regs

@@ -49,38 +49,38 @@ returns-then-kind-eq-END c = end-arrived c.args.code.now c.args.sub.now c.args.c
 pub take_turn-requires : goal.take_turn-requires
 take_turn-requires c = (safe-here c.args.code.now c.args.sub.now c.loop-entry.invariant.0.here.1, c.if-kind-eq-END.false, c.requires.1)
 
-pub shape_of-regs-then-left-n : goal.shape_of-regs-then-left-n
-shape_of-regs-then-left-n c = c.regs-1.given ∙ c.loop-entry.invariant.0.size
+pub shape_of-regs-then-left-steps : goal.shape_of-regs-then-left-steps
+shape_of-regs-then-left-steps c = c.regs-1.given ∙ c.loop-entry.invariant.0.size
 
-pub returns-then-left-n : goal.returns-then-left-n
-returns-then-left-n c = (let w = rw c.in-Lost.is at c.take_turn.ensures in lost-spent c.args.code.now c.args.sub.now c.args.choices.now c.args.regs.now c.args.entry c.args.start c.args.budget c.loop-entry.regs c.loop-entry.pc c.loop-entry.at c.loop-entry.read c.loop-entry.left c.loop-entry.invariant.0 _ c.loop-entry.regs (sym w) (omega (arith, c.if-left-n.true)))
+pub returns-then-left-steps : goal.returns-then-left-steps
+returns-then-left-steps c = (let w = rw c.in-Err.is at c.take_turn.ensures in lost-spent c.args.code.now c.args.sub.now c.args.choices.now c.args.regs.now c.args.entry c.args.start c.args.budget c.loop-entry.regs c.loop-entry.pc c.loop-entry.at c.loop-entry.read c.loop-entry.left c.loop-entry.invariant.0 _ c.loop-entry.regs (sym w) (omega (arith, c.if-left-steps.true)))
 
-pub overflow_sub-result-in-Lost : goal.overflow_sub-result-in-Lost
-overflow_sub-result-in-Lost c = omega (arith, c.loop-entry.invariant.0.few)
+pub overflow_sub-result-in-Err : goal.overflow_sub-result-in-Err
+overflow_sub-result-in-Err c = omega (arith, c.loop-entry.invariant.0.few)
 
-pub overflow_add-result-in-Lost : goal.overflow_add-result-in-Lost
-overflow_add-result-in-Lost c = omega (arith, c.loop-entry.invariant.0.few, c.if-left-n.false)
+pub overflow_add-result-in-Err : goal.overflow_add-result-in-Err
+overflow_add-result-in-Err c = omega (arith, c.loop-entry.invariant.0.few, c.if-left-steps.false)
 
-pub shape_of-regs-in-Lost : goal.shape_of-regs-in-Lost
-shape_of-regs-in-Lost c = c.regs-1.given ∙ c.loop-entry.invariant.0.size
+pub shape_of-regs-in-Err : goal.shape_of-regs-in-Err
+shape_of-regs-in-Err c = c.regs-1.given ∙ c.loop-entry.invariant.0.size
 
-pub returns-in-Lost : goal.returns-in-Lost
-returns-in-Lost c = (let w = rw c.in-Lost.is at c.take_turn.ensures in lost-at c.args.code.now c.args.sub.now c.args.choices.now c.args.regs.now c.args.entry c.args.start c.args.budget c.loop-entry.regs c.loop-entry.pc c.loop-entry.at c.loop-entry.read c.loop-entry.left c.loop-entry.invariant.0 _ _ c.loop-entry.regs (sym w) (omega (arith, c.if-left-n.false)) refl)
+pub returns-in-Err : goal.returns-in-Err
+returns-in-Err c = (let w = rw c.in-Err.is at c.take_turn.ensures in lost-at c.args.code.now c.args.sub.now c.args.choices.now c.args.regs.now c.args.entry c.args.start c.args.budget c.loop-entry.regs c.loop-entry.pc c.loop-entry.at c.loop-entry.read c.loop-entry.left c.loop-entry.invariant.0 _ _ c.loop-entry.regs (sym w) (omega (arith, c.if-left-steps.false)) refl)
 
-pub shape_of-regs-then-left-more : goal.shape_of-regs-then-left-more
-shape_of-regs-then-left-more c = c.regs-1.given ∙ c.loop-entry.invariant.0.size
+pub shape_of-regs-then-left-step : goal.shape_of-regs-then-left-step
+shape_of-regs-then-left-step c = c.regs-1.given ∙ c.loop-entry.invariant.0.size
 
-pub returns-then-left-more : goal.returns-then-left-more
-returns-then-left-more c = (let w = rw c.in-Along.is at c.take_turn.ensures in on-spent c.args.code.now c.args.sub.now c.args.choices.now c.args.regs.now c.args.entry c.args.start c.args.budget c.loop-entry.regs c.loop-entry.pc c.loop-entry.at c.loop-entry.read c.loop-entry.left c.loop-entry.invariant.0 _ _ _ _ _ c.loop-entry.regs (sym w) (omega (arith, c.if-left-more.true)))
+pub returns-then-left-step : goal.returns-then-left-step
+returns-then-left-step c = (let w = rw c.in-Ok.is at c.take_turn.ensures in on-spent c.args.code.now c.args.sub.now c.args.choices.now c.args.regs.now c.args.entry c.args.start c.args.budget c.loop-entry.regs c.loop-entry.pc c.loop-entry.at c.loop-entry.read c.loop-entry.left c.loop-entry.invariant.0 _ _ _ _ _ c.loop-entry.regs (sym w) (omega (arith, c.if-left-step.true)))
 
 pub overflow_sub-left : goal.overflow_sub-left
-overflow_sub-left c = omega (arith, c.if-left-more.false)
+overflow_sub-left c = omega (arith, c.if-left-step.false)
 
-pub overflow_sub-left-in-Along : goal.overflow_sub-left-in-Along
-overflow_sub-left-in-Along c = omega (arith, c.if-left-more.false)
+pub overflow_sub-left-in-Ok : goal.overflow_sub-left-in-Ok
+overflow_sub-left-in-Ok c = omega (arith, c.if-left-step.false)
 
 pub loop-entry-smaller : goal.loop-entry-smaller
-loop-entry-smaller c = omega (arith, c.if-left-more.false)
+loop-entry-smaller c = omega (arith, c.if-left-step.false)
 
 pub loop-entry-preserved : goal.loop-entry-preserved
-loop-entry-preserved c = (let w = rw c.in-Along.is at c.take_turn.ensures in (going_on c.args.code.now c.args.sub.now c.args.choices.now c.args.regs.now c.args.entry c.args.start c.args.budget c.loop-entry.regs c.loop-entry.pc c.loop-entry.at c.loop-entry.read c.loop-entry.left c.loop-entry.invariant.0 _ _ _ _ _ _ (sym w) (omega (arith, c.if-left-more.false)) (omega arith) c.regs-1.given, omega arith, omega arith, omega arith, omega (arith, c.loop-entry.invariant.4)))
+loop-entry-preserved c = (let w = rw c.in-Ok.is at c.take_turn.ensures in (going_on c.args.code.now c.args.sub.now c.args.choices.now c.args.regs.now c.args.entry c.args.start c.args.budget c.loop-entry.regs c.loop-entry.pc c.loop-entry.at c.loop-entry.read c.loop-entry.left c.loop-entry.invariant.0 _ _ _ _ _ _ (sym w) (omega (arith, c.if-left-step.false)) (omega arith) c.regs-1.given, omega arith, omega arith, omega arith, omega (arith, c.loop-entry.invariant.4)))

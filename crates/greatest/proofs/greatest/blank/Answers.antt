@@ -5,4 +5,4 @@ use Rattle.greatest.proofs.greatest.blank.Goals as goal
 
 pub returns : goal.returns
 unfolding nowhere
-returns c = record { none_yet = refl; far = refl; near = refl }
+returns c = record { far = refl; near = refl }

@@ -1,10 +1,12 @@
 -- Nothing failed, and nothing changes; or one failure more is kept.
-use borrow.Author.Tests.{not-true, not-false}
-use Rattle.greatest.specs.Laws.Best.{keeps-none, listed-none, listed-one}
+use Rattle.greatest.specs.Laws.Best.{keeps-none}
+use Rattle.greatest.specs.Leading.{kept_of, listed}
 use Rattle.greatest.proofs.greatest.consider.Goals as goal
 
-pub returns-then-not-kept : goal.returns-then-not-kept
-returns-then-not-kept c = rw (listed-none _ c.args.kept (not-true _ c.if-not-kept.true)) (keeps-none _)
+pub returns-in-Some : goal.returns-in-Some
+unfolding kept_of listed
+returns-in-Some c = rw c.in-Some.is c.keep.ensures
 
-pub returns : goal.returns
-returns c = rw (listed-one _ c.args.kept (not-false _ c.if-not-kept.false)) c.keep.ensures.1
+pub returns-in-None : goal.returns-in-None
+unfolding kept_of listed
+returns-in-None c = rw c.in-None.is (keeps-none _)

@@ -1,17 +1,15 @@
 -- Each return is one case of `better`.
+use mathlib.Core.Path.{sym, ◌∙◌}
 use native.Mathlib.Omega.{arith}
-use borrow.Author.Tests.{not-true, not-false}
-use Rattle.greatest.specs.Laws.Leading.{lead-nowhere, lead-first, lead-greater, lead-not}
+use Rattle.greatest.specs.Laws.Leading.{lead-nowhere, lead-greater, lead-not}
+use Rattle.greatest.proofs.leading.further.Goals.{else-next-ne-NOWHERE-via-then-next-ne-NOWHERE+else-leads, else-next-ne-NOWHERE-via-else-next-ne-NOWHERE}
 use Rattle.greatest.proofs.leading.further.Goals as goal
 
-pub returns-then-at-eq-NOWHERE : goal.returns-then-at-eq-NOWHERE
-returns-then-at-eq-NOWHERE c = λ start. lead-nowhere start _ _ _ c.if-at-eq-NOWHERE.true
-
-pub returns-then-not-k : goal.returns-then-not-k
-returns-then-not-k c = λ start. lead-first start _ _ _ (omega (arith, c.if-at-eq-NOWHERE.false)) (not-true _ c.if-not-k.true)
-
-pub returns-then-k-at : goal.returns-then-k-at
-returns-then-k-at c = λ start. lead-greater start _ _ _ (omega (arith, c.if-at-eq-NOWHERE.false)) (not-false _ c.if-not-k.false) c.if-k-at.true
+pub returns-then-leads : goal.returns-then-leads
+returns-then-leads c = λ start. lead-greater start _ _ (omega (arith, c.if-next-ne-NOWHERE.true)) _ (sym (c.leads.ensures start) ∙ c.if-leads.true)
 
 pub returns : goal.returns
-returns c = λ start. lead-not start _ _ _ (omega (arith, c.if-at-eq-NOWHERE.false)) (not-false _ c.if-not-k.false) c.if-k-at.false
+returns c = λ start. elim c.else-next-ne-NOWHERE.branch [
+  | else-next-ne-NOWHERE-via-then-next-ne-NOWHERE+else-leads w ↦ lead-not start _ _ (omega (arith, w.if-next-ne-NOWHERE.true)) _ (sym (w.leads.ensures start) ∙ w.if-leads.false)
+  | else-next-ne-NOWHERE-via-else-next-ne-NOWHERE w ↦ lead-nowhere start _ _ _ w.if-next-ne-NOWHERE.false
+]

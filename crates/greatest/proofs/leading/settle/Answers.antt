@@ -1,20 +1,16 @@
 -- Each return is one case of `settled`.
 use native.Mathlib.Omega.{arith}
-use borrow.Author.Tests.{not-true, not-false}
 use Rattle.greatest.specs.Laws.Leading.{settle-none, settle-first, settle-later, settle-here}
 use Rattle.greatest.proofs.leading.settle.Goals as goal
 
-pub returns-then-note-eq0 : goal.returns-then-note-eq0
-returns-then-note-eq0 c = λ start. settle-none start _ _ _ c.if-note-eq0.true
+pub returns-in_default : goal.returns-in_default
+returns-in_default c = λ start. settle-none start _ _ _ (omega (arith, c.in_default.ensures))
 
-pub overflow_sub-at : goal.overflow_sub-at
-overflow_sub-at c = omega (arith, c.if-note-eq0.false)
+pub returns-in-Some-kept : goal.returns-in-Some-kept
+returns-in-Some-kept c = λ start. rw c.in-Some-kept.is (settle-later start _ _ _ (omega (arith, c.in-Some.ensures)) c.in-Some-kept.later c.if-at-later.true)
 
-pub returns-then-not-k : goal.returns-then-not-k
-returns-then-not-k c = λ start. settle-first start _ _ _ _ (omega (arith, c.if-note-eq0.false)) (not-true _ c.if-not-k.true)
+pub returns-in_default-kept : goal.returns-in_default-kept
+returns-in_default-kept c = λ start. rw c.in-Some-kept.is (settle-here start _ _ _ (omega (arith, c.in-Some.ensures)) c.in-Some-kept.later c.if-at-later.false)
 
-pub returns-then-at-k : goal.returns-then-at-k
-returns-then-at-k c = λ start. settle-later start _ _ _ _ (omega (arith, c.if-note-eq0.false)) (not-false _ c.if-not-k.false) c.if-at-k.true
-
-pub returns : goal.returns
-returns c = λ start. settle-here start _ _ _ _ (omega (arith, c.if-note-eq0.false)) (not-false _ c.if-not-k.false) c.if-at-k.false
+pub returns-in_default-kept-2 : goal.returns-in_default-kept-2
+returns-in_default-kept-2 c = λ start. rw c.in_default-kept.is (settle-first start _ _ _ (omega (arith, c.in-Some.ensures)))

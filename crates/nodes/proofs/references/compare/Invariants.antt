@@ -1,4 +1,4 @@
-use Prim.Native.Nat.{◌+◌, ◌-◌, ◌≤◌, ◌<◌}
+use Prim.Native.Nat.{◌+◌, ◌≤◌, ◌<◌}
 use Rattle.nodes.proofs.Comparing.{Alike}
 use Rattle.nodes.proofs.references.compare.Given as goal
 

@@ -45,8 +45,8 @@ note-requires c = let l = c.loop-used in
       indexed = rw r.ensures.work_unchanged l.invariant.4;
     }
 
-pub fall_below-next-requires : goal.fall_below-next-requires
-fall_below-next-requires c = let l = c.loop-used in
+pub fall_below-head-requires : goal.fall_below-head-requires
+fall_below-head-requires c = let l = c.loop-used in
     let y = c.requires.going in
     let g = l.invariant.5 y.0 y.1 in
     let r = c.run_below in
@@ -72,10 +72,10 @@ loop-used-preserved c = let l = c.loop-used in
     let r = c.run_below in
     let m = going_end g r.ensures.by_index_2 _ _ c.in-End.is in
     let n = c.note in
-    let f = c.fall_below-next in
+    let f = c.fall_below-head in
     let size = r.auto.regs ∙ l.invariant.0 in
-    let noted = rw c.in-Kept.is at n.ensures.notes in
-    (f.auto.regs ∙ size, f.auto.work ∙ n.auto.work ∙ r.auto.work ∙ l.invariant.1, n.auto.results ∙ l.invariant.2, omega (arith, l.invariant.3, m.some, m.enough, noted_one noted), rw f.ensures.work_unchanged (n.ensures.by_index _ c.in-Kept.is), λ k h. going_on (l.invariant.5 k h) r.ensures.by_index_2 c.in-End.is size noted (rw n.ensures.work_unchanged at f.ensures.result_after))
+    let noted = rw c.in-Some.is at n.ensures.notes in
+    (f.auto.regs ∙ size, f.auto.work ∙ n.auto.work ∙ r.auto.work ∙ l.invariant.1, n.auto.results ∙ l.invariant.2, omega (arith, l.invariant.3, m.some, m.enough, noted_one noted), rw f.ensures.work_unchanged (n.ensures.by_index _ c.in-Some.is), λ k h. going_on (l.invariant.5 k h) r.ensures.by_index_2 c.in-End.is size noted (rw n.ensures.work_unchanged at f.ensures.result_after))
 
 pub overflow_sub-result : goal.overflow_sub-result
 overflow_sub-result c = let l = c.loop-used in
@@ -85,21 +85,21 @@ overflow_sub-result c = let l = c.loop-used in
     let m = going_end g r.ensures.by_index_2 _ _ c.in-End.is in
     omega (arith, g.few)
 
-pub shape_of-regs-in-NoRoom : goal.shape_of-regs-in-NoRoom
-shape_of-regs-in-NoRoom c = c.run_below.auto.regs ∙ c.loop-used.invariant.0 ∙ sym c.requires.regs_len.0
+pub shape_of-regs-in-None : goal.shape_of-regs-in-None
+shape_of-regs-in-None c = c.run_below.auto.regs ∙ c.loop-used.invariant.0 ∙ sym c.requires.regs_len.0
 
-pub shape_of-work-in-NoRoom : goal.shape_of-work-in-NoRoom
-shape_of-work-in-NoRoom c = c.note.auto.work ∙ c.run_below.auto.work ∙ c.loop-used.invariant.1
+pub shape_of-work-in-None : goal.shape_of-work-in-None
+shape_of-work-in-None c = c.note.auto.work ∙ c.run_below.auto.work ∙ c.loop-used.invariant.1
 
-pub shape_of-results-in-NoRoom : goal.shape_of-results-in-NoRoom
-shape_of-results-in-NoRoom c = c.note.auto.results ∙ c.loop-used.invariant.2
+pub shape_of-results-in-None : goal.shape_of-results-in-None
+shape_of-results-in-None c = c.note.auto.results ∙ c.loop-used.invariant.2
 
-pub returns-in-NoRoom : goal.returns-in-NoRoom
-returns-in-NoRoom c = let l = c.loop-used in
+pub returns-in-None : goal.returns-in-None
+returns-in-None c = let l = c.loop-used in
     let y = c.requires.going in
     let g = l.invariant.5 y.0 y.1 in
     let r = c.run_below in
-    λ k h. none_left (going-full (l.invariant.5 k h) r.ensures.by_index_2 c.in-End.is (r.auto.regs ∙ l.invariant.0) (rw c.in-NoRoom.is at c.note.ensures.notes)) (omega (arith, g.few))
+    λ k h. none_left (going-full (l.invariant.5 k h) r.ensures.by_index_2 c.in-End.is (r.auto.regs ∙ l.invariant.0) (rw c.in-None.is at c.note.ensures.notes)) (omega (arith, g.few))
 
 pub overflow_sub-unused : goal.overflow_sub-unused
 overflow_sub-unused c = let l = c.loop-used in

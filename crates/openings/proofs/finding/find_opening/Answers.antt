@@ -2,23 +2,26 @@
 -- what it should. The measure is how many nodes may yet be looked at.
 use mathlib.Core.Logic.{inl, inr}
 use native.Mathlib.Omega.{arith}
-use Rattle.openings.specs.Laws.Searching.{knows-low, knows_on, knows-all}
+use Rattle.openings.specs.Laws.Searching.{told-all}
 use Rattle.openings.proofs.finding.find_opening.Goals as goal
 
 pub returns-then-starts-lt-FEW : goal.returns-then-starts-lt-FEW
 returns-then-starts-lt-FEW c = inl c.nothing_known.ensures
 
 pub loop-s-init : goal.loop-s-init
-loop-s-init c = (omega (arith, c.begin-s.ensures.0), inr (c.begin-s.ensures.1 c.args.code.now))
+loop-s-init c = (omega (arith, c.begin-s.ensures.0), c.begin-s.ensures.1 c.args.code.now)
 
 pub returns-then-left-eq0 : goal.returns-then-left-eq0
 returns-then-left-eq0 c = inl c.nothing_known-then-left-eq0.ensures
 
-pub turn-t-requires : goal.turn-t-requires
-turn-t-requires c = (omega arith, knows-low c.args.code.now c.args.entry c.loop-s.s c.loop-s.invariant.1, omega (arith, c.loop-s.invariant.0))
+pub turn-requires : goal.turn-requires
+turn-requires c = (omega arith, c.loop-s.invariant.1.low, omega (arith, c.loop-s.invariant.0))
+
+pub returns-in_default : goal.returns-in_default
+returns-in_default c = inl c.nothing_known-in_default.ensures
 
 pub loop-s-preserved : goal.loop-s-preserved
-loop-s-preserved c = (omega (arith, c.loop-s.invariant.0, c.turn-t.ensures.few), knows_on c.args.code.now c.args.entry c.loop-s.s c.loop-s.invariant.1 _ (omega arith) c.turn-t.ensures)
+loop-s-preserved c = (omega (arith, c.loop-s.invariant.0, c.in-Some.ensures.few), c.in-Some.ensures.follows c.args.entry c.loop-s.invariant.1)
 
 pub returns-then-s-budget : goal.returns-then-s-budget
 returns-then-s-budget c = inl c.nothing_known-then-s-budget.ensures
@@ -27,4 +30,4 @@ pub returns-then-s-eq0 : goal.returns-then-s-eq0
 returns-then-s-eq0 c = inl c.nothing_known-then-s-eq0.ensures
 
 pub returns : goal.returns
-returns c = knows-all c.args.code.now c.args.entry c.loop-s.s c.loop-s.invariant.1 c.args.budget (omega arith) (omega arith)
+returns c = inr (told-all c.args.code.now c.args.entry c.loop-s.s c.loop-s.invariant.1 c.args.budget (omega arith) (omega arith))

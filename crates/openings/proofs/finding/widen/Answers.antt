@@ -5,4 +5,4 @@ use Rattle.charset.specs.Class.{has}
 use Rattle.openings.proofs.finding.widen.Goals as goal
 
 pub returns : goal.returns
-returns c = record { pending = refl; height = refl; cost = refl; any = refl; both = λ x h. c.add_class-wider.ensures x h ∙ ap (λ (b : Bool). b || has c.args.search.set x) (c.class_at-more.ensures x h) }
+returns c = record { pending = refl; height = refl; cost = refl; any = refl; both = λ x h. c.add_class-s.ensures x h ∙ ap (λ (b : Bool). b || has c.args.search.set x) (c.class_at-more.ensures x h) }

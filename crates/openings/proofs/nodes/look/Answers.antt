@@ -3,20 +3,20 @@ use native.Mathlib.Omega.{arith}
 use Rattle.openings.specs.Laws.Nodes.{sees-byte, sees-text-start, sees-open, sees-close, sees-branch, sees-last}
 use Rattle.openings.proofs.nodes.look.Goals as goal
 
-pub returns-then-kind-eq-BYTE : goal.returns-then-kind-eq-BYTE
-returns-then-kind-eq-BYTE c = (omega arith, sees-byte c.args.code.now c.args.at c.if-kind-eq-BYTE.true)
+pub returns-in-0 : goal.returns-in-0
+returns-in-0 c = (omega arith, sees-byte c.args.code.now c.args.at c.in-0.is)
 
-pub returns-then-kind-eq-ASSERTION : goal.returns-then-kind-eq-ASSERTION
-returns-then-kind-eq-ASSERTION c = sees-text-start c.args.code.now c.args.at c.if-kind-eq-ASSERTION.true c.if-code-pc-ne-TEXT_START.false
+pub returns-else-code-pc-ne-TEXT_START : goal.returns-else-code-pc-ne-TEXT_START
+returns-else-code-pc-ne-TEXT_START c = sees-text-start c.args.code.now c.args.at c.in-1.is c.if-code-pc-ne-TEXT_START.false
 
-pub returns-then-kind-eq-OPEN : goal.returns-then-kind-eq-OPEN
-returns-then-kind-eq-OPEN c = sees-open c.args.code.now c.args.at c.if-kind-eq-OPEN.true
+pub returns-in-3 : goal.returns-in-3
+returns-in-3 c = sees-open c.args.code.now c.args.at c.in-3.is
 
-pub returns-then-kind-eq-CLOSE : goal.returns-then-kind-eq-CLOSE
-returns-then-kind-eq-CLOSE c = sees-close c.args.code.now c.args.at c.if-kind-eq-CLOSE.true
+pub returns-in-4 : goal.returns-in-4
+returns-in-4 c = sees-close c.args.code.now c.args.at c.in-4.is
 
-pub returns-then-kind-eq-BRANCH : goal.returns-then-kind-eq-BRANCH
-returns-then-kind-eq-BRANCH c = sees-branch c.args.code.now c.args.at c.if-kind-eq-BRANCH.true
+pub returns-in-5 : goal.returns-in-5
+returns-in-5 c = sees-branch c.args.code.now c.args.at c.in-5.is
 
-pub returns-then-kind-eq-LAST : goal.returns-then-kind-eq-LAST
-returns-then-kind-eq-LAST c = sees-last c.args.code.now c.args.at c.if-kind-eq-LAST.true
+pub returns-in-6 : goal.returns-in-6
+returns-in-6 c = sees-last c.args.code.now c.args.at c.in-6.is

@@ -21,11 +21,11 @@ walk_to-requires c = let h = c.requires.0 in
     }
 
 pub slice_bounds-accept-end : goal.slice_bounds-accept-end
-slice_bounds-accept-end c = rw c.in-Arrived.is at c.walk_to.ensures
+slice_bounds-accept-end c = c.in_ok-n.ensures
 
-pub slice_bounds-accept-end-in-Arrived : goal.slice_bounds-accept-end-in-Arrived
-slice_bounds-accept-end-in-Arrived c = simp length-take (omega (arith, rw c.in-Arrived.is at c.walk_to.ensures))
+pub slice_bounds-accept-end-2 : goal.slice_bounds-accept-end-2
+slice_bounds-accept-end-2 c = simp length-take (omega (arith, c.in_ok-n.ensures))
 
-pub returns-in-Arrived : goal.returns-in-Arrived
-returns-in-Arrived c = let a = c.args in
-    proposes a.code.now a.subject.now a.wanted.now _ _ a.entry a.budget c.accept.result (rw c.in-Arrived.is at c.walk_to.ensures) c.accept.ensures
+pub returns : goal.returns
+returns c = let a = c.args in
+    proposes a.code.now a.subject.now a.wanted.now _ _ a.entry a.budget c.accept.result c.in_ok-n.ensures c.accept.ensures

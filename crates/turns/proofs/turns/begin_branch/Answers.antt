@@ -12,10 +12,10 @@ returns-then-choices-read c = λ sub regs. branch-unread c.args.code.now sub c.a
 pub overflow_cast-c : goal.overflow_cast-c
 overflow_cast-c c = omega (arith, c.type_inv.choices c.args.read)
 
-pub returns-in-Missing : goal.returns-in-Missing
+pub returns-in-None : goal.returns-in-None
 unfolding branching
-returns-in-Missing c = λ sub regs. branch_read c.args.code.now sub c.args.pc c.args.at regs c.args.choices.now c.args.read _ (omega (arith, c.if-choices-read.false)) (sym c.branch_body.ensures ∙ ap branch_said c.in-Missing.is)
+returns-in-None c = λ sub regs. branch_read c.args.code.now sub c.args.pc c.args.at regs c.args.choices.now c.args.read _ (omega (arith, c.if-choices-read.false)) (sym c.branch_body.ensures ∙ ap branch_said c.in-None.is)
 
-pub returns-in-Body : goal.returns-in-Body
+pub returns-in-Some : goal.returns-in-Some
 unfolding branching
-returns-in-Body c = λ sub regs. branch_read c.args.code.now sub c.args.pc c.args.at regs c.args.choices.now c.args.read _ (omega (arith, c.if-choices-read.false)) (sym c.branch_body.ensures ∙ ap branch_said c.in-Body.is)
+returns-in-Some c = λ sub regs. branch_read c.args.code.now sub c.args.pc c.args.at regs c.args.choices.now c.args.read _ (omega (arith, c.if-choices-read.false)) (sym c.branch_body.ensures ∙ ap branch_said c.in-Some.is)
