@@ -9,12 +9,11 @@ use Rattle.syntax.specs.declared.Refusal.{Refusal}
 use Rattle.syntax.specs.Read.{Read}
 use Rattle.syntax.specs.Tree.{Rule}
 use Rattle.syntax.specs.Names.{Names}
-use Rattle.syntax.specs.Grammar.{Sequence}
 use Rattle.parts.specs.declared.Cursor.{Cursor}
 use Rattle.parts.specs.declared.Part.{Part}
 use Rattle.parts.specs.declared.Step.{Step}
 use Rattle.name_table.specs.Table.{NamesFit}
-use Rattle.parts.specs.Says.{price, Ready, Moves, Moved, MovedTurn, Told, NoneOpened, NoneOpenedTurn, Standing, Says, SaysTurn}
+use Rattle.parts.specs.Says.{price, Ready, Moves, Moved, Told, NoneOpened, NoneOpenedTurn, Standing, Says}
 use Rattle.reader.specs.Says.{Naming, Named, NamedTurn}
 
 -- the reading is equal to another

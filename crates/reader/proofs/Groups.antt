@@ -1,6 +1,6 @@
 -- Groups and the parts that they are: from what the reader of the inside promises to the promise for the whole group.
 use Rattle.std.specs.Prelude.{Result, Ok, Err}
-use mathlib.Core.Path.{◌≡◌, refl, ap, sym, subst, ◌∙◌}
+use mathlib.Core.Path.{◌≡◌, refl, ap, sym, ◌∙◌}
 use mathlib.Core.List.{List}
 use Prim.Native.Nat.{ℕ, ◌+◌, ◌-◌}
 use native.Mathlib.Omega.{arith}
@@ -15,14 +15,13 @@ use Rattle.syntax.specs.Quantifiers.{quantifier}
 use Rattle.syntax.specs.Grammar.{Inner, closing, grouped, Sequence, repeatable, whole, next_item, part, alternation, inside}
 use Rattle.lexemes.specs.Says.{Peeked}
 use Rattle.name_table.specs.Table.{names_in, NamesFit, length-names}
-use Rattle.linker.specs.Nodes.{Inside}
 use Rattle.parts.specs.declared.Cursor.{Cursor}
 use Rattle.parts.specs.declared.Part.{Part}
 use Rattle.parts.specs.declared.Step.{Step}
 use Rattle.parts.specs.declared.Before.{Before}
 use Rattle.parts.specs.declared.Before.TheVariants.{Repeatable}
 use Rattle.brackets.specs.declared.Opening.{Opening}
-use Rattle.brackets.specs.Says.{Begun, Opened, SaysOpening}
+use Rattle.brackets.specs.Says.{Begun, SaysOpening}
 use Rattle.parts.specs.Says.{Ready, PartAfter, Closes, Others}
 use Rattle.reader.specs.Says.{Groups, Turns, Alternates}
 use Rattle.reader.proofs.Answers.{names-stay, names-stay-turn, says-as, moved_on}

@@ -17,7 +17,6 @@ use Rattle.syntax.specs.Grammar.{alternation, inside}
 use Rattle.syntax.specs.Reading.{parsed}
 use Rattle.lexemes.specs.Says.{Peeked}
 use Rattle.name_table.specs.Table.{names_in}
-use Rattle.linker.specs.Nodes.{Inside}
 use Rattle.parts.specs.declared.Cursor.{Cursor}
 use Rattle.parts.specs.declared.Part.{Part}
 use Rattle.reader.specs.Areas.{table_start}

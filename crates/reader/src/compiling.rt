@@ -82,7 +82,7 @@ pub fn compile(
     ensures { Compiles checked rule.now flags area.old area.new result }
 {
     let mut table = [0; SPANS_LENGTH];
-    let r = compile_into(rule, flags, checked, &mut area[..TABLE_START], &mut table);
+    let compiled = compile_into(rule, flags, checked, &mut area[..TABLE_START], &mut table);
     area[TABLE_START..RULE_AREA].copy_from_slice(&table);
-    r
+    compiled
 }
