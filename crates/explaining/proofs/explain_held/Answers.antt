@@ -35,5 +35,5 @@ returns-in-Exhausted c = record {
   work_unchanged = c.match_held.ensures.work_unchanged;
 }
 
-pub unreachable-in-Refused : goal.unreachable-in-Refused
-unreachable-in-Refused c = never-refused _ _ _ _ (c.match_held.ensures.finds c.requires.tree c.requires.stands) _ c.in-Refused.is
+pub unreachable-requires : goal.unreachable-requires
+unreachable-requires c = never-refused _ _ _ _ (c.match_held.ensures.finds c.requires.tree c.requires.stands) _ c.in-Refused.is

@@ -4,9 +4,9 @@ use Rattle.syntax.specs.Limits.{rule_limit}
 use Rattle.answers.specs.CardLaws.{read-place, of-held, of-unread}
 use Rattle.answers.proofs.card_answers.tell_read.Goals as goal
 
-pub overflow_cast-f : goal.overflow_cast-f
+pub overflow_cast-answer : goal.overflow_cast-answer
 unfolding rule_limit
-overflow_cast-f c = omega (arith, read-place _ _ c.in-Err.is c.requires)
+overflow_cast-answer c = omega (arith, read-place _ _ c.in-Err.is c.requires)
 
 pub returns-in-Ok : goal.returns-in-Ok
 returns-in-Ok c = of-held _ _ _ c.in-Ok.is c.low_half-length.ensures
