@@ -1,5 +1,5 @@
 -- `reset` meets its contract: the groups' registers are filled, and the others are as they were.
-use mathlib.Core.Path.{◌≡◌, ◌∙◌}
+use mathlib.Core.Path.{◌≡◌, sym, ◌∙◌}
 use mathlib.Core.List.{List, ◌++◌}
 use Prim.Native.Nat.{ℕ, ◌≤◌}
 use native.Mathlib.Omega.{arith}
@@ -23,6 +23,10 @@ filled regs size = record {
 pub slice_bounds-fill-end : goal.slice_bounds-fill-end
 unfolding spans_length
 slice_bounds-fill-end c = within c.args.regs.now c.requires
+
+pub slice_bounds-fill-end-2 : goal.slice_bounds-fill-end-2
+unfolding spans_length
+slice_bounds-fill-end-2 c = sym (length-take-le spans_length c.args.regs.now (within c.args.regs.now c.requires))
 
 pub returns : goal.returns
 unfolding spans_length unset

@@ -46,21 +46,21 @@ unfolding group_limit row_length
 bounds-numbers-group c = let a = c.args in
     omega (arith, named-within a.name.now a.names.now, (is_some _ _ (sym c.in-Some.is ∙ c.group_named.ensures)).0, length-take-le row_length a.row.now c.if-row-lt-ROW_LENGTH.false)
 
-pub overflow_mul-group-2 : goal.overflow_mul-group-2
+pub overflow_mul-group-in-Some : goal.overflow_mul-group-in-Some
 unfolding group_limit
-overflow_mul-group-2 c = omega (arith, named-within c.args.name.now c.args.names.now, (is_some _ _ (sym c.in-Some.is ∙ c.group_named.ensures)).0)
+overflow_mul-group-in-Some c = omega (arith, named-within c.args.name.now c.args.names.now, (is_some _ _ (sym c.in-Some.is ∙ c.group_named.ensures)).0)
 
 pub overflow_add-group : goal.overflow_add-group
 unfolding group_limit
 overflow_add-group c = omega (arith, named-within c.args.name.now c.args.names.now, (is_some _ _ (sym c.in-Some.is ∙ c.group_named.ensures)).0)
 
-pub offset_bounds-numbers-group-2 : goal.offset_bounds-numbers-group-2
+pub offset_bounds-numbers-group-in-Some : goal.offset_bounds-numbers-group-in-Some
 unfolding group_limit
-offset_bounds-numbers-group-2 c = omega (arith, named-within c.args.name.now c.args.names.now, (is_some _ _ (sym c.in-Some.is ∙ c.group_named.ensures)).0)
+offset_bounds-numbers-group-in-Some c = omega (arith, named-within c.args.name.now c.args.names.now, (is_some _ _ (sym c.in-Some.is ∙ c.group_named.ensures)).0)
 
-pub bounds-numbers-group-2 : goal.bounds-numbers-group-2
+pub bounds-numbers-group-in-Some : goal.bounds-numbers-group-in-Some
 unfolding group_limit row_length
-bounds-numbers-group-2 c = let a = c.args in
+bounds-numbers-group-in-Some c = let a = c.args in
     omega (arith, named-within a.name.now a.names.now, (is_some _ _ (sym c.in-Some.is ∙ c.group_named.ensures)).0, length-take-le row_length a.row.now c.if-row-lt-ROW_LENGTH.false)
 
 pub returns-in-Some : goal.returns-in-Some
