@@ -43,6 +43,7 @@ fn answer_piece(
     let mut at: usize = 0;
     let mut have = held;
     let mut put: usize = 0;
+    // no `for`: a step goes on by as many bytes as a line has, and is tried again for the room that is left, so that the position is its answer
     while at < piece.len() {
         let p = Progress { at, have, put };
         let q = advance(code, entry, groups, piece, line, work_area, results, out, p);

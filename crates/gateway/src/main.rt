@@ -11,7 +11,7 @@ ghost use Rattle.syntax.specs.Limits.{rule_area_need};
 ghost use Rattle.gateway_text.specs.Limits.{answer_room};
 ghost use Rattle.gateway_answers.specs.Promises.{Standing};
 
-use gateway_line::{Readiness, prepare};
+use gateway_line::prepare;
 use gateway_text::{write_refusal, write_unreadable};
 use lines::answer_input;
 use output::say_unwritten;
@@ -78,8 +78,8 @@ fn serve_or_refuse(rt: &HostRuntime, rule: &[u8], out: &mut [u8])
 {
     let mut rule_area = [0u32; RULE_AREA];
     match prepare(rule, false, &mut rule_area) {
-        Readiness::Ready(entry, groups) => serve(rt, &rule_area, entry, groups, out),
-        Readiness::Refused(f) => say_refusal(rt, f, out),
+        Ok(compiled) => serve(rt, &rule_area, compiled.entry, compiled.groups, out),
+        Err(f) => say_refusal(rt, f, out),
     }
 }
 

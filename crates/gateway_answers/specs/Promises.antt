@@ -1,6 +1,6 @@
 -- What the functions promise.
 -- docs/REFERENCE.md, 19.1
-use Rattle.std.specs.Prelude.{◌≡◌, Bool, true, false, ◌⊎◌, List, ℕ, ◌≤◌, length, drop, ltb, if◌then◌else◌}
+use Rattle.std.specs.Prelude.{◌≡◌, Bool, true, false, ◌⊎◌, List, ℕ, ◌≤◌, Result, Ok, Err, length, drop, ltb, if◌then◌else◌}
 use Rattle.syntax.specs.declared.Refusal.{Refusal}
 use Rattle.syntax.specs.Limits.{rule_area_need, row_length, group_limit}
 use Rattle.syntax.specs.Refusals.{number_of}
@@ -10,11 +10,10 @@ use Rattle.semantics.specs.States.{Row, row}
 use Rattle.semantics.specs.Answers.{Outcome, matched, not_matched, exhausted, answer}
 use Rattle.semantics.specs.Calls.{work_area_need, over, MatchOutcome, match_matched, match_not_matched, match_exhausted, match_refused}
 use Rattle.machine.specs.Theorem.{Stands}
+use Rattle.reader.specs.declared.compiling.Compiled.{Compiled}
 use Rattle.reader.specs.Compiles.{Unfollowed}
 use Rattle.gateway_text.specs.Lines.{matched_line, not_matched_line, exhausted_line, refusal_line}
 use Rattle.gateway_text.specs.Promises.{WroteLine}
-use Rattle.gateway_answers.specs.declared.rules.Readiness.{Readiness}
-use Rattle.gateway_answers.specs.declared.rules.Readiness.TheVariants.{Ready, Refused as Denied}
 use Rattle.gateway_answers.specs.Limits.{gateway_flags, line_limit, gateway_budget}
 use Rattle.gateway_answers.specs.Answers.{gateway_rule, answer_line}
 
@@ -36,9 +35,9 @@ abbrev pub Denies : (checked : Bool) (rule : List ℕ) → Refusal → Type 0
 Denies false rule f = gateway_rule rule ≡ refused f.place f.reason
 Denies true rule f = (gateway_rule rule ≡ refused f.place f.reason) ⊎ Unfollowed rule gateway_flags f
 
-abbrev pub Prepares : (checked : Bool) (rule code : List ℕ) → Readiness → Type 0
-Prepares checked rule code (Ready entry groups) = Standing rule code entry groups
-Prepares checked rule code (Denied f) = Denies checked rule f
+abbrev pub Prepares : (checked : Bool) (rule code : List ℕ) → Result Compiled Refusal → Type 0
+Prepares checked rule code (Ok x) = Standing rule code x.entry x.groups
+Prepares checked rule code (Err f) = Denies checked rule f
 
 -- what every answer is lent: a rule that stands compiled, with its number of groups, and areas that are long enough
 pub record Lent (code : List ℕ) (entry groups : ℕ) (work_area results : List ℕ) : Type 0 where

@@ -5,4 +5,5 @@ mod answering;
 mod rules;
 
 pub use answering::{BUDGET, LINE_LIMIT, answer};
-pub use rules::{Readiness, prepare};
+pub use reader::Compiled;
+pub use rules::prepare;

@@ -8,7 +8,7 @@ mod proposals;
 
 use answering::{RULE_AREA, put_refusal, put_unreadable};
 use frame::RULE_LIMIT;
-use gateway_line::{Readiness, prepare};
+use gateway_line::prepare;
 use lines::{answer_input, write_out};
 use office::{Lines, ROOM};
 use std::fs;
@@ -20,8 +20,8 @@ const RULE: usize = RULE_LIMIT + 1;
 fn serve_or_refuse(rt: &HostRuntime, rule: &[u8], out: &mut [u8; ROOM]) {
     let mut area = [0u32; RULE_AREA];
     match prepare(rule, true, &mut area) {
-        Readiness::Ready(entry, groups) => answer_input(rt, &area, entry, groups, out),
-        Readiness::Refused(f) => {
+        Ok(compiled) => answer_input(rt, &area, compiled.entry, compiled.groups, out),
+        Err(f) => {
             let at = put_refusal(f, out);
             write_out(rt, out, at);
         }

@@ -3,5 +3,5 @@
 
 mod streaming;
 
-pub use gateway_answers::{BUDGET, Readiness, prepare};
+pub use gateway_answers::{BUDGET, Compiled, prepare};
 pub use streaming::{HELD_LIMIT, Progress, advance, finish};

@@ -57,7 +57,8 @@ pub fn write_matched(row: &[u32], groups: u32, out: &mut [u8], at: usize) -> usi
     append_byte(out, spans, NEWLINE)
 }
 
-// The line for no match.
+// The line for no match. Each of the three lines that are one text has its own name, which its callers read: one function that is handed the text would be no
+// plainer.
 pub fn write_not_matched(out: &mut [u8], at: usize) -> usize
     requires { at + answer_room ≤ length out.old }
     ensures { WroteLine out.old at not_matched_line out.new result }

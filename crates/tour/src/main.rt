@@ -25,16 +25,16 @@ ghost use Rattle.gateway_answers.specs.Limits.{gateway_budget};
 ghost use Rattle.gateway_answers.specs.Promises.{Standing};
 
 use frame::{RULE_AREA_NEED, RULE_LIMIT, SUBJECT_LIMIT, WORK_PER_STEP};
-use gateway_answers::{BUDGET, Readiness, prepare};
+use gateway_answers::{BUDGET, prepare};
 use gateway_text::ANSWER_ROOM;
 use index::UNSET;
 use machine::{Machine, fall_back, start};
 use plain::{make_move, tell_missed};
 use reader::read_rule;
 use reasons::item_end;
+use syntax::node::END;
 use syntax::{REGISTERS, ROW_LENGTH, SPANS_LENGTH};
 use text::line_end;
-use syntax::node::END;
 
 // What a walk is lent, as the gateway lends it.
 const WORK_AREA: usize = WORK_PER_STEP * BUDGET as usize;
@@ -221,14 +221,13 @@ fn put_line(rt: &HostRuntime, code: &[u32], entry: u32, groups: u32, line: &[u8]
 fn put_code(rt: &HostRuntime, rule: &[u8], line: &[u8], area: &mut [u32], used: usize)
     requires { (length area.old ≡ rule_area_need) × (used ≤ length area.old) × (length line.now < 2 ^ 31) }
 {
-    let readiness = prepare(rule, false, area);
-    let Readiness::Ready(entry, groups) = readiness else {
+    let Ok(compiled) = prepare(rule, false, area) else {
         return;
     };
     put(rt, b"code");
-    put_word(rt, entry);
+    put_word(rt, compiled.entry);
     put_numbers(rt, area, used);
-    put_line(rt, area, entry, groups, line);
+    put_line(rt, area, compiled.entry, compiled.groups, line);
 }
 
 // A rule and a line on their way.

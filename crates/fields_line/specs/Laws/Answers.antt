@@ -1,5 +1,5 @@
 -- What is told of a line, case by case.
-use Rattle.std.specs.Prelude.{◌≡◌, ℕ, ◌≤◌, ◌<◌, length}
+use Rattle.std.specs.Prelude.{◌≡◌, ℕ, ◌≤◌, ◌<◌, Ok, length}
 use Rattle.std.proofs.Math.Path.{refl, sym, ap}
 use Rattle.std.proofs.Common.{◌∙◌, arith, lt-ltb, le-ltb, drop_of_length-le}
 use mathlib.Core.List.{List, [], ◌∷◌, ◌++◌, append-nil}
@@ -88,7 +88,7 @@ filled x old h = rw (drop_of_length-le old h) (append-nil x)
 -- a match, with the word that the listing gives
 module _ (rule : Rule) (groups budget : ℕ) (formed : WellFormed groups rule) (index standing : List ℕ) (names : List (List ℕ)) (line : List ℕ) (short : length line ≤ subject_limit) where
   pub answers-found : (old new : List ℕ) (o : Reported) → Reports old new o (answer line rule budget) → (steps : ℕ) → o ≡ Found steps → length old ≡ row_length
-      → (results results' : List ℕ) (l : Listed) → Lists line rule budget results results' l → (w : Word) → w ≡ verdict_by index line standing names new (listing_of l) results'
+      → (results results' : List ℕ) (l : Listed) → Lists line rule budget results results' l → (w : Word) → w ≡ verdict_by index line standing names new (listing_of (Ok l)) results'
       → Answers (record { rule = rule; index = index; budget = budget; room = room results; names = names; standing = standing }) line w new
   unfolding tells
   answers-found old new o reports steps e size results results' l lists w is =

@@ -10,6 +10,6 @@ prepare-requires c = omega arith
 pub serve-requires : goal.serve-requires
 unfolding rule_area_need
 serve-requires c = record {
-  by_index = (_, rw c.in-Ready.is at c.prepare.ensures);
+  by_index = (_, rw c.in-Ok.is at c.prepare.ensures);
   code_len = (omega arith, omega arith);
 }

@@ -1,7 +1,7 @@
 -- The gateway's rule: refused for its length, or as it reads.
 use Rattle.std.proofs.Math.Path.{◌≡◌, refl}
 use Rattle.std.proofs.Common.{sym, ap, ◌∙◌, inl, inr, arith, length-take, take_all}
-use Rattle.std.specs.Prelude.{List, Bool, ℕ, suc, ◌≤◌, ◌<◌, take, if◌then◌else◌}
+use Rattle.std.specs.Prelude.{List, Bool, ℕ, suc, ◌≤◌, ◌<◌, Result, Ok, Err, take, if◌then◌else◌}
 use Rattle.std.proofs.Math.Bool.{true, false}
 use borrow.Author.Tests.{lt-ltb, le-ltb, ltb-false}
 use Rattle.std.proofs.Math.ListN.{length}
@@ -15,13 +15,12 @@ use Rattle.syntax.specs.WellFormed.{WellFormed}
 use Rattle.syntax.specs.Laws.Formation.{well-formed}
 use Rattle.syntax.specs.declared.Refusal.{Refusal}
 use Rattle.semantics.proofs.Laws.Cases.{le-or}
-use Rattle.reader.specs.declared.compiling.Compilation.{Compilation}
-use Rattle.reader.specs.declared.compiling.Compilation.TheVariants.{Sound, Refused}
+use Rattle.reader.specs.declared.compiling.Compiled.{Compiled}
 use Rattle.reader.specs.Compiles.{Fails, Compiles}
-use Rattle.frame.specs.Laws.Compiled.{compile-sound}
+use Rattle.frame.specs.Laws.Compiled.{compile-failed, compile-sound}
 use Rattle.gateway_answers.specs.Limits.{gateway_flags}
 use Rattle.gateway_answers.specs.Answers.{gateway_rule}
-use Rattle.gateway_answers.specs.Promises.{Reads, Standing, Denies}
+use Rattle.gateway_answers.specs.Promises.{Reads, Denies, Prepares}
 
 module _ (s : List ℕ) where
   pub long_rule : rule_limit < length s → gateway_rule s ≡ refused 0 RuleTooLong
@@ -59,19 +58,13 @@ module _ (s : List ℕ) where
   denied_as short true f (inl e) = inl (short_rule short ∙ e)
   denied_as short true f (inr u) = inr u
 
-  -- what compiling tells of a rule that is not too long
-  module _ (short : length s ≤ rule_limit) {checked : Bool} {old new : List ℕ} {x : Compilation} (done : Compiles checked s 0 old new x) where
-    pub compiled_refused : (f : Refusal) → x ≡ Refused f → Denies checked s f
-    unfolding gateway_flags
-    compiled_refused f e = denied_as short checked f (rw e at done.says)
-
-    -- in an area that is no longer than is needed
-    pub compiled_sound : (pc groups : ℕ) → x ≡ Sound pc groups → length new ≡ rule_area_need → Standing s new pc groups
-    unfolding gateway_flags
-    compiled_sound pc groups e l =
-        let z = compile-sound done pc groups e (omega arith) in
-        let r : Reads s z.0 groups = (z.1, short_rule short ∙ z.2) in
-        record { tree = z.0; reads = r; stands = rw (take_all rule_area_need new (omega arith)) at z.3; few = few_groups r }
+  -- what compiling tells of a rule that is not too long, in an area that is no longer than is needed
+  pub prepared : length s ≤ rule_limit → {checked : Bool} {old new : List ℕ} {x : Result Compiled Refusal} → Compiles checked s gateway_flags old new x → length new ≡ rule_area_need → Prepares checked s new x
+  prepared short {checked = checked} {new = new} {x = Err f} done l = denied_as short checked f (compile-failed done f refl)
+  prepared short {new = new} {x = Ok k} done l =
+      let z = compile-sound done k refl (omega arith) in
+      let r : Reads s z.0 k.groups = (z.1, short_rule short ∙ z.2) in
+      record { tree = z.0; reads = r; stands = rw (take_all rule_area_need new (omega arith)) at z.3; few = few_groups r }
 
 -- of a rule that is too long, one byte more than the limit is enough to read
 pub cut_rule : (s : List ℕ) → gateway_rule (take (suc rule_limit) s) ≡ gateway_rule s

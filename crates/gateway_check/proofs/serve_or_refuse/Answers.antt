@@ -8,4 +8,4 @@ unfolding rule_area_need
 prepare-requires c = omega arith
 
 pub answer_input-requires : goal.answer_input-requires
-answer_input-requires c = let z = rw c.in-Ready.is at c.prepare.ensures in ((z.tree, z.stands), z.few)
+answer_input-requires c = let z = rw c.in-Ok.is at c.prepare.ensures in ((z.tree, z.stands), z.few)

@@ -6,14 +6,14 @@ use Rattle.card_text.specs.Room.{rule_room, flags_room, number_room, shown_room}
 use Rattle.card.proofs.Fitting.{rule_fits}
 use Rattle.card.proofs.showing.show.Goals as goal
 
-pub slice_bounds-text-end : goal.slice_bounds-text-end
-slice_bounds-text-end c = let a = c.args in
+pub slice_bounds-rule-end : goal.slice_bounds-rule-end
+slice_bounds-rule-end c = let a = c.args in
     let bytes : Bytes a.card.now = λ i. omega (arith, c.type_inv.card i) in
     let fits = rule_fits a.card.now _ _ _ c.read_card.ensures bytes _ c.in-Ok.is in
     omega (arith, fits)
 
-pub slice_bounds-write_words-end : goal.slice_bounds-write_words-end
-slice_bounds-write_words-end c = let a = c.args in
+pub slice_bounds-text-end : goal.slice_bounds-text-end
+slice_bounds-text-end c = let a = c.args in
     let bytes : Bytes a.card.now = λ i. omega (arith, c.type_inv.card i) in
     let fits = rule_fits a.card.now _ _ _ c.read_card.ensures bytes _ c.in-Ok.is in
     simp length-take (omega (arith, fits))

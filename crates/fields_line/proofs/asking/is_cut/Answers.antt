@@ -18,7 +18,3 @@ returns-in-Full c = rw (c.in-Full.is, c.last_start.ensures)
 pub returns-in-Exhausted : goal.returns-in-Exhausted
 unfolding listing_of cut_by
 returns-in-Exhausted c = rw c.in-Exhausted.is
-
-pub returns-in-Refused : goal.returns-in-Refused
-unfolding listing_of cut_by
-returns-in-Refused c = rw c.in-Refused.is

@@ -13,7 +13,3 @@ returns-in-Full c = rw c.in-Full.is
 pub returns-in-Exhausted : goal.returns-in-Exhausted
 unfolding listing_of
 returns-in-Exhausted c = rw c.in-Exhausted.is
-
-pub returns-in-Refused : goal.returns-in-Refused
-unfolding listing_of
-returns-in-Refused c = rw c.in-Refused.is
