@@ -129,6 +129,7 @@ pub fn put_marked(
 {
     let mut p = put(rt, out, at, b"<p class=\"line\"><b>rule </b>");
     let mut i: usize = 0;
+    // std has no `chunk_by`, and the place moves by as many bytes as have one sign: a `for` would be no plainer
     while i < signs.len() {
         let end = signs_end(signs, i);
         p = put_signed(rt, out, p, signs[i], &rule[i..end]);

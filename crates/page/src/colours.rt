@@ -80,6 +80,7 @@ fn put_runs(
 {
     let mut p = at;
     let mut i = from;
+    // the place moves by as many bytes as have one colour: a `for` would be no plainer
     while i < to {
         let end = run_end(row, i, to);
         let span = span_at(row, i as u32);

@@ -135,12 +135,9 @@ pub fn put_line(
     requires { length line.now ≤ 65536 }
 {
     let mut p = at;
-    let mut from: usize = 0;
-    loop {
+    // an empty line has one window
+    for from in (0..line.len().max(1)).step_by(report::WIDTH) {
         p = put_window(rt, out, p, margin, names, line, from, rows);
-        if line.len() - from <= report::WIDTH {
-            return p;
-        }
-        from += report::WIDTH;
     }
+    p
 }

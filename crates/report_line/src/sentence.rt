@@ -98,6 +98,7 @@ fn put_items(
     let mut p = at;
     let mut named: usize = 0;
     let mut place = next_new(rule, flags, marks, 0);
+    // each item is looked for behind the one before, and the last is known by the next: a `for` would be no plainer
     while place < rule.len() {
         if named == NAMED {
             return put(rt, out, p, b", or another item marked above");

@@ -103,16 +103,13 @@ fn put_attempt(
     requires { length line.now ≤ 65536 }
 {
     let mut p = at;
-    let mut from: usize = 0;
-    loop {
+    // an empty line has one window
+    for from in (0..line.len().max(1)).step_by(report::WIDTH) {
         p = put_text(rt, out, p, margin, b"", b"column ", line, from);
         let rest = line.len() - from;
         p = put_reach(rt, out, p, margin, start, stop, from as u32, rest);
-        if rest <= report::WIDTH {
-            return p;
-        }
-        from += report::WIDTH;
     }
+    p
 }
 
 // How many columns there are of a window's signs up to the last that is no blank.
@@ -156,17 +153,13 @@ fn put_rule(
     requires { (length signs.now ≡ length rule.now) × (length rule.now ≤ 1001) }
 {
     let mut p = at;
-    let mut from: usize = 0;
-    loop {
+    // an empty rule has one window
+    for from in (0..rule.len().max(1)).step_by(report::WIDTH) {
         p = put_text(rt, out, p, margin, b"rule", b"rule ", rule, from);
-        let rest = rule.len() - from;
-        let to = from + rest.min(report::WIDTH);
+        let to = rule.len().min(from + report::WIDTH);
         p = put_signs(rt, out, p, margin, &signs[from..to]);
-        if rest <= report::WIDTH {
-            return p;
-        }
-        from += report::WIDTH;
     }
+    p
 }
 
 // The rule, with signs under the marked items, in as many bytes that are lent for them.

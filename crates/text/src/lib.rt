@@ -28,10 +28,8 @@ fn ends_within(input: &[u8], from: usize) -> bool
     ensures { result ≡ false → line_length (drop from input.now) ≡ 16 + line_length (drop (from + 16) input.now) }
 {
     let mut found = false;
-    let mut i: usize = 0;
-    while i < BLOCK {
+    for i in 0..BLOCK {
         found = met(input[from + i], found);
-        i += 1;
     }
     found
 }
@@ -40,17 +38,12 @@ fn ends_within(input: &[u8], from: usize) -> bool
 fn skip_blocks(input: &[u8], from: usize) -> usize
     ensures { result + line_length (drop result input.now) ≡ from + line_length (drop from input.now) }
 {
-    let mut i = from;
-    while i < input.len() {
-        if input.len() - i < BLOCK {
+    for i in (from..input.len()).step_by(BLOCK) {
+        if input.len() - i < BLOCK || ends_within(input, i) {
             return i;
         }
-        if ends_within(input, i) {
-            return i;
-        }
-        i += BLOCK;
     }
-    i
+    from.max(input.len())
 }
 
 // The position of the first 0A at or behind a position; the end of the input where there is none.
