@@ -26,7 +26,7 @@ pub(crate) fn show(rt: &HostRuntime, card: &[u8]) {
         }
         Err(f) => {
             let n = rule_in(card, &mut rule);
-            say_refusal(rt, "card", f, &rule[..n]);
+            say_refusal(rt, b"card", f, &rule[..n]);
         }
     }
 }
@@ -52,7 +52,7 @@ fn read_content(file: &mut File, content: &mut [u8]) -> Result<usize, Error>
 
 // Shows the card in the file that an argument names.
 pub(crate) fn show_file(rt: &HostRuntime, argument: usize) {
-    let Some(mut file) = open(rt, "card", argument) else {
+    let Some(mut file) = open(rt, b"card", argument) else {
         return;
     };
     let mut content = io::large_buffer();

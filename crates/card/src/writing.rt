@@ -47,7 +47,7 @@ fn fill_file(rt: &HostRuntime, file: File, path: &str, card: &[u8]) -> bool {
 // Writes a card into the file that an argument names, which must not be there yet. It says whether the card is there, and if not, why.
 fn save(rt: &HostRuntime, card: &[u8]) -> bool {
     let mut name = io::buffer();
-    let Some(path) = path_at(rt, "card", CARD_FILE, &mut name) else {
+    let Some(path) = path_at(rt, b"card", CARD_FILE, &mut name) else {
         return false;
     };
     let made = OpenOptions::new()
@@ -57,7 +57,7 @@ fn save(rt: &HostRuntime, card: &[u8]) -> bool {
     match made {
         Ok(file) => fill_file(rt, file, path, card),
         Err(why) => {
-            fail_at(rt, "card", path.as_bytes(), why);
+            fail_at(rt, b"card", path.as_bytes(), why);
             false
         }
     }
@@ -70,7 +70,7 @@ fn write_rule(rt: &HostRuntime, rule: &[u8], flags: u32, budget: u32)
     let mut area = [0u32; RULE_AREA_NEED];
     let mut card = [0u8; CARD_NEED];
     match write_card(rule, flags, budget, &mut area, &mut card) {
-        Err(f) => say_refusal(rt, "card", f, rule),
+        Err(f) => say_refusal(rt, b"card", f, rule),
         Ok(n) => {
             if save(rt, &card[..n]) {
                 show(rt, &card[..n]);
@@ -82,7 +82,7 @@ fn write_rule(rt: &HostRuntime, rule: &[u8], flags: u32, budget: u32)
 // With the flags and the budget. The rule is the first line of its file, or all of it.
 fn start(rt: &HostRuntime, flags: u32, budget: u32) {
     let mut buffer = [0u8; RULE];
-    if let Some(rule) = read_rule(rt, "card", RULE_FILE, &mut buffer) {
+    if let Some(rule) = read_rule(rt, b"card", RULE_FILE, &mut buffer) {
         write_rule(rt, rule, flags, budget);
     }
 }

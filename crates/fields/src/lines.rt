@@ -5,7 +5,7 @@ use crate::rows::put_row;
 use fields_columns::write_head;
 use fields_line::ask;
 use index::ROW_LENGTH;
-use office::{CLOSED, Lines, ROOM, Told, say_progress};
+use office::{CLOSED, Lines, ROOM, Told, report_progress};
 use page_lines::{Job, LINE, RESULT_AREA, Table, WORK_AREA};
 use std::fs::File;
 use std::io::Error;
@@ -24,7 +24,7 @@ fn tell_line<'a>(
 ) -> usize
     requires { Holds job.area.now job.entry job.budget }
 {
-    say_progress(rt, "fields", number, "");
+    report_progress(rt, b"fields", number, b"");
     let Job { area, names, .. } = job;
     let columns = table.columns;
     let mut row = [0u32; ROW_LENGTH];

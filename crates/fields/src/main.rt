@@ -82,7 +82,7 @@ fn look_on(
     let Some(count) = collect(rt, o.at + 2, job.names, &mut columns) else {
         return;
     };
-    let Some(file) = open(rt, "fields", o.at + 1) else {
+    let Some(file) = open(rt, b"fields", o.at + 1) else {
         return;
     };
     let mut lines = Lines::new(file);
@@ -115,7 +115,7 @@ fn run(
     match prepare(
         rule, o.flags, false, 0, o.budget, area, work, false, &mut names,
     ) {
-        Err(f) => say_refusal(rt, "fields", f, rule),
+        Err(f) => say_refusal(rt, b"fields", f, rule),
         Ok(Compiled { entry, groups }) => {
             let job = Job {
                 rule,
@@ -136,7 +136,7 @@ fn start(rt: &HostRuntime, o: Options)
     requires { o.at < 200 }
 {
     let mut buffer = [0u8; RULE];
-    let Some(rule) = read_rule(rt, "fields", o.at, &mut buffer) else {
+    let Some(rule) = read_rule(rt, b"fields", o.at, &mut buffer) else {
         return;
     };
     let mut area = [0u32; RULE_AREA];

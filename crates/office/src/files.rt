@@ -25,7 +25,7 @@ fn unnamed(why: FillError) -> io::Error {
 // The path that an argument names, put into a buffer; or it is said why there is none. A path is text: a file has no name here that is not UTF-8.
 pub fn path_at<'b>(
     rt: &HostRuntime,
-    program: &str,
+    program: &[u8],
     argument: usize,
     buffer: &'b mut [u8],
 ) -> Option<&'b str> {
@@ -48,7 +48,7 @@ pub fn path_at<'b>(
 }
 
 // Opens the file that an argument names. Where that fails it says so, and answers none.
-pub fn open(rt: &HostRuntime, program: &str, argument: usize) -> Option<File> {
+pub fn open(rt: &HostRuntime, program: &[u8], argument: usize) -> Option<File> {
     let mut buffer = [0u8; 4096];
     let path = path_at(rt, program, argument, &mut buffer)?;
     match fs::open(rt, path) {
@@ -64,7 +64,7 @@ pub fn open(rt: &HostRuntime, program: &str, argument: usize) -> Option<File> {
 // fills the buffer is read no further: it is too long, whatever follows.
 pub fn read_rule<'r>(
     rt: &HostRuntime,
-    program: &str,
+    program: &[u8],
     argument: usize,
     rule: &'r mut [u8],
 ) -> Option<&'r [u8]>

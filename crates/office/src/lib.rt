@@ -14,6 +14,6 @@ pub use arguments::{arg, arg_count, asks_for_page, budget_at, decimal, flags, fl
 pub use counts::{Counts, count};
 pub use files::{open, path_at, read_rule};
 pub use lines::{CutShort, Lines};
-pub use messages::{fail, fail_at, say, say_progress};
+pub use messages::{fail, fail_at, report_progress, say};
 pub use output::{CLOSED, ROOM, Told, flush, put, put_number};
 pub use refusals::say_refusal;

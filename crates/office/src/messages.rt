@@ -26,8 +26,8 @@ pub fn fail(rt: &HostRuntime, what: &[u8], why: Error) {
 }
 
 // The same, with the program in front.
-pub fn fail_at(rt: &HostRuntime, program: &str, what: &[u8], why: Error) {
-    say(rt, program.as_bytes());
+pub fn fail_at(rt: &HostRuntime, program: &[u8], what: &[u8], why: Error) {
+    say(rt, program);
     say(rt, b": ");
     fail(rt, what, why);
 }
@@ -46,9 +46,12 @@ fn reason_end(text: &[u8]) -> usize
 
 // Says how far a run is, after each ten thousand lines, to one who waits at a terminal for what is written elsewhere. A run that nobody watches, and one
 // whose report itself goes to the terminal, say nothing.
-pub fn say_progress(rt: &HostRuntime, program: &str, lines: u64, done: &str) {
+pub fn report_progress(rt: &HostRuntime, program: &[u8], lines: u64, done: &[u8]) {
     if lines % PROGRESS != 0 || !rt.stderr().is_terminal() || rt.stdout().is_terminal() {
         return;
     }
-    let _ = eprint!(rt; "{program}: {lines} lines{done}\n");
+    say(rt, program);
+    let _ = eprint!(rt; ": {lines} lines");
+    say(rt, done);
+    say(rt, b"\n");
 }

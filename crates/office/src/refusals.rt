@@ -47,16 +47,17 @@ fn say_rule(rt: &HostRuntime, rule: &[u8], place: usize)
 
 // Why the rule is refused: the number, the place and what it means, and the rule with the place marked if it is one in the rule. Or why a card
 // is.
-pub fn say_refusal(rt: &HostRuntime, program: &str, f: Refusal, rule: &[u8])
+pub fn say_refusal(rt: &HostRuntime, program: &[u8], f: Refusal, rule: &[u8])
     requires { length rule.now ≤ 1001 }
 {
     let number = u32::from(f.reason);
     let meaning = f.reason;
+    say(rt, program);
     if is_of_card(f.reason) {
-        let _ = eprintln!(rt; "{program}: the card is refused, {number}: {meaning}");
+        let _ = eprintln!(rt; ": the card is refused, {number}: {meaning}");
         return;
     }
-    let _ = eprintln!(rt; "{program}: the rule is refused, {f}: {meaning}");
+    let _ = eprintln!(rt; ": the rule is refused, {f}: {meaning}");
     if FIRST_IN_RULE <= number && f.place < rule.len() {
         say_rule(rt, rule, f.place);
     }

@@ -5,7 +5,7 @@ ghost use Rattle.page_lines.specs.Rules.{Holds};
 use crate::job::{Job, LINE, RESULT_AREA, Table, WORK_AREA};
 use crate::judging::{judge, program};
 use fields_row::Word;
-use office::{Counts, Lines, count, say_progress};
+use office::{Counts, Lines, count, report_progress};
 use std::fs::File;
 use std::io;
 use std::io::ErrorKind;
@@ -36,7 +36,7 @@ fn count_line<'a>(
     requires line_len_bound { length line.now ≤ 65536 }
 {
     count(&mut counts.lines);
-    say_progress(rt, program(table), counts.lines, " counted");
+    report_progress(rt, program(table), counts.lines, b" counted");
     if line.len() == LINE {
         count(&mut counts.too_long);
         return;

@@ -9,11 +9,11 @@ use index::ROW_LENGTH;
 use listing::{Listing, list_held};
 
 // The program that writes the page.
-pub(crate) fn program(table: Option<Table<'_>>) -> &'static str {
+pub(crate) fn program(table: Option<Table<'_>>) -> &'static [u8] {
     if table.is_some() {
-        "fields"
+        b"fields"
     } else {
-        "readings"
+        b"readings"
     }
 }
 

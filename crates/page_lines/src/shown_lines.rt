@@ -8,7 +8,7 @@ use crate::shown_parts::{show_listing, show_reason};
 use explaining::{Explanation, explain_held};
 use fields_row::Word;
 use listing::list_held;
-use office::{CLOSED, Lines, ROOM, Told, say_progress};
+use office::{CLOSED, Lines, ROOM, Told, report_progress};
 use page::{put_card, put_card_end};
 use report_line::RULE;
 use std::fs::File;
@@ -126,7 +126,7 @@ fn show_line<'a>(
     requires holds { Holds job.area.now job.entry job.budget }
     requires line_len_bound { length line.now ≤ 65536 }
 {
-    say_progress(rt, program(table), number, " shown");
+    report_progress(rt, program(table), number, b" shown");
     if line.len() == LINE {
         let p = put_card(rt, out, at, b"e", number, b"too long, over 65535 bytes");
         return put_card_end(rt, out, p);

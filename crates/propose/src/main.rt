@@ -68,9 +68,9 @@ fn run(
 {
     let mut names = [0u8; NAME_INDEX_NEED];
     match prepare(rule, flags, true, 0, budget, area, work, false, &mut names) {
-        Err(f) => say_refusal(rt, "propose", f, rule),
+        Err(f) => say_refusal(rt, b"propose", f, rule),
         Ok(compiled) => {
-            if let Some(file) = open(rt, "propose", LINES_FILE) {
+            if let Some(file) = open(rt, b"propose", LINES_FILE) {
                 let mut lines = Lines::new(file);
                 let setting = Setting {
                     entry: compiled.entry,
@@ -85,7 +85,7 @@ fn run(
 // With the flags and the budget, and the areas that are lent. The rule is the first line of its file, or all of it.
 fn start(rt: &HostRuntime, flags: u32, budget: u32) {
     let mut buffer = [0u8; RULE];
-    let Some(rule) = read_rule(rt, "propose", RULE_FILE, &mut buffer) else {
+    let Some(rule) = read_rule(rt, b"propose", RULE_FILE, &mut buffer) else {
         return;
     };
     let mut area = [0u32; RULE_AREA];

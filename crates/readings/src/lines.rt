@@ -5,7 +5,7 @@ ghost use Rattle.page_lines.specs.Rules.{Holds};
 use crate::telling::{is_unmatched, tell};
 use explaining::{Explanation, explain_held};
 use listing::list_held;
-use office::{CLOSED, Counts, Lines, ROOM, Told, count, put, put_number, say_progress};
+use office::{CLOSED, Counts, Lines, ROOM, Told, count, put, put_number, report_progress};
 use page_lines::{Job, LINE, RESULT_AREA, WORK_AREA};
 use report_line::{RULE, put_reason};
 use std::fs::File;
@@ -76,7 +76,7 @@ fn tell_line(
 {
     count(&mut counts.lines);
     let number = counts.lines;
-    say_progress(rt, "readings", number, "");
+    report_progress(rt, b"readings", number, b"");
     let p = put_number(rt, out, at, b"line ", number, b": ");
     if line.len() == LINE {
         count(&mut counts.too_long);

@@ -91,9 +91,9 @@ fn run(
 {
     let mut names = [0u8; NAME_INDEX_NEED];
     match prepare(rule, flags, false, 0, budget, area, work, false, &mut names) {
-        Err(f) => say_refusal(rt, "readings", f, rule),
+        Err(f) => say_refusal(rt, b"readings", f, rule),
         Ok(Compiled { entry, groups }) => {
-            let Some(file) = open(rt, "readings", LINES_FILE + shift) else {
+            let Some(file) = open(rt, b"readings", LINES_FILE + shift) else {
                 return;
             };
             let mut lines = Lines::new(file);
@@ -120,7 +120,7 @@ fn start(rt: &HostRuntime, shift: usize, flags: u32, budget: u32)
     requires { shift ≤ 1 }
 {
     let mut buffer = [0u8; RULE];
-    let Some(rule) = read_rule(rt, "readings", RULE_FILE + shift, &mut buffer) else {
+    let Some(rule) = read_rule(rt, b"readings", RULE_FILE + shift, &mut buffer) else {
         return;
     };
     let mut area = [0u32; RULE_AREA];
