@@ -37,16 +37,13 @@ fn put_fields<'a>(
         taken: 0,
         put: at,
     };
+    // the place moves by what a part took, so that a field may have many: a `for` would be no plainer
     while p.column < table.count {
         let put = make_room(rt, out, p.put, PART_ROOM);
         if ROOM - PART_ROOM < put {
             return CLOSED;
         }
-        let from = Place {
-            column: p.column,
-            taken: p.taken,
-            put,
-        };
+        let from = Place { put, ..p };
         p = write_part(
             columns,
             table.count,
