@@ -37,7 +37,7 @@ fn put_fields<'a>(
         taken: 0,
         put: at,
     };
-    // the place moves by what a part took, so that a field may have many: a `for` would be no plainer
+    // no `for` over the columns: a part may end within a field, and the place that it answers says where the next one begins
     while p.column < table.count {
         let put = make_room(rt, out, p.put, PART_ROOM);
         if ROOM - PART_ROOM < put {

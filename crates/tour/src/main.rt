@@ -29,7 +29,6 @@ use gateway_answers::{BUDGET, prepare};
 use gateway_text::ANSWER_ROOM;
 use index::UNSET;
 use machine::{Machine, fall_back, start};
-use parts::Answer;
 use plain::{make_move, tell_missed};
 use reader::read_rule;
 use reasons::item_end;
@@ -90,11 +89,10 @@ fn put_nodes(rt: &HostRuntime, rule: &[u8], area: &mut [u32]) -> usize
     ensures { result ≤ length area.new }
 {
     let mut table = [0u32; SPANS_LENGTH];
-    let read = read_rule(rule, 0, area, &mut table);
-    let Answer::Sound(d, _last) = read else {
+    let Ok(inside) = read_rule(rule, 0, area, &mut table) else {
         return 0;
     };
-    let used = d.used;
+    let used = inside.cursor.used;
     put(rt, b"nodes");
     put_numbers(rt, area, used);
     used

@@ -3,12 +3,12 @@ use native.Mathlib.Omega.{arith}
 use Rattle.syntax.specs.Limits.{group_limit, spans_length}
 use Rattle.tour.proofs.put_nodes.Goals as goal
 
-pub read_rule-read-requires : goal.read_rule-read-requires
+pub read_rule-requires : goal.read_rule-requires
 unfolding group_limit spans_length
-read_rule-read-requires c = (c.requires.0, c.requires.1, omega arith)
+read_rule-requires c = (c.requires.0, c.requires.1, omega arith)
 
 pub put_numbers-requires : goal.put_numbers-requires
-put_numbers-requires c = (rw c.in-Sound.is at c.read_rule-read.ensures).within
+put_numbers-requires c = (rw c.in-Ok.is at c.read_rule.ensures).within
 
 pub returns : goal.returns
-returns c = (rw c.in-Sound.is at c.read_rule-read.ensures).within
+returns c = (rw c.in-Ok.is at c.read_rule.ensures).within
