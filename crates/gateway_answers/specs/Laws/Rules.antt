@@ -59,21 +59,18 @@ module _ (s : List ℕ) where
   denied_as short true f (inr u) = inr u
 
   -- what compiling tells of a rule that is not too long
-  module _ (short : length s ≤ rule_limit) {checked : Bool} {old new : List ℕ} {x : Result Compiled Refusal} (done : Compiles checked s 0 old new x) where
+  module _ (short : length s ≤ rule_limit) {checked : Bool} {old new : List ℕ} {x : Result Compiled Refusal} (done : Compiles checked s gateway_flags old new x) where
     pub compiled_refused : (f : Refusal) → x ≡ Err f → Denies checked s f
-    unfolding gateway_flags
     compiled_refused f e = denied_as short checked f (compile-failed done f e)
 
     -- in an area that is no longer than is needed
     pub compiled_sound : (k : Compiled) → x ≡ Ok k → length new ≡ rule_area_need → Standing s new k.entry k.groups
-    unfolding gateway_flags
     compiled_sound k e l =
         let z = compile-sound done k e (omega arith) in
         let r : Reads s z.0 k.groups = (z.1, short_rule short ∙ z.2) in
         record { tree = z.0; reads = r; stands = rw (take_all rule_area_need new (omega arith)) at z.3; few = few_groups r }
 
-  -- in an answer
-  pub prepared : length s ≤ rule_limit → {checked : Bool} {old new : List ℕ} {x : Result Compiled Refusal} → Compiles checked s 0 old new x → length new ≡ rule_area_need → Prepares checked s new x
+  pub prepared : length s ≤ rule_limit → {checked : Bool} {old new : List ℕ} {x : Result Compiled Refusal} → Compiles checked s gateway_flags old new x → length new ≡ rule_area_need → Prepares checked s new x
   prepared short {x = Err f} done l = compiled_refused short done f refl
   prepared short {x = Ok k} done l = compiled_sound short done k refl l
 
