@@ -37,16 +37,13 @@ fn put_fields<'a>(
         taken: 0,
         put: at,
     };
+    // no `for` over the columns: a part may end within a field, and the place that it answers says where the next one begins
     while p.column < table.count {
         let put = make_room(rt, out, p.put, PART_ROOM);
         if ROOM - PART_ROOM < put {
             return CLOSED;
         }
-        let from = Place {
-            column: p.column,
-            taken: p.taken,
-            put,
-        };
+        let from = Place { put, ..p };
         p = write_part(
             columns,
             table.count,

@@ -1,11 +1,13 @@
 -- The words of a card, put together from the parts that are written one behind another; and how long they are at most.
-use Rattle.std.specs.Prelude.{◌≡◌, Bool, true, ℕ, suc, ◌+◌, ◌*◌, ◌^◌, ◌≤◌, ◌<◌, length, get_or, take}
+use Rattle.std.specs.Prelude.{◌≡◌, Bool, true, ℕ, suc, ◌+◌, ◌*◌, ◌/◌, ◌%◌, ◌^◌, ◌≤◌, ◌<◌, eqb, length, get_or, take}
 use Rattle.std.proofs.Math.Path.{refl}
 use Rattle.std.proofs.Common.{ap, ◌∙◌, add-one, eq-eqb, ne_eqb, take-suc, take_all}
 use Rattle.std.proofs.Math.Bool.{false}
 use mathlib.Core.List.{List, [], ◌∷◌, ◌++◌, append_assoc, append-nil}
 use native.Mathlib.Omega.{arith}
 use Rattle.syntax.specs.Read.{bytes}
+use Rattle.syntax.specs.Limits.{dot_all_bit, multiline_bit, ignore_case_bit, extended_bit, depot_bit}
+use Rattle.syntax.specs.Flags.{dot_all, multiline, ignore_case, extended, depot}
 use Rattle.text.specs.Lines.{newline}
 use Rattle.text.specs.Numbers.{decimal}
 use Rattle.text.specs.Writing.{Wrote}
@@ -101,6 +103,28 @@ module _ {out : List ℕ} {at : ℕ} (words : List ℕ) where
   pub flag-set : {new : List ℕ} {e : ℕ} (set : Bool) → set ≡ true → WroteUpTo (8 + length words + 1) out at (line (bytes "flag    ") words) new e → WroteUpTo (9 + length words) out at (flag_line set words) new e
   unfolding flag_line
   flag-set set u w = rw u (record { wrote = w.wrote; near = omega (arith, w.near) })
+
+-- a flag as the code asks for it
+module _ (flags : ℕ) where
+  pub dot_all-is : eqb (flags % 2) 1 ≡ dot_all flags
+  unfolding dot_all dot_all_bit
+  dot_all-is = let e : flags / 1 ≡ flags = omega arith in rw e
+
+  pub multiline-is : eqb (flags / 2 % 2) 1 ≡ multiline flags
+  unfolding multiline multiline_bit
+  multiline-is = refl
+
+  pub ignore_case-is : eqb (flags / 4 % 2) 1 ≡ ignore_case flags
+  unfolding ignore_case ignore_case_bit
+  ignore_case-is = refl
+
+  pub extended-is : eqb (flags / 8 % 2) 1 ≡ extended flags
+  unfolding extended extended_bit
+  extended-is = refl
+
+  pub depot-is : eqb (flags / 16 % 2) 1 ≡ depot flags
+  unfolding depot depot_bit
+  depot-is = refl
 
 -- the lines of the flags
 module _ (flags : ℕ) where

@@ -26,6 +26,9 @@ module _ {checked : Bool} {s : List ℕ} {flags : ℕ} {old new : List ℕ} {r :
   stood : (k : Compiled) → r ≡ Ok k → StandsCompiled checked s flags new k.entry k.groups
   stood k e = subst (λ (x : Result Compiled Refusal). Says checked s flags new x) e h.says
 
+  pub compile-near : (k : Compiled) → r ≡ Ok k → k.entry ≤ rule_area_need
+  compile-near k e = (stood k e).near
+
   -- the rule stands in the needed part of the area alone, and a check can follow it, if it is one
   pub compile-sound : (k : Compiled) → r ≡ Ok k → rule_area_need ≤ length new → (x : Rule) × (at : ℕ) × (reading s flags ≡ sound (x, k.groups) at) × Stands (take rule_area_need new) x k.entry × (checked ≡ true → uncheckable x ≡ none)
   unfolding rule_area_need

@@ -20,7 +20,7 @@ use Rattle.reader.specs.Compiles.{Fails, Compiles}
 use Rattle.frame.specs.Laws.Compiled.{compile-failed, compile-sound}
 use Rattle.gateway_answers.specs.Limits.{gateway_flags}
 use Rattle.gateway_answers.specs.Answers.{gateway_rule}
-use Rattle.gateway_answers.specs.Promises.{Reads, Denies, Prepares}
+use Rattle.gateway_answers.specs.Promises.{Reads, Standing, Denies, Prepares}
 
 module _ (s : List ℕ) where
   pub long_rule : rule_limit < length s → gateway_rule s ≡ refused 0 RuleTooLong
@@ -58,13 +58,21 @@ module _ (s : List ℕ) where
   denied_as short true f (inl e) = inl (short_rule short ∙ e)
   denied_as short true f (inr u) = inr u
 
-  -- what compiling tells of a rule that is not too long, in an area that is no longer than is needed
+  -- what compiling tells of a rule that is not too long
+  module _ (short : length s ≤ rule_limit) {checked : Bool} {old new : List ℕ} {x : Result Compiled Refusal} (done : Compiles checked s gateway_flags old new x) where
+    pub compiled_refused : (f : Refusal) → x ≡ Err f → Denies checked s f
+    compiled_refused f e = denied_as short checked f (compile-failed done f e)
+
+    -- in an area that is no longer than is needed
+    pub compiled_sound : (k : Compiled) → x ≡ Ok k → length new ≡ rule_area_need → Standing s new k.entry k.groups
+    compiled_sound k e l =
+        let z = compile-sound done k e (omega arith) in
+        let r : Reads s z.0 k.groups = (z.1, short_rule short ∙ z.2) in
+        record { tree = z.0; reads = r; stands = rw (take_all rule_area_need new (omega arith)) at z.3; few = few_groups r }
+
   pub prepared : length s ≤ rule_limit → {checked : Bool} {old new : List ℕ} {x : Result Compiled Refusal} → Compiles checked s gateway_flags old new x → length new ≡ rule_area_need → Prepares checked s new x
-  prepared short {checked = checked} {new = new} {x = Err f} done l = denied_as short checked f (compile-failed done f refl)
-  prepared short {new = new} {x = Ok k} done l =
-      let z = compile-sound done k refl (omega arith) in
-      let r : Reads s z.0 k.groups = (z.1, short_rule short ∙ z.2) in
-      record { tree = z.0; reads = r; stands = rw (take_all rule_area_need new (omega arith)) at z.3; few = few_groups r }
+  prepared short {x = Err f} done l = compiled_refused short done f refl
+  prepared short {x = Ok k} done l = compiled_sound short done k refl l
 
 -- of a rule that is too long, one byte more than the limit is enough to read
 pub cut_rule : (s : List ℕ) → gateway_rule (take (suc rule_limit) s) ≡ gateway_rule s

@@ -14,12 +14,17 @@ use Rattle.semantics.specs.Demands.{In}
 use Rattle.semantics.proofs.Laws.Failures.{greatest-append}
 use Rattle.greatest.specs.declared.greatest.Failed.{Failed}
 use Rattle.greatest.specs.declared.greatest.Best.{Best}
-use Rattle.greatest.specs.Leading.{listed}
+use Rattle.plain.specs.declared.Miss.{Miss}
+use Rattle.greatest.specs.Leading.{kept_of, listed}
 use Rattle.greatest.specs.Best.{failure_of, furthest_of, closest_of, Blank, Keeps, Finds}
 
 -- One more failure ----------------------------------------------------------------
 
 module _ (by : Failure → ℕ) (best x : Failed) where
+  pub first_one : some (failure_of x) ≡ greater by none (failure_of x)
+  unfolding greater
+  first_one = refl
+
   pub greater-one : by (failure_of best) < by (failure_of x) → some (failure_of x) ≡ greater by (some (failure_of best)) (failure_of x)
   unfolding greater
   greater-one h = rw (lt-ltb (by (failure_of best)) (by (failure_of x)) h)
@@ -29,6 +34,15 @@ module _ (by : Failure → ℕ) (best x : Failed) where
   no_greater h = rw (le-ltb (by (failure_of best)) (by (failure_of x)) h)
 
 -- The greatest of one start ---------------------------------------------------------
+
+-- what was kept of the walk from a start, as failures
+pub listed-none : (start : ℕ) → listed (kept_of start None) ≡ []
+unfolding listed kept_of
+listed-none start = refl
+
+pub listed-one : (start : ℕ) (k : Miss) → listed (kept_of start (Some k)) ≡ record { start = start; at = k.at; place = k.place } ∷ []
+unfolding listed kept_of
+listed-one start k = refl
 
 -- all failures of one start, each at it or behind
 abbrev Since : (start : ℕ) → Failure → Type 0

@@ -1,6 +1,6 @@
 -- Facts about the text that is shown, and about the search for a byte that is shown as a dot.
-use Rattle.std.specs.Prelude.{◌≡◌, refl, List, [], ◌∷◌, ◌++◌, not, ℕ, zero, suc, min, length, take, drop, get_or}
-use Rattle.std.proofs.Common.{ap, ◌∙◌, zero-add}
+use Rattle.std.specs.Prelude.{◌≡◌, refl, List, [], ◌∷◌, ◌++◌, true, false, not, ℕ, zero, suc, ◌≤◌, ◌<◌, min, length, take, drop, get_or}
+use Rattle.std.proofs.Common.{ap, ◌∙◌, zero-add, drop_of_length-le, drop-cons}
 use Rattle.std.proofs.lemmas.List.{length-map, take_min}
 use Rattle.std.proofs.Math.ListN.{get_or-map}
 use Rattle.std.proofs.Math.Seq.{paste}
@@ -31,6 +31,18 @@ shown-whole line out n e =
     (shown-take n line ∙ ap (λ (k : ℕ). shown_text (take k line)) e ∙ ap shown_text (take_min (length out) line)))
 
 -- Dots ------------------------------------------------------------------------
+
+pub odd-next : (line : List ℕ) (i : ℕ) → i < length line → is_printed (get_or line i 0) ≡ true → is_odd (drop i line) ≡ is_odd (drop (suc i) line)
+unfolding is_odd
+odd-next line i h e = rw (drop-cons line i 0 h, e)
+
+pub odd-here : (line : List ℕ) (i : ℕ) → i < length line → is_printed (get_or line i 0) ≡ false → is_odd (drop i line) ≡ true
+unfolding is_odd
+odd-here line i h e = rw (drop-cons line i 0 h, e)
+
+pub odd-none : (line : List ℕ) (i : ℕ) → length line ≤ i → is_odd (drop i line) ≡ false
+unfolding is_odd
+odd-none line i h = rw (drop_of_length-le line h)
 
 -- the search for such a byte
 pub odd-is_any : (line : List ℕ) → list_any (λ b. not (is_printed b)) line ≡ is_odd line

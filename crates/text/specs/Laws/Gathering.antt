@@ -1,6 +1,6 @@
 -- What is written behind the part of a line that is held, cut at the limit, is gathered.
 use Rattle.std.specs.Prelude.{◌≡◌, refl, List, ◌++◌, ℕ, ◌+◌, ◌-◌, ◌≤◌, min, length, take}
-use Rattle.std.proofs.Common.{sym, ap, ◌∙◌, arith, length-take, length-take-le}
+use Rattle.std.proofs.Common.{sym, ap, ◌∙◌, arith, length-take, take_all, length-take-le}
 use Rattle.std.proofs.lemmas.List.{take_min}
 use Rattle.std.proofs.Math.Seq.{take-append-add}
 use Rattle.text.specs.Gathering.{Gathered}
@@ -27,3 +27,7 @@ module _ (limit : ℕ) (old piece : List ℕ) (have : ℕ) (h : have ≤ limit) 
   -- as much of the piece as there is and as there is room for
   pub gathered_fitting : Wrote old have (take (min (limit - have) (length piece)) piece) new now → Gathered limit old have piece new now
   gathered_fitting w = gathered (rw (take_min (limit - have) piece) at w)
+
+  -- a piece that the room is enough for is not cut
+  pub gathered_whole : length piece ≤ limit - have → Wrote old have piece new now → Gathered limit old have piece new now
+  gathered_whole e w = gathered (rw (take_all (limit - have) piece e) w)
