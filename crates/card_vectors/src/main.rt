@@ -6,8 +6,6 @@
 // bytes; or 'refused', the refusal's number, 'at' and its place. All of them are in decimal.
 #![tactic(auto)]
 
-ghost use Rattle.std.specs.Prelude.{◌≡◌};
-
 use cards::{CARD_NEED, read_card, write_card};
 use frame::RULE_AREA_NEED;
 use std::io;

@@ -43,11 +43,7 @@ fn put_fields<'a>(
         if ROOM - PART_ROOM < put {
             return CLOSED;
         }
-        let from = Place {
-            column: p.column,
-            taken: p.taken,
-            put,
-        };
+        let from = Place { put, ..p };
         p = write_part(
             columns,
             table.count,
