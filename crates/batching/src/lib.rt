@@ -16,8 +16,8 @@ pub use counting::count_lines;
 use frame::{RULE_AREA_NEED, finish, prepare};
 use syntax::Refusal;
 
-// Matches a rule against each line of a buffer, and tells how many there are. The parts of the lines are written into the results, each with its line's outcome,
-// and the name index is filled.
+// Matches a rule against each line of a buffer, and tells how many there are. The parts of the lines are written into the results, each with its line's
+// outcome, and the name index is filled.
 pub fn match_lines(
     rule: &[u8],
     flags: u32,

@@ -13,8 +13,8 @@ use syntax::{Reason, Refusal};
 // the greatest budget that two bytes have room for
 pub const CARD_BUDGET_LIMIT: u32 = 65535;
 
-// Whether a rule can be read, by its length, its flags and budget and the length of the rule area. The tests of a call (`refusals::unfit`) have another limit of
-// the budget, and stand between tests of what no card has: one function for both would be handed five numbers that mean nothing here.
+// Whether a rule can be read, by its length, its flags and budget and the length of the rule area. The tests of a call (`refusals::unfit`) have another limit
+// of the budget, and stand between tests of what no card has: one function for both would be handed five numbers that mean nothing here.
 pub fn unfit(size: usize, flags: u32, budget: u32, rule_area: usize) -> Result<(), Reason>
     ensures { fitness_of result ≡ unfitting size flags budget rule_area }
 {

@@ -42,7 +42,8 @@ fn compile_or_clear(
     }
 }
 
-// Prepares a call, which may be a check: its rule then stands compiled in its area. Or why the call is refused, with its areas already as they are left. Of the subject its length is enough, and of the result area whether it is too short for what the call writes.
+// Prepares a call, which may be a check: its rule then stands compiled in its area. Or why the call is refused, with its areas already as they are left. Of the
+// subject its length is enough, and of the result area whether it is too short for what the call writes.
 pub fn prepare(
     rule: &[u8],
     flags: u32,
