@@ -40,3 +40,15 @@ pub record Decoded (digits old : List ℕ) (r : ℕ) (new : List ℕ) : Type 0 w
 unfoldable pub up_to : ℕ → List ℕ → List ℕ
 up_to x [] = []
 up_to x (b ∷ bs) = if eqb b x then [] else b ∷ up_to x bs
+
+-- the position behind the bytes that stand from a position up to the first x
+unfoldable pub end_by : ℕ → List ℕ → ℕ → ℕ
+end_by x s from = from + length (up_to x (drop from s))
+
+-- a word ends before a blank, or where its line does
+abbrev pub word_end : List ℕ → ℕ → ℕ → ℕ
+word_end s from to = end_by 32 (take to s) from
+
+-- the next word begins behind the blank
+unfoldable pub next_word : ℕ → ℕ → ℕ
+next_word from to = min (from + 1) to
