@@ -5,7 +5,7 @@ use crate::counted::count_lines;
 use crate::job::{Job, RESULT_AREA, Table, WORK_AREA};
 use crate::judging::program;
 use crate::shown_lines::show_lines;
-use office::{CLOSED, Counts, Lines, ROOM, fail_at, flush};
+use office::{CLOSED, Counts, Lines, ROOM, fail_at, flush, say};
 use page::{put_columns, put_counts, put_head, put_legend, put_note, put_rule, put_tail};
 use std::fs::File;
 use std::io::Error;
@@ -108,8 +108,8 @@ fn show_and_end(
         say_cut_short(rt, table, why);
     }
     if shown.lines != counted {
-        let name = program(table);
-        let _ = eprintln!(rt; "{name}: the lines changed while the page was written");
+        say(rt, program(table));
+        say(rt, b": the lines changed while the page was written\n");
     }
     let end = put_tail(rt, out, shown.told.at, counted, shown.lines);
     flush(rt, out, end)
