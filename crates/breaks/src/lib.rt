@@ -15,7 +15,7 @@ const FEED: u8 = 0x0A;
 
 const NEXT_LINE: u8 = 0x85;
 
-// The steps that `\R` makes, and the bytes that it takes, none if it fails.
+// The steps that `\R` makes, and the bytes that it takes, none if it fails. 0 stands for none and no `Option`: `break_bytes` of specs/Breaks gives that number.
 #[derive(Clone, Copy, Debug, PartialEq, Eq)]
 pub struct Break {
     pub steps: u32,

@@ -114,7 +114,7 @@ impl From<Greed> for u32 {
     }
 }
 
-// The most rounds that a repeat makes.
+// The most rounds that a repeat makes. An `Option<u32>` would be no plainer: the tree of a rule and the theorems over it speak of `AtMost` and `Unlimited`.
 #[derive(Clone, Copy, Debug, PartialEq, Eq)]
 pub enum Most {
     AtMost(u32),
