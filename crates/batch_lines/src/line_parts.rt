@@ -17,7 +17,7 @@ use index::ROW_LENGTH;
 use openings::Opening;
 use syntax::{Reason, Refusal};
 
-// all numbers of a part
+// all numbers of a part; the four behind the row tell the outcome, as numbers for C
 pub const PART_LENGTH: usize = ROW_LENGTH + 4;
 
 // Writes a number, unless it stands there. It is read first because the processor foresees what is read at even distances, and has the next part near by

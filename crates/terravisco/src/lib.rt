@@ -19,7 +19,7 @@ use answers::{
 };
 use lookup::Found;
 
-// One match.
+// One match. This call and the three that are written like it stay apart: C calls each by its name, with its parameters.
 pub fn terravisco_match(
     rule: &[u8],
     flags: u32,
