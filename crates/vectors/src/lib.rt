@@ -1,9 +1,9 @@
 // Test vectors: the whole input of a program, and in its lines digits, hex bytes and words.
 #![tactic(auto)]
 
-ghost use Rattle.std.specs.Prelude.{◌≡◌, ◌+◌, ◌<◌, length, drop};
+ghost use Rattle.std.specs.Prelude.{◌≡◌, ◌+◌, ◌-◌, ◌<◌, length, drop};
 ghost use Rattle.io.specs.Counts.{IsPrefixLen};
-ghost use Rattle.vectors.specs.Text.{digit_value, number_of, Decoded, up_to};
+ghost use Rattle.vectors.specs.Text.{digit_value, number_of, Decoded, up_to, end_by, next_word};
 
 use std::io::Read;
 
@@ -63,6 +63,8 @@ pub fn decode(digits: &[u8], out: &mut [u8]) -> usize
 pub fn cut(text: &[u8], end: u8) -> (&[u8], &[u8])
     ensures before { result.0.now ≡ up_to end text.now }
     ensures behind { result.1.now ≡ drop (length (up_to end text.now) + 1) text.now }
+    ensures ends { length result.0.now ≡ end_by end text.now 0 }
+    ensures next { length result.1.now ≡ length text.now - next_word (end_by end text.now 0) (length text.now) }
     ensures shorter { 0 < length text.now → length result.1.now < length text.now }
 {
     match text.iter().position(|b| *b == end) {

@@ -148,16 +148,16 @@ fn tell_line(rt: &HostRuntime, line: &[u8], area: &mut [u32], work: &mut [u32]) 
     )
 }
 
-fn tell_lines(rt: &HostRuntime, input: &[u8], area: &mut [u32], work: &mut [u32]) -> io::Result<()>
+fn tell_lines(rt: &HostRuntime, input: &[u8], area: &mut [u32], work: &mut [u32])
     requires { (length area.old ≡ rule_area_need) × (8 * 20000 ≤ length work.old) }
 {
     let mut rest = input;
     while !rest.is_empty() {
         let (line, behind) = cut(rest, b'\n');
-        tell_line(rt, line, area, work)?;
+        // what of a line cannot be written is lost, and the next is told all the same
+        let _ = tell_line(rt, line, area, work);
         rest = behind;
     }
-    Ok(())
 }
 
 fn main(rt: HostRuntime) {
@@ -166,6 +166,5 @@ fn main(rt: HostRuntime) {
     let n = vectors::read_full(&mut input, &mut buffer);
     let mut area = [0u32; 16384];
     let mut work = [0u32; 160000];
-    // where nothing can be written, there is nobody to tell
-    let _ = tell_lines(&rt, &buffer[..n], &mut area, &mut work);
+    tell_lines(&rt, &buffer[..n], &mut area, &mut work);
 }

@@ -1,7 +1,7 @@
 -- Laws of the ends of words, by their positions in a line. Assumes nothing.
 use Rattle.std.specs.Prelude.{◌≡◌, Bool, ℕ, ◌+◌, ◌-◌, ◌≤◌, ◌<◌, get_or, take, drop, eqb}
 use Rattle.std.proofs.Math.Path.{refl}
-use Rattle.std.proofs.Common.{sym, ◌∙◌, drop_of_length-le, drop-cons, get_or-take, length-take-le, eq-eqb, ne_eqb}
+use Rattle.std.proofs.Common.{sym, ◌∙◌, drop_of_length-le, drop-cons, get_or-take, length-take-le, take_all, eq-eqb, ne_eqb}
 use mathlib.Core.List.{List, [], ◌∷◌}
 use Rattle.std.proofs.Math.Bool.{true, false}
 use native.Mathlib.Omega.{arith}
@@ -71,3 +71,17 @@ module _ (from to r : ℕ) (e : r ≡ next_word from to) where
   pub next-within : r ≤ to
   unfolding next_word
   next-within = omega arith
+
+-- What is cut at a byte, by positions: the cut is made where the byte stands, and what is behind it begins behind that.
+module _ (x : ℕ) (s l : List ℕ) where
+  pub cut-ends : l ≡ up_to x s → length l ≡ end_by x s 0
+  unfolding end_by
+  cut-ends e = rw e (omega arith)
+
+  pub cut-next : l ≡ drop (length (up_to x s) + 1) s → length l ≡ length s - next_word (end_by x s 0) (length s)
+  unfolding end_by next_word
+  cut-next e = rw e (simp length-drop (omega arith))
+
+-- the blank is such a byte: the word before it ends there
+pub cut-word : (s l : List ℕ) → l ≡ up_to 32 s → length l ≡ word_end s 0 (length s)
+cut-word s l e = rw (take_all (length s) s (omega arith)) (cut-ends 32 s l e)
