@@ -3,7 +3,7 @@
 //
 // The names are those of the name index, an entry for each group: the length of its name, and room for the longest. The margin is settled once, from all
 // of them, so that the columns of every line of a report stand under one another. Without names it is as wide as it needs to be for other labels.
-ghost use Rattle.std.specs.Prelude.{◌≤◌, ◌<◌};
+ghost use Rattle.std.specs.Prelude.{◌≤◌, ◌<◌, length, IfSome};
 ghost use Rattle.syntax.specs.Limits.{group_limit, name_limit};
 
 use office::{ROOM, put, put_number};
@@ -17,6 +17,7 @@ const LEAST_MARGIN: usize = 12;
 // The name of the group that so many others come before, if it has one.
 fn name_of(names: &[u8; NAME_INDEX_NEED], passed: usize) -> Option<&[u8]>
     requires { passed < group_limit }
+    ensures { IfSome result (λ name. length name.now ≤ name_limit) }
 {
     let from = passed * NAME_ENTRY;
     let to = from + NAME_ENTRY;
