@@ -82,7 +82,7 @@ fn write_rule(rt: &HostRuntime, rule: &[u8], flags: u32, budget: u32)
 // With the flags and the budget. The rule is the first line of its file, or all of it.
 fn start(rt: &HostRuntime, flags: u32, budget: u32) {
     let mut buffer = [0u8; RULE];
-    if let Some(rule) = read_rule(rt, b"card", RULE_FILE, &mut buffer) {
+    if let Some((_file, rule)) = read_rule(rt, b"card", RULE_FILE, &mut buffer) {
         write_rule(rt, rule, flags, budget);
     }
 }

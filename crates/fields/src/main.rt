@@ -136,7 +136,7 @@ fn start(rt: &HostRuntime, o: Options)
     requires { o.at < 200 }
 {
     let mut buffer = [0u8; RULE];
-    let Some(rule) = read_rule(rt, b"fields", o.at, &mut buffer) else {
+    let Some((_file, rule)) = read_rule(rt, b"fields", o.at, &mut buffer) else {
         return;
     };
     let mut area = [0u32; RULE_AREA];

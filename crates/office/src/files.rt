@@ -61,18 +61,20 @@ pub fn open(rt: &HostRuntime, program: &[u8], argument: usize) -> Option<File> {
 }
 
 // The rule in the file that an argument names, its first line or all of it, put into a buffer. Where it cannot be read, it is said why. A rule that
-// fills the buffer is read no further: it is too long, whatever follows.
+// fills the buffer is read no further: it is too long, whatever follows. The file comes with it, to be held open as long as the rule is used: who writes
+// more than the rule into a pipe of that name is not cut off before it is read as the lines, too.
 pub fn read_rule<'r>(
     rt: &HostRuntime,
     program: &[u8],
     argument: usize,
     rule: &'r mut [u8],
-) -> Option<&'r [u8]>
-    ensures { IfSome result (λ r. length r.now ≤ length rule.old) }
+) -> Option<(File, &'r [u8])>
+    ensures { IfSome result (λ r. length r.1.now ≤ length rule.old) }
 {
-    let file = open(rt, program, argument)?;
-    match Lines::new(file).first(rule) {
-        Ok(n) => Some(&rule[..n]),
+    let mut file = open(rt, program, argument)?;
+    let first = Lines::new(&mut file).first(rule);
+    match first {
+        Ok(n) => Some((file, &rule[..n])),
         Err(why) => {
             fail_at(rt, program, b"the rule could not be read", why);
             None

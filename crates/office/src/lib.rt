@@ -13,7 +13,7 @@ mod refusals;
 pub use arguments::{arg, arg_count, asks_for_page, budget_at, decimal, flags, flags_at, is_word};
 pub use counts::{Counts, count};
 pub use files::{open, path_at, read_rule};
-pub use lines::{CutShort, Lines};
+pub use lines::{CutShort, Lines, PIECE};
 pub use messages::{fail, fail_at, report_progress, say};
 pub use output::{CLOSED, ROOM, Told, flush, put, put_number};
 pub use refusals::say_refusal;

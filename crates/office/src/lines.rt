@@ -7,7 +7,7 @@ use std::io::{ErrorKind, Seek, SeekFrom};
 use text::{gather, line_end};
 
 // How much of a file is read at once.
-const PIECE: usize = 65536;
+pub const PIECE: usize = 65536;
 
 // A file, and what was read of it and not yet taken: the bytes of a piece from `at` to `end`. The piece is an array and no `BufReader`, since a program of the
 // gateway has no heap.

@@ -85,7 +85,7 @@ fn run(
 // With the flags and the budget, and the areas that are lent. The rule is the first line of its file, or all of it.
 fn start(rt: &HostRuntime, flags: u32, budget: u32) {
     let mut buffer = [0u8; RULE];
-    let Some(rule) = read_rule(rt, b"propose", RULE_FILE, &mut buffer) else {
+    let Some((_file, rule)) = read_rule(rt, b"propose", RULE_FILE, &mut buffer) else {
         return;
     };
     let mut area = [0u32; RULE_AREA];

@@ -120,7 +120,7 @@ fn start(rt: &HostRuntime, shift: usize, flags: u32, budget: u32)
     requires { shift ≤ 1 }
 {
     let mut buffer = [0u8; RULE];
-    let Some(rule) = read_rule(rt, b"readings", RULE_FILE + shift, &mut buffer) else {
+    let Some((_file, rule)) = read_rule(rt, b"readings", RULE_FILE + shift, &mut buffer) else {
         return;
     };
     let mut area = [0u32; RULE_AREA];
