@@ -41,7 +41,7 @@ returns-in_err-compiled c = let a = c.args in
     let p = c.prepare.ensures row_length a.subject.now a.results.now refl refl in
     let d = call_of a.rule.now a.flags a.subject.now a.budget a.rule_area.now a.work_area.now a.results.now a.names.now in
     let q = err_from_is_err_and c.from_residual.result c.from_residual.ensures.1 in
-    rw (q.1, q.2) (denied-as check_refused row_length (check_rule a.proposal.now) (λ x _ e. check-declines a.proposal.now d x _ _ e) (is-denied p _ c.in_err-compiled.was))
+    rw (rw q.2 at q.1) (denied-as check_refused row_length (check_rule a.proposal.now) (λ x _ e. check-declines a.proposal.now d x _ _ e) (is-denied p _ c.in_err-compiled.was))
 
 pub returns : goal.returns
 unfolding rule_area_need row_length check_call
