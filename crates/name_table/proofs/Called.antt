@@ -16,11 +16,11 @@ use Rattle.name_table.specs.Table.{names_in, length-names}
 
 -- Two names -----------------------------------------------------------------------------
 
--- what the comparison of a part of the rule with other bytes answered
-pub compared : (s x y : List ℕ) (from len : ℕ) (b : Bool) → y ≡ x → b ≡ pointwise eqb (take (from + len - from) (drop from s)) y → same_bytes (slice from (from + len) s) x ≡ b
-compared s x y from len b is e =
-    let k : from + len - from ≡ len = omega arith in
-    sym (e ∙ rw (is, k) (ap (λ (part : List ℕ). pointwise eqb part x) (sym (drop-take from len s))) ∙ same-pointwise (slice from (from + len) s) x)
+-- what the comparison of a part of the rule with other bytes answered, if the part is as long as the name
+pub compared : (s x y : List ℕ) (from len part : ℕ) (b : Bool) → y ≡ x → b ≡ pointwise eqb (take (from + part - from) (drop from s)) y → part ≡ len → same_bytes (slice from (from + len) s) x ≡ b
+compared s x y from len part b is e l =
+    let k : from + part - from ≡ len = omega (arith, l) in
+    sym (e ∙ rw (is, k) (ap (λ (bytes : List ℕ). pointwise eqb bytes x) (sym (drop-take from len s))) ∙ same-pointwise (slice from (from + len) s) x)
 
 -- The names of a table -----------------------------------------------------------------
 

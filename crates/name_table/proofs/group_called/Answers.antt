@@ -9,10 +9,10 @@ pub loop-others-init : goal.loop-others-init
 loop-others-init c = refl
 
 pub returns-then-eq : goal.returns-then-eq
-returns-then-eq c = let k : c.loop-others.others - 1 + 1 ≡ c.loop-others.others = omega arith in (k ∙ sym (c.loop-others.invariant ∙ called-here _ _ _ _ (omega arith) (compared c.args.rule.now _ _ c.args.from c.args.len _ c.name_behind.ensures c.eq.ensures ∙ c.if-eq.true)), (omega arith, omega (arith, c.loop-others.auto.others)))
+returns-then-eq c = let k : c.loop-others.others - 1 + 1 ≡ c.loop-others.others = omega arith in (k ∙ sym (c.loop-others.invariant ∙ called-here _ _ _ _ (omega arith) (compared c.args.rule.now _ _ c.args.from c.args.len _ _ c.name_behind.ensures c.eq.ensures (omega arith) ∙ c.if-eq.true)), (omega arith, omega (arith, c.loop-others.auto.others)))
 
 pub loop-others-preserved : goal.loop-others-preserved
-loop-others-preserved c = c.loop-others.invariant ∙ called-below _ _ _ _ (omega arith) (compared c.args.rule.now _ _ c.args.from c.args.len _ c.name_behind.ensures c.eq.ensures ∙ c.if-eq.false)
+loop-others-preserved c = c.loop-others.invariant ∙ called-below _ _ _ _ (omega arith) (compared c.args.rule.now _ _ c.args.from c.args.len _ _ c.name_behind.ensures c.eq.ensures (omega arith) ∙ c.if-eq.false)
 
 pub returns : goal.returns
 returns c = (sym (c.loop-others.invariant ∙ called-none _ _ _ _ (omega arith)), tt)
