@@ -5,30 +5,33 @@
 ghost use Rattle.std.specs.Prelude.{◌≤◌, length};
 ghost use Rattle.syntax.specs.Limits.{rule_limit, rule_area_need};
 
-use std::io;
-use vectors::{cut, decode, number};
+use vectors::{cut, decode, number, put, put_refusal};
 
 // Greater flags are held at this.
 const FLAGS_MOST: u32 = 1000;
 
 // One rule's verdict.
-fn tell(rt: &HostRuntime, rule: &[u8], flags: u32, area: &mut [u32]) -> io::Result<()>
+fn tell(rt: &HostRuntime, rule: &[u8], flags: u32, area: &mut [u32])
     requires { (length rule.now ≤ rule_limit) × (rule_area_need ≤ length area.old) }
 {
     match reader::compile(rule, flags, false, area) {
-        Ok(compiled) => println!(rt; "sound {}", compiled.groups),
-        Err(f) => println!(rt; "{f}"),
+        Ok(compiled) => {
+            put(rt, "sound ");
+            put(rt, compiled.groups);
+            put(rt, "\n");
+        }
+        Err(f) => put_refusal(rt, f),
     }
 }
 
 // The verdict on the rule of a line.
-fn tell_line(rt: &HostRuntime, line: &[u8], area: &mut [u32]) -> io::Result<()>
+fn tell_line(rt: &HostRuntime, line: &[u8], area: &mut [u32])
     requires { rule_area_need ≤ length area.old }
 {
     let mut rule = [0u8; 1000];
     let (flags, digits) = cut(line, b' ');
     let n = decode(digits, &mut rule);
-    tell(rt, &rule[..n], number(flags, FLAGS_MOST), area)
+    tell(rt, &rule[..n], number(flags, FLAGS_MOST), area);
 }
 
 fn tell_lines(rt: &HostRuntime, input: &[u8], area: &mut [u32])
@@ -37,8 +40,7 @@ fn tell_lines(rt: &HostRuntime, input: &[u8], area: &mut [u32])
     let mut rest = input;
     while !rest.is_empty() {
         let (line, behind) = cut(rest, b'\n');
-        // what of a line cannot be written is lost, and the next is told all the same
-        let _ = tell_line(rt, line, area);
+        tell_line(rt, line, area);
         rest = behind;
     }
 }

@@ -1,11 +1,13 @@
-// Test vectors: the whole input of a program, and in its lines digits, hex bytes and words.
+// Test vectors: the whole input of a program, in its lines digits, hex bytes and words, and the pieces of what it writes.
 #![tactic(auto)]
 
 ghost use Rattle.std.specs.Prelude.{◌≡◌, ◌+◌, ◌-◌, ◌<◌, length, drop};
 ghost use Rattle.io.specs.Counts.{IsPrefixLen};
 ghost use Rattle.vectors.specs.Text.{digit_value, number_of, Decoded, up_to, end_by, next_word};
 
+use std::fmt::Display;
 use std::io::Read;
+use syntax::Refusal;
 
 // 262,144 zeros, for the whole input of a program.
 pub fn input_buffer() -> [u8; 262144]
@@ -85,4 +87,23 @@ pub fn number(digits: &[u8], limit: u32) -> u32
         }
     }
     n as u32
+}
+
+// A piece of a line, which is a write of its own. If it cannot be written it is lost, and the next piece is tried all the same.
+pub fn put<D: Display + Drop>(rt: &HostRuntime, piece: D) {
+    let _ = rt.print(piece);
+}
+
+// A refusal up to the end of its line: the number of its reason, 'at' and its place.
+pub fn put_refusal(rt: &HostRuntime, f: Refusal) {
+    put(rt, u32::from(f.reason));
+    put(rt, " at ");
+    put(rt, f.place);
+    put(rt, "\n");
+}
+
+// The same behind 'refused'.
+pub fn put_refused(rt: &HostRuntime, f: Refusal) {
+    put(rt, "refused ");
+    put_refusal(rt, f);
 }
