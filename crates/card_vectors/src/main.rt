@@ -8,8 +8,7 @@
 
 use cards::{CARD_NEED, read_card, write_card};
 use frame::RULE_AREA_NEED;
-use std::io;
-use vectors::{cut, decode};
+use vectors::{cut, decode, put, put_refused};
 
 // What is lent at most: one more than is needed.
 const RULE_AREA: usize = RULE_AREA_NEED + 1;
@@ -38,12 +37,13 @@ impl From<u32> for Call {
     }
 }
 
-// The first bytes of an area, so many of them.
-fn put_first(rt: &HostRuntime, area: &[u8], n: usize) -> io::Result<()> {
+// The first bytes of an area, so many of them, at the end of a line.
+fn put_first(rt: &HostRuntime, area: &[u8], n: usize) {
     for b in &area[..n.min(area.len())] {
-        print!(rt; " {b}")?;
+        put(rt, " ");
+        put(rt, *b);
     }
-    println!(rt; "")
+    put(rt, "\n");
 }
 
 // What is said of a rule that is to be written, or of a card that is to be read.
@@ -55,31 +55,35 @@ fn tell(
     budget: u32,
     rule_area: &mut [u32],
     area: &mut [u8],
-) -> io::Result<()> {
+) {
     match call {
         Call::Write => match write_card(bytes, flags, budget, rule_area, area) {
             Ok(n) => {
-                print!(rt; "written {n}")?;
-                put_first(rt, area, n)
+                put(rt, "written ");
+                put(rt, n);
+                put_first(rt, area, n);
             }
-            Err(f) => println!(rt; "refused {f}"),
+            Err(f) => put_refused(rt, f),
         },
         Call::Read => match read_card(bytes, rule_area, area) {
             Ok(card) => {
-                let size = card.size;
-                print!(rt;
-                    "read {size} {} {} {}",
-                    card.flags, card.budget, card.groups
-                )?;
-                put_first(rt, area, size)
+                put(rt, "read ");
+                put(rt, card.size);
+                put(rt, " ");
+                put(rt, card.flags);
+                put(rt, " ");
+                put(rt, card.budget);
+                put(rt, " ");
+                put(rt, card.groups);
+                put_first(rt, area, card.size);
             }
-            Err(f) => println!(rt; "refused {f}"),
+            Err(f) => put_refused(rt, f),
         },
     }
 }
 
 // What a line asks for.
-fn tell_line(rt: &HostRuntime, line: &[u8]) -> io::Result<()> {
+fn tell_line(rt: &HostRuntime, line: &[u8]) {
     let mut rule_area = [7u32; RULE_AREA];
     let mut area = [7u8; AREA];
     let mut bytes = [0u8; ROOM];
@@ -99,15 +103,14 @@ fn tell_line(rt: &HostRuntime, line: &[u8]) -> io::Result<()> {
         vectors::number(budget, MOST),
         &mut rule_area[..a],
         &mut area[..b],
-    )
+    );
 }
 
 fn tell_lines(rt: &HostRuntime, input: &[u8]) {
     let mut rest = input;
     while !rest.is_empty() {
         let (line, behind) = cut(rest, b'\n');
-        // what of a line cannot be written is lost, and the next is told all the same
-        let _ = tell_line(rt, line);
+        tell_line(rt, line);
         rest = behind;
     }
 }

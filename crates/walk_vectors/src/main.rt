@@ -14,30 +14,43 @@ ghost use Rattle.machine.specs.Words.{now_of};
 ghost use Rattle.machine.specs.Ready.{Ready};
 
 use machine::{Machine, Stop};
-use std::io;
 use syntax::REGISTERS;
-use vectors::{cut, decode, number};
+use vectors::{cut, decode, number, put, put_refusal};
 
 // Both numbers of a group that is not set.
 const UNSET: u32 = u32::MAX;
 
 // A group's span, '-' where it is not set.
-fn put_span(rt: &HostRuntime, from: u32, to: u32) -> io::Result<()> {
+fn put_span(rt: &HostRuntime, from: u32, to: u32) {
     if from == UNSET {
-        return print!(rt; " -");
+        put(rt, " -");
+        return;
     }
-    print!(rt; " {from}-{to}")
+    put(rt, " ");
+    put(rt, from);
+    put(rt, "-");
+    put(rt, to);
 }
 
 // One end of a walk, with the spans of a rule's groups from the registers.
-fn put_end(rt: &HostRuntime, steps: u32, at: u32, regs: &[u32], groups: usize) -> io::Result<()>
+fn put_end(rt: &HostRuntime, steps: u32, at: u32, regs: &[u32], groups: usize)
     requires { 2 * groups ≤ length regs.now }
 {
-    print!(rt; "end {steps} {at}")?;
+    put(rt, "end ");
+    put(rt, steps);
+    put(rt, " ");
+    put(rt, at);
     for i in 0..groups {
-        put_span(rt, regs[2 * i], regs[2 * i + 1])?;
+        put_span(rt, regs[2 * i], regs[2 * i + 1]);
     }
-    println!(rt; "")
+    put(rt, "\n");
+}
+
+// How a walk stopped.
+fn put_stop(rt: &HostRuntime, how: &str, steps: u32) {
+    put(rt, how);
+    put(rt, steps);
+    put(rt, "\n");
 }
 
 // All ends of a walk.
@@ -50,7 +63,7 @@ fn walk(
     m: Machine,
     budget: u32,
     groups: usize,
-) -> io::Result<()>
+)
     requires regs_len { (length regs.old ≡ registers) × (2 * groups ≤ length regs.old) × (length sub.now < 2 ^ 32) × (length code.now < 2 ^ 32) }
     requires by_index { (first : List ℕ) × (t : Trace) × Ready code.now sub.now (length work.old) budget first (now_of regs.old work.old m) t }
 {
@@ -62,11 +75,11 @@ fn walk(
             Stop::End(used, e) => {
                 left -= used;
                 let height = e.height;
-                put_end(rt, budget - left, e.at, regs, groups)?;
+                put_end(rt, budget - left, e.at, regs, groups);
                 head = machine::fall_back(code, regs, work, height);
             }
-            Stop::Nothing(used) => return println!(rt; "done {}", budget - left + used),
-            Stop::Spent => return println!(rt; "spent {budget}"),
+            Stop::Nothing(used) => return put_stop(rt, "done ", budget - left + used),
+            Stop::Spent => return put_stop(rt, "spent ", budget),
         }
     }
 }
@@ -81,13 +94,13 @@ fn walk_from(
     groups: u32,
     start: usize,
     budget: u32,
-) -> io::Result<()>
+)
     requires start_in_bounds { (start ≤ length sub.now) × (length sub.now < 2 ^ 32) × (length code.now < 2 ^ 32) × (8 * budget ≤ length work.old) × (groups ≤ group_limit) × (2 * budget < 2 ^ 32) }
     requires stands { (x : Rule) × Stands code.now x entry }
 {
     let mut regs = [UNSET; REGISTERS];
     let m = machine::start(entry, start as u32);
-    walk(rt, code, sub, &mut regs, work, m, budget, groups as usize)
+    walk(rt, code, sub, &mut regs, work, m, budget, groups as usize);
 }
 
 // The walk of a rule from a start, or why there is none.
@@ -100,11 +113,12 @@ fn tell(
     budget: u32,
     area: &mut [u32],
     work: &mut [u32],
-) -> io::Result<()>
+)
     requires { (length rule.now ≤ rule_limit) × (length area.old ≡ rule_area_need) × (length sub.now < 2 ^ 32) × (8 * budget ≤ length work.old) × (2 * budget < 2 ^ 32) }
 {
     if sub.len() < start {
-        return println!(rt; "no such start");
+        put(rt, "no such start\n");
+        return;
     }
     match reader::compile(rule, flags, false, area) {
         Ok(compiled) => walk_from(
@@ -117,16 +131,16 @@ fn tell(
             start,
             budget,
         ),
-        Err(f) => println!(rt; "{f}"),
+        Err(f) => put_refusal(rt, f),
     }
 }
 
 // The walk that a line asks for.
-fn tell_line(rt: &HostRuntime, line: &[u8], area: &mut [u32], work: &mut [u32]) -> io::Result<()>
+fn tell_line(rt: &HostRuntime, line: &[u8], area: &mut [u32], work: &mut [u32])
     requires { (length area.old ≡ rule_area_need) × (8 * 20000 ≤ length work.old) }
 {
     if line.is_empty() {
-        return Ok(());
+        return;
     }
     let mut rule = [0u8; 1000];
     let mut sub = [0u8; 1000];
@@ -145,7 +159,7 @@ fn tell_line(rt: &HostRuntime, line: &[u8], area: &mut [u32], work: &mut [u32]) 
         number(budget, 20000),
         area,
         work,
-    )
+    );
 }
 
 fn tell_lines(rt: &HostRuntime, input: &[u8], area: &mut [u32], work: &mut [u32])
@@ -154,8 +168,7 @@ fn tell_lines(rt: &HostRuntime, input: &[u8], area: &mut [u32], work: &mut [u32]
     let mut rest = input;
     while !rest.is_empty() {
         let (line, behind) = cut(rest, b'\n');
-        // what of a line cannot be written is lost, and the next is told all the same
-        let _ = tell_line(rt, line, area, work);
+        tell_line(rt, line, area, work);
         rest = behind;
     }
 }
