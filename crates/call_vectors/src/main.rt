@@ -17,9 +17,8 @@ use frame::NAME_INDEX_NEED;
 use index::{ROW_LENGTH, UNSET};
 use listing::Listing;
 use matching::Outcome;
-use std::io;
 use syntax::{NAME_ENTRY, Refusal};
-use vectors::{cut, decode};
+use vectors::{cut, decode, put, put_refused};
 
 // The calls.
 #[derive(Clone, Copy, Debug, PartialEq, Eq)]
@@ -70,24 +69,36 @@ const GROUPS: usize = syntax::GROUP_LIMIT as usize;
 // Greater numbers of a line are held at this.
 const MOST: u32 = 2000000;
 
+// How a call ended, and its steps.
+fn say_steps(rt: &HostRuntime, ending: &str, steps: u64) {
+    put(rt, ending);
+    put(rt, steps);
+    put(rt, " steps\n");
+}
+
+// The start at which a call was exhausted, and its steps.
+fn say_exhausted(rt: &HostRuntime, start: u32, steps: u64) {
+    put(rt, "exhausted at ");
+    put(rt, start);
+    say_steps(rt, " ", steps);
+}
+
 // What a call tells where it is not refused.
 trait Told {
     // A line that says how it ended.
-    fn say(&self, rt: &HostRuntime) -> io::Result<()>;
+    fn say(&self, rt: &HostRuntime);
 
     // How many rows it wrote.
     fn rows(&self) -> usize;
 }
 
 impl Told for Outcome {
-    fn say(&self, rt: &HostRuntime) -> io::Result<()> {
+    fn say(&self, rt: &HostRuntime) {
         match self {
-            Outcome::Matched(steps) => println!(rt; "matched {steps} steps"),
-            Outcome::NotMatched(steps) => println!(rt; "not matched {steps} steps"),
-            Outcome::Exhausted(start, steps) => {
-                println!(rt; "exhausted at {start} {steps} steps")
-            }
-            Outcome::Refused(f) => println!(rt; "refused {f}"),
+            Outcome::Matched(steps) => say_steps(rt, "matched ", *steps),
+            Outcome::NotMatched(steps) => say_steps(rt, "not matched ", *steps),
+            Outcome::Exhausted(start, steps) => say_exhausted(rt, *start, *steps),
+            Outcome::Refused(f) => put_refused(rt, *f),
         }
     }
 
@@ -100,13 +111,11 @@ impl Told for Outcome {
 }
 
 impl Told for Listing {
-    fn say(&self, rt: &HostRuntime) -> io::Result<()> {
+    fn say(&self, rt: &HostRuntime) {
         match self {
-            Listing::Complete(_, steps) => println!(rt; "complete {steps} steps"),
-            Listing::Full(_, steps) => println!(rt; "full {steps} steps"),
-            Listing::Exhausted(start, _, steps) => {
-                println!(rt; "exhausted at {start} {steps} steps")
-            }
+            Listing::Complete(_, steps) => say_steps(rt, "complete ", *steps),
+            Listing::Full(_, steps) => say_steps(rt, "full ", *steps),
+            Listing::Exhausted(start, _, steps) => say_exhausted(rt, *start, *steps),
         }
     }
 
@@ -120,13 +129,11 @@ impl Told for Listing {
 }
 
 impl Told for Verdict {
-    fn say(&self, rt: &HostRuntime) -> io::Result<()> {
+    fn say(&self, rt: &HostRuntime) {
         match self {
-            Verdict::Reading(steps) => println!(rt; "a reading {steps} steps"),
-            Verdict::Nothing(steps) => println!(rt; "no reading {steps} steps"),
-            Verdict::Exhausted(start, steps) => {
-                println!(rt; "exhausted at {start} {steps} steps")
-            }
+            Verdict::Reading(steps) => say_steps(rt, "a reading ", *steps),
+            Verdict::Nothing(steps) => say_steps(rt, "no reading ", *steps),
+            Verdict::Exhausted(start, steps) => say_exhausted(rt, *start, *steps),
         }
     }
 
@@ -139,13 +146,11 @@ impl Told for Verdict {
 }
 
 impl Told for Explanation {
-    fn say(&self, rt: &HostRuntime) -> io::Result<()> {
+    fn say(&self, rt: &HostRuntime) {
         match self {
-            Explanation::Matched(steps) => println!(rt; "matched {steps} steps"),
-            Explanation::NotMatched(steps, _, _) => println!(rt; "not matched {steps} steps"),
-            Explanation::Exhausted(start, steps) => {
-                println!(rt; "exhausted at {start} {steps} steps")
-            }
+            Explanation::Matched(steps) => say_steps(rt, "matched ", *steps),
+            Explanation::NotMatched(steps, _, _) => say_steps(rt, "not matched ", *steps),
+            Explanation::Exhausted(start, steps) => say_exhausted(rt, *start, *steps),
         }
     }
 
@@ -155,27 +160,33 @@ impl Told for Explanation {
 }
 
 // The spans that are set of a row's groups.
-fn put_spans(rt: &HostRuntime, spans: &[u32]) -> io::Result<()> {
+fn put_spans(rt: &HostRuntime, spans: &[u32]) {
     for (group, span) in (1..=GROUPS).zip(spans.chunks_exact(2)) {
         if let [from, to] = span {
             if *from != UNSET {
-                print!(rt; " {group}:{from}-{to}")?;
+                put(rt, " ");
+                put(rt, group);
+                put(rt, ":");
+                put(rt, *from);
+                put(rt, "-");
+                put(rt, *to);
             }
         }
     }
-    Ok(())
 }
 
 // The first rows: start, end and the spans that are set.
-fn put_rows(rt: &HostRuntime, results: &[u32], rows: usize) -> io::Result<()> {
+fn put_rows(rt: &HostRuntime, results: &[u32], rows: usize) {
     for row in results.chunks_exact(ROW_LENGTH).take(rows) {
         if let [start, end, spans @ ..] = row {
-            print!(rt; "  {start} {end}")?;
-            put_spans(rt, spans)?;
-            println!(rt; "")?;
+            put(rt, "  ");
+            put(rt, *start);
+            put(rt, " ");
+            put(rt, *end);
+            put_spans(rt, spans);
+            put(rt, "\n");
         }
     }
-    Ok(())
 }
 
 // Whether all bytes are 00.
@@ -184,23 +195,25 @@ fn is_clear(bytes: &[u8]) -> bool {
 }
 
 // The entries that are not all 00, each with its group, on one line; no line where there is none.
-fn put_names(rt: &HostRuntime, names: &[u8]) -> io::Result<()> {
+fn put_names(rt: &HostRuntime, names: &[u8]) {
     let Some(index) = names.get(..NAME_INDEX_NEED) else {
-        return Ok(());
+        return;
     };
     if is_clear(index) {
-        return Ok(());
+        return;
     }
-    print!(rt; "  names")?;
+    put(rt, "  names");
     for (group, entry) in (1..=GROUPS).zip(index.chunks_exact(NAME_ENTRY)) {
         if !is_clear(entry) {
-            print!(rt; " {group}:")?;
+            put(rt, " ");
+            put(rt, group);
+            put(rt, ":");
             for b in entry {
-                print!(rt; "{b:02x}")?;
+                let _ = print!(rt; "{b:02x}");
             }
         }
     }
-    println!(rt; "")
+    put(rt, "\n");
 }
 
 // What a call tells, with its rows and the names.
@@ -209,40 +222,45 @@ fn put_told<T: Told + Drop>(
     told: Result<T, Refusal>,
     results: &[u32],
     names: &[u8],
-) -> io::Result<()> {
+) {
     match told {
         Ok(told) => {
-            told.say(rt)?;
-            put_rows(rt, results, told.rows())?;
-            put_names(rt, names)
+            told.say(rt);
+            put_rows(rt, results, told.rows());
+            put_names(rt, names);
         }
-        Err(f) => println!(rt; "refused {f}"),
+        Err(f) => put_refused(rt, f),
     }
 }
 
 // What a line of a day's gets: how it ends, its steps and, if it is matched, its row. Behind how it ends stands the start or the refusal; the others have
 // 0 there, which is not written.
-fn put_part(rt: &HostRuntime, row: &[u32], kind: u32, which: u32, steps: u64) -> io::Result<()> {
+fn put_part(rt: &HostRuntime, row: &[u32], kind: u32, which: u32, steps: u64) {
     match kind {
-        0 => print!(rt; "  matched")?,
-        1 => print!(rt; "  not matched")?,
-        2 => print!(rt; "  exhausted at ")?,
-        3 => print!(rt; "  refused ")?,
+        0 => put(rt, "  matched"),
+        1 => put(rt, "  not matched"),
+        2 => put(rt, "  exhausted at "),
+        3 => put(rt, "  refused "),
         _ => {}
     }
     if 2 <= kind || which != 0 {
-        print!(rt; "{which}")?;
+        put(rt, which);
     }
-    print!(rt; ", {steps} steps")?;
+    put(rt, ", ");
+    put(rt, steps);
+    put(rt, " steps");
     if let (0, [start, end, spans @ ..]) = (kind, row) {
-        print!(rt; " {start}-{end}")?;
-        put_spans(rt, spans)?;
+        put(rt, " ");
+        put(rt, *start);
+        put(rt, "-");
+        put(rt, *end);
+        put_spans(rt, spans);
     }
-    println!(rt; "")
+    put(rt, "\n");
 }
 
 // The first parts. The two halves of a line's steps are told.
-fn put_parts(rt: &HostRuntime, results: &[u32], parts: usize) -> io::Result<()> {
+fn put_parts(rt: &HostRuntime, results: &[u32], parts: usize) {
     for part in results.chunks_exact(PART_LENGTH).take(parts) {
         if let [row @ .., kind, which, low, high] = part {
             put_part(
@@ -251,41 +269,42 @@ fn put_parts(rt: &HostRuntime, results: &[u32], parts: usize) -> io::Result<()> 
                 *kind,
                 *which,
                 *high as u64 * 4294967296 + *low as u64,
-            )?;
+            );
         }
     }
-    Ok(())
 }
 
 // What a day's lines tell, with their parts and the names.
-fn put_batch(
-    rt: &HostRuntime,
-    told: Result<usize, Refusal>,
-    results: &[u32],
-    names: &[u8],
-) -> io::Result<()> {
+fn put_batch(rt: &HostRuntime, told: Result<usize, Refusal>, results: &[u32], names: &[u8]) {
     match told {
         Ok(lines) => {
-            println!(rt; "done {lines} lines")?;
-            put_parts(rt, results, lines)?;
-            put_names(rt, names)
+            put(rt, "done ");
+            put(rt, lines);
+            put(rt, " lines\n");
+            put_parts(rt, results, lines);
+            put_names(rt, names);
         }
-        Err(f) => println!(rt; "refused {f}"),
+        Err(f) => put_refused(rt, f),
     }
 }
 
 // Why a line does not fit: two failures and the marks.
-fn put_why(rt: &HostRuntime, furthest: Failed, closest: Failed, marks: &[u8]) -> io::Result<()> {
-    println!(rt; "  furthest {} {}", furthest.at, furthest.place)?;
-    println!(rt;
-        "  closest {} {} {}",
-        closest.start, closest.at, closest.place
-    )?;
-    print!(rt; "  marks ")?;
+fn put_why(rt: &HostRuntime, furthest: Failed, closest: Failed, marks: &[u8]) {
+    put(rt, "  furthest ");
+    put(rt, furthest.at);
+    put(rt, " ");
+    put(rt, furthest.place);
+    put(rt, "\n  closest ");
+    put(rt, closest.start);
+    put(rt, " ");
+    put(rt, closest.at);
+    put(rt, " ");
+    put(rt, closest.place);
+    put(rt, "\n  marks ");
     for mark in marks {
-        print!(rt; "{mark}")?;
+        put(rt, *mark);
     }
-    println!(rt; "")
+    put(rt, "\n");
 }
 
 // An explanation, and why a line is not matched. Marks that the rule has no byte for are not told.
@@ -299,14 +318,13 @@ fn tell_why(
     work: &mut [u32],
     names: &mut [u8],
     marks: &mut [u8],
-) -> io::Result<()> {
+) {
     let told = explaining::explain(rule, flags, sub, budget, area, work, names, marks);
-    put_told(rt, told, &[], names)?;
+    put_told(rt, told, &[], names);
     if let Ok(Explanation::NotMatched(_, furthest, closest)) = told {
         let shown = marks.len().min(rule.len());
-        return put_why(rt, furthest, closest, &marks[..shown]);
+        put_why(rt, furthest, closest, &marks[..shown]);
     }
-    Ok(())
 }
 
 // A match. What is refused is told as it is for the other calls.
@@ -330,31 +348,31 @@ fn tell(
     work: &mut [u32],
     results: &mut [u32],
     names: &mut [u8],
-) -> io::Result<()> {
+) {
     match call {
         Call::Match => {
             let outcome = matching::match_line(
                 rule, flags, sub, budget, area, work, results, names,
             );
-            put_told(rt, refused_or(outcome), results, names)
+            put_told(rt, refused_or(outcome), results, names);
         }
         Call::List => {
             let told = listing::list_readings(rule, flags, sub, budget, area, work, results, names);
-            put_told(rt, told, results, names)
+            put_told(rt, told, results, names);
         }
         Call::Scan => {
             let told = scanning::match_all(rule, flags, sub, budget, area, work, results, names);
-            put_told(rt, told, results, names)
+            put_told(rt, told, results, names);
         }
         Call::Check => {
             let told = checking::check(
                 rule, flags, sub, budget, proposal, area, work, results, names,
             );
-            put_told(rt, told, results, names)
+            put_told(rt, told, results, names);
         }
         Call::Batch => {
             let told = batching::match_lines(rule, flags, sub, budget, area, work, results, names);
-            put_batch(rt, told, results, names)
+            put_batch(rt, told, results, names);
         }
         Call::Explain => {
             let mut marks = [7u8; RULE_ROOM];
@@ -369,7 +387,7 @@ fn tell(
                 work,
                 names,
                 &mut marks[..k],
-            )
+            );
         }
     }
 }
@@ -414,7 +432,7 @@ fn tell_line(
     work: &mut [u32],
     results: &mut [u32],
     names: &mut [u8],
-) -> io::Result<()> {
+) {
     let mut rule = [b'a'; RULE_ROOM];
     let mut proposal = [b'a'; PROPOSAL_ROOM];
     let mut sub = [b'a'; SUBJECT_ROOM];
@@ -446,7 +464,7 @@ fn tell_line(
         &mut work[..b],
         &mut results[..c],
         &mut names[..d],
-    )
+    );
 }
 
 // All lines, with an area for work that is lent as an array: it is too long for the checker to be made a slice where it stands.
@@ -457,8 +475,7 @@ fn tell_lines(rt: &HostRuntime, input: &[u8], work: &mut [u32; WORK_AREA]) {
     let mut rest = input;
     while !rest.is_empty() {
         let (line, behind) = cut(rest, b'\n');
-        // what of a line cannot be written is lost, and the next is told all the same
-        let _ = tell_line(rt, line, &mut area, work, &mut results, &mut names);
+        tell_line(rt, line, &mut area, work, &mut results, &mut names);
         rest = behind;
     }
 }
