@@ -125,17 +125,17 @@ module _ (a : List ℕ) (p : ℕ) where
   -- The whole rule ------------------------------------------------------------------------------
 
   module _ (m : Measured) (f : Finds Inside a p m) where
-    judged-reference : (place : ℕ) → m.reference ≡ Some place → Judges true a p (Err (record { place = place; reason = BarredReference }))
+    pub judged-reference : (place : ℕ) → m.reference ≡ Some place → Judges true a p (Err (record { place = place; reason = BarredReference }))
     unfolding Finds Judges profiled unless
     judged-reference place z rule known groups t lo top q h rest = rw (place-noted (unresolved 0 t) place (sym (f rule known groups t lo top q h).reference ∙ z))
 
-    judged-idle : m.reference ≡ None → (place : ℕ) → m.idle ≡ Some place → Judges true a p (Err (record { place = place; reason = IdleRepeat }))
+    pub judged-idle : m.reference ≡ None → (place : ℕ) → m.idle ≡ Some place → Judges true a p (Err (record { place = place; reason = IdleRepeat }))
     unfolding Finds Judges profiled unless
     judged-idle z place i rule known groups t lo top q h rest =
         let o = f rule known groups t lo top q h in
         rw (nothing-noted (unresolved 0 t) (sym o.reference ∙ z), place-noted (idle t) place (sym o.idle ∙ i))
 
-    judged-passes : m.reference ≡ None → m.idle ≡ None → Judges true a p (Ok tt)
+    pub judged-passes : m.reference ≡ None → m.idle ≡ None → Judges true a p (Ok tt)
     unfolding Finds Judges profiled unless
     judged-passes z i rule known groups t lo top q h rest =
         let o = f rule known groups t lo top q h in
@@ -149,17 +149,17 @@ module _ (a : List ℕ) (p : ℕ) where
 
     -- What a check cannot follow --------------------------------------------------------------
 
-    followed-form : (place : ℕ) → m.form ≡ Some place → Follows true a p (Err (record { place = place; reason = HeldOrLook }))
+    pub followed-form : (place : ℕ) → m.form ≡ Some place → Follows true a p (Err (record { place = place; reason = HeldOrLook }))
     unfolding Finds Follows
     followed-form place z rule known groups t lo top q h = (refl, form-uncheckable t place (place-noted (unfollowed t) place (sym (f rule known groups t lo top q h).form ∙ z)))
 
-    followed-crowd : m.form ≡ None → (place : ℕ) → m.crowd ≡ Some place → Follows true a p (Err (record { place = place; reason = TooManyBranches }))
+    pub followed-crowd : m.form ≡ None → (place : ℕ) → m.crowd ≡ Some place → Follows true a p (Err (record { place = place; reason = TooManyBranches }))
     unfolding Finds Follows
     followed-crowd z place i rule known groups t lo top q h =
         let o = f rule known groups t lo top q h in
         (refl, crowd-uncheckable t place (nothing-noted (unfollowed t) (sym o.form ∙ z)) (place-noted (crowded t) place (sym o.crowd ∙ i)))
 
-    followed-all : m.form ≡ None → m.crowd ≡ None → Follows true a p (Ok tt)
+    pub followed-all : m.form ≡ None → m.crowd ≡ None → Follows true a p (Ok tt)
     unfolding Finds Follows
     followed-all z i rule known groups t lo top q h e =
         let o = f rule known groups t lo top q h in
