@@ -22,13 +22,6 @@ use syntax::node::{
 };
 use syntax::{Greed, Reason, Refusal, SPANS_LENGTH};
 
-// Where a part is entered, and the place of the first reference to no group so far.
-#[derive(Clone, Copy, Debug, PartialEq, Eq)]
-struct Linked {
-    pc: usize,
-    dangling: Option<usize>,
-}
-
 // Writes a number.
 fn put(area: &mut [u32], at: usize, x: usize)
     requires { (at < length area.old) × (x < 4294967296) }
@@ -121,7 +114,8 @@ fn close_repeat(area: &mut [u32], p: usize, kind: u32, next: usize, r: usize, en
     put(area, p + 7, next);
 }
 
-// A reference: its number becomes the slot of its group's span, if there is such a group. Whether it is folded stays as it was read.
+// A reference: its number becomes the slot of its group's span, if there is such a group. Whether it is folded stays as it was read. Here and in what
+// follows `dangling` is the place of the first reference to no group so far.
 fn link_reference(
     area: &mut [u32],
     p: usize,
@@ -159,17 +153,17 @@ fn link_named(
     p: usize,
     next: usize,
     names: &NameTable<'_>,
-    dangling: Option<usize>,
-) -> Linked
+    dangling: &mut Option<usize>,
+) -> usize
     requires { (p + 6 ≤ length area.old) × (names.now.groups ≤ group_limit) × (get_or area.old (p + 3) 0 + get_or area.old (p + 5) 0 ≤ length names.now.rule.now) × (next ≤ rule_area_need) }
-    ensures { NameLinked names.now.rule.now (known_in names.now) names.now.groups area.old area.new p next dangling result.pc result.dangling }
+    ensures { NameLinked names.now.rule.now (known_in names.now) names.now.groups area.old area.new p next dangling.old result dangling.new }
 {
     number_reference(area, p, names);
-    let dangling = link_reference(area, p, next, names.groups, dangling);
-    Linked { pc: p, dangling }
+    *dangling = link_reference(area, p, next, names.groups, *dangling);
+    p
 }
 
-// The part at p, which goes on at `next` and uses the registers from r on.
+// The part at p, which goes on at `next` and uses the registers from r on. It answers where the part is entered.
 #[cycle(link_alternation_link_branches_link_chain_link_group_link_inside_link_part_link_plain_link_repeat)]
 fn link_part(
     area: &mut [u32],
@@ -177,10 +171,10 @@ fn link_part(
     next: usize,
     r: usize,
     names: &NameTable<'_>,
-    dangling: Option<usize>,
-) -> Linked
+    dangling: &mut Option<usize>,
+) -> usize
     requires { Stands (Part names.now.rule.now (known_in names.now) area.old) names.now.groups r area.old p × (next ≤ rule_area_need) }
-    ensures { Links (Part names.now.rule.now (known_in names.now) area.old) names.now.groups r area.old area.new p next dangling result.pc result.dangling }
+    ensures { Links (Part names.now.rule.now (known_in names.now) area.old) names.now.groups r area.old area.new p next dangling.old result dangling.new }
 {
     let kind = area[p];
     if is_bracketed(kind as usize) {
@@ -190,13 +184,13 @@ fn link_part(
         REPEAT => link_repeat(area, p, next, r, names, dangling),
         PLAIN => link_plain(area, p, next, r, names, dangling),
         REFERENCE => {
-            let dangling = link_reference(area, p, next, names.groups, dangling);
-            Linked { pc: p, dangling }
+            *dangling = link_reference(area, p, next, names.groups, *dangling);
+            p
         }
         NAMED => link_named(area, p, next, names, dangling),
         _ => {
             put(area, p + 1, next);
-            Linked { pc: p, dangling }
+            p
         }
     }
 }
@@ -209,18 +203,15 @@ fn link_group(
     next: usize,
     r: usize,
     names: &NameTable<'_>,
-    dangling: Option<usize>,
-) -> Linked
+    dangling: &mut Option<usize>,
+) -> usize
     requires { Stands (Part names.now.rule.now (known_in names.now) area.old) names.now.groups r area.old p × (next ≤ rule_area_need) × Bracketed (get_or area.old p 0) }
-    ensures { Links (Part names.now.rule.now (known_in names.now) area.old) names.now.groups r area.old area.new p next dangling result.pc result.dangling }
+    ensures { Links (Part names.now.rule.now (known_in names.now) area.old) names.now.groups r area.old area.new p next dangling.old result dangling.new }
 {
     let inside = word(area, p + 5);
-    let l = link_inside(area, inside, p, r + 2, names, dangling);
-    close_group(area, p, next, r, l.pc);
-    Linked {
-        pc: p + 4,
-        dangling: l.dangling,
-    }
+    let entry = link_inside(area, inside, p, r + 2, names, dangling);
+    close_group(area, p, next, r, entry);
+    p + 4
 }
 
 // A repeat: its body goes on at its loop.
@@ -231,19 +222,16 @@ fn link_repeat(
     next: usize,
     r: usize,
     names: &NameTable<'_>,
-    dangling: Option<usize>,
-) -> Linked
+    dangling: &mut Option<usize>,
+) -> usize
     requires { Stands (Part names.now.rule.now (known_in names.now) area.old) names.now.groups r area.old p × (next ≤ rule_area_need) × (get_or area.old p 0 ≡ 7) }
-    ensures { Links (Part names.now.rule.now (known_in names.now) area.old) names.now.groups r area.old area.new p next dangling result.pc result.dangling }
+    ensures { Links (Part names.now.rule.now (known_in names.now) area.old) names.now.groups r area.old area.new p next dangling.old result dangling.new }
 {
     let body = word(area, p + 6);
     let kind = entry_kind(area, p, body);
-    let l = link_part(area, body, p + 1, r + 2, names, dangling);
-    close_repeat(area, p, kind, next, r, l.pc);
-    Linked {
-        pc: p,
-        dangling: l.dangling,
-    }
+    let entry = link_part(area, body, p + 1, r + 2, names, dangling);
+    close_repeat(area, p, kind, next, r, entry);
+    p
 }
 
 // A group that does not capture: its node is passed over.
@@ -254,10 +242,10 @@ fn link_plain(
     next: usize,
     r: usize,
     names: &NameTable<'_>,
-    dangling: Option<usize>,
-) -> Linked
+    dangling: &mut Option<usize>,
+) -> usize
     requires { Stands (Part names.now.rule.now (known_in names.now) area.old) names.now.groups r area.old p × (next ≤ rule_area_need) × (get_or area.old p 0 ≡ 10) }
-    ensures { Links (Part names.now.rule.now (known_in names.now) area.old) names.now.groups r area.old area.new p next dangling result.pc result.dangling }
+    ensures { Links (Part names.now.rule.now (known_in names.now) area.old) names.now.groups r area.old area.new p next dangling.old result dangling.new }
 {
     let inside = word(area, p + 2);
     link_inside(area, inside, next, r, names, dangling)
@@ -271,13 +259,13 @@ fn link_inside(
     next: usize,
     r: usize,
     names: &NameTable<'_>,
-    dangling: Option<usize>,
-) -> Linked
+    dangling: &mut Option<usize>,
+) -> usize
     requires { Stands (Inside names.now.rule.now (known_in names.now) area.old) names.now.groups r area.old p × (next ≤ rule_area_need) }
-    ensures { Links (Inside names.now.rule.now (known_in names.now) area.old) names.now.groups r area.old area.new p next dangling result.pc result.dangling }
+    ensures { Links (Inside names.now.rule.now (known_in names.now) area.old) names.now.groups r area.old area.new p next dangling.old result dangling.new }
 {
     if p == 0 {
-        return Linked { pc: next, dangling };
+        return next;
     }
     if area[p] == LAST {
         return link_alternation(area, p, next, r, names, dangling);
@@ -294,19 +282,19 @@ fn link_chain(
     next: usize,
     r: usize,
     names: &NameTable<'_>,
-    dangling: Option<usize>,
-) -> Linked
+    dangling: &mut Option<usize>,
+) -> usize
     requires { Stands (Chain names.now.rule.now (known_in names.now) area.old) names.now.groups r area.old last × (next ≤ rule_area_need) }
-    ensures { Links (Chain names.now.rule.now (known_in names.now) area.old) names.now.groups r area.old area.new last next dangling result.pc result.dangling }
+    ensures { Links (Chain names.now.rule.now (known_in names.now) area.old) names.now.groups r area.old area.new last next dangling.old result dangling.new }
 {
     let mut p = last;
-    let mut l = Linked { pc: next, dangling };
+    let mut pc = next;
     while p != 0 {
         let before = before_of(area, p);
-        l = link_part(area, p, l.pc, r, names, l.dangling);
+        pc = link_part(area, p, pc, r, names, dangling);
         p = before;
     }
-    l
+    pc
 }
 
 // An alternation, whose last branch stands at p.
@@ -317,16 +305,16 @@ fn link_alternation(
     next: usize,
     r: usize,
     names: &NameTable<'_>,
-    dangling: Option<usize>,
-) -> Linked
+    dangling: &mut Option<usize>,
+) -> usize
     requires { Stands (Inside names.now.rule.now (known_in names.now) area.old) names.now.groups r area.old p × (next ≤ rule_area_need) × (1 ≤ p) × (get_or area.old p 0 ≡ 6) }
-    ensures { Links (Inside names.now.rule.now (known_in names.now) area.old) names.now.groups r area.old area.new p next dangling result.pc result.dangling }
+    ensures { Links (Inside names.now.rule.now (known_in names.now) area.old) names.now.groups r area.old area.new p next dangling.old result dangling.new }
 {
     let inside = word(area, p + 1);
     let before = word(area, p + 2);
-    let l = link_chain(area, inside, next, r, names, dangling);
-    put_two(area, p + 1, l.pc, 0);
-    link_branches(area, before, p, next, r, names, l.dangling)
+    let entry = link_chain(area, inside, next, r, names, dangling);
+    put_two(area, p + 1, entry, 0);
+    link_branches(area, before, p, next, r, names, dangling)
 }
 
 // Branches, from the latest to the first: each falls back on the one after it, the latest on the branch at `other`. The area is written to here too.
@@ -338,25 +326,19 @@ fn link_branches(
     next: usize,
     r: usize,
     names: &NameTable<'_>,
-    dangling: Option<usize>,
-) -> Linked
+    dangling: &mut Option<usize>,
+) -> usize
     requires { StandAll names.now.rule.now (known_in names.now) names.now.groups r area.old last × (other ≤ rule_area_need) × (next ≤ rule_area_need) }
-    ensures { LinksAll names.now.rule.now (known_in names.now) names.now.groups r area.old area.new last other next dangling result.pc result.dangling }
+    ensures { LinksAll names.now.rule.now (known_in names.now) names.now.groups r area.old area.new last other next dangling.old result dangling.new }
 {
     let mut p = last;
-    let mut after = Linked {
-        pc: other,
-        dangling,
-    };
+    let mut after = other;
     while p != 0 {
         let inside = word(area, p + 1);
         let before = word(area, p + 2);
-        let l = link_chain(area, inside, next, r, names, after.dangling);
-        put_two(area, p + 1, l.pc, after.pc);
-        after = Linked {
-            pc: p,
-            dangling: l.dangling,
-        };
+        let entry = link_chain(area, inside, next, r, names, dangling);
+        put_two(area, p + 1, entry, after);
+        after = p;
         p = before;
     }
     after
@@ -379,9 +361,10 @@ pub fn link(
         table,
         groups: groups as usize,
     };
-    let l = link_inside(area, inside, 0, SPANS_LENGTH, &names, None);
-    match l.dangling {
+    let mut dangling = None;
+    let entry = link_inside(area, inside, 0, SPANS_LENGTH, &names, &mut dangling);
+    match dangling {
         Some(place) => Err(Refusal::at(place, Reason::NoSuchGroup)),
-        None => Ok(l.pc as u32),
+        None => Ok(entry as u32),
     }
 }

@@ -8,13 +8,13 @@ use Rattle.linker.proofs.Chains.{Going}
 use Rattle.linker.proofs.+link_alternation_link_branches_link_chain_link_group_link_inside_link_part_link_plain_link_repeat.Given as goal
 
 abbrev pub invariant-link_branches-loop-p : goal.invariant-link_branches-loop-p
-invariant-link_branches-loop-p l = AllGoing l.names.rule.now (known_in l.names) l.names.groups l.r l.initial.area l.area l.last l.other l.next l.fn.dangling l.p l.after.pc l.after.dangling × (length l.area ≡ length l.initial.area) × (l.p ≤ l.last)
+invariant-link_branches-loop-p l = AllGoing l.names.rule.now (known_in l.names) l.names.groups l.r l.initial.area l.area l.last l.other l.next l.initial.dangling l.p l.after l.dangling × (length l.area ≡ length l.initial.area) × (l.p ≤ l.last)
 
 abbrev pub decreases-link_branches-loop-p : goal.decreases-link_branches-loop-p
 decreases-link_branches-loop-p l = l.p
 
 abbrev pub invariant-link_chain-loop-p : goal.invariant-link_chain-loop-p
-invariant-link_chain-loop-p l = Going l.names.rule.now (known_in l.names) l.names.groups l.r l.initial.area l.area l.last l.next l.fn.dangling l.p l.l.pc l.l.dangling × (length l.area ≡ length l.initial.area) × (l.p ≤ l.last)
+invariant-link_chain-loop-p l = Going l.names.rule.now (known_in l.names) l.names.groups l.r l.initial.area l.area l.last l.next l.initial.dangling l.p l.pc l.dangling × (length l.area ≡ length l.initial.area) × (l.p ≤ l.last)
 
 abbrev pub decreases-link_chain-loop-p : goal.decreases-link_chain-loop-p
 decreases-link_chain-loop-p l = l.p

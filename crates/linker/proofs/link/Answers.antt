@@ -8,18 +8,18 @@ use Rattle.linker.proofs.link.Goals as goal
 pub invariant_of-names : goal.invariant_of-names
 invariant_of-names c = record { fit = whole-fit _ _ _ _ _ c.requires }
 
-pub link_inside-l-requires : goal.link_inside-l-requires
+pub link_inside-entry-requires : goal.link_inside-entry-requires
 unfolding spans_length group_limit
-link_inside-l-requires c = (whole-stands _ _ _ _ _ c.requires, omega arith)
+link_inside-entry-requires c = (whole-stands _ _ _ _ _ c.requires, omega arith)
 
 pub overflow_cast-result : goal.overflow_cast-result
 unfolding spans_length group_limit rule_area_need
-overflow_cast-result c = omega (arith, links-near _ _ _ _ _ _ _ _ _ _ (omega arith) (whole-stands _ _ _ _ _ c.requires) c.link_inside-l.ensures)
+overflow_cast-result c = omega (arith, links-near _ _ _ _ _ _ _ _ _ _ (omega arith) (whole-stands _ _ _ _ _ c.requires) c.link_inside-entry.ensures)
 
 pub returns-in-Some : goal.returns-in-Some
 unfolding spans_length group_limit
-returns-in-Some c = rw c.at.ensures (whole-none _ _ _ _ _ _ _ _ c.link_inside-l.ensures _ c.in-Some.is)
+returns-in-Some c = rw c.at.ensures (whole-none _ _ _ _ _ _ _ _ c.link_inside-entry.ensures _ c.in-Some.is)
 
 pub returns-in-None : goal.returns-in-None
 unfolding spans_length group_limit
-returns-in-None c = whole-entry _ _ _ _ _ _ _ _ c.link_inside-l.ensures c.in-None.is
+returns-in-None c = whole-entry _ _ _ _ _ _ _ _ c.link_inside-entry.ensures c.in-None.is
