@@ -24,15 +24,15 @@ use Rattle.std.specs.Prelude.{Result, Ok}
 use Rattle.syntax.specs.declared.Parsed.{Parsed}
 use Rattle.lexemes.specs.declared.Name.{Name as NameAt}
 use Rattle.lexer.specs.declared.Token.{Token}
-use Rattle.lexer.specs.declared.Token.TheVariants.{Byte, Called}
+use Rattle.lexer.specs.declared.Token.TheVariants.{Called}
 use Rattle.lexemes.specs.Says.{SaysName}
 use Rattle.classes.specs.Says.{HoldsClass, SaysClass}
 use Rattle.lexer.specs.Says.{ItemIn, SaysItem}
 use Rattle.lexemes.proofs.Digits.{inside, outside}
 
 -- equal readings say the same
-pub same_item : (s : List ℕ) (folded : Bool) (known : Names) {a b : Read Item} (r : Result (Parsed Token) Refusal) → a ≡ b → SaysItem s folded known a r → SaysItem s folded known b r
-same_item s folded known r e h = rw e at h
+pub same_item : (s : List ℕ) (folded : Bool) (known : Names) {a b : Read Item} (words : List ℕ) (r : Result (Parsed Token) Refusal) → a ≡ b → SaysItem s folded known a words r → SaysItem s folded known b words r
+same_item s folded known words r e h = rw e at h
 
 -- Byte items -----------------------------------------------------------------------------
 
@@ -59,8 +59,9 @@ holds-only folded m none words e a x h = a x h ∙ rw (e x h)
 abbrev pub classed : Bool → Read Class → Read Item
 classed folded a = and_then a (λ x next. sound (byte_in folded x) next)
 
-pub class-sound : (s : List ℕ) (folded : Bool) (known : Names) (a : Read Class) (p : Parsed (List ℕ)) → SaysClass folded a (Ok p) → ItemIn s folded known (classed folded a) (Byte p.value) p.next
-class-sound s folded known a p h = (h.0, rw h.1, h.2)
+-- whatever is said of each class that the words hold is said of the one that was read
+pub class-sound : (s : List ℕ) (folded : Bool) (known : Names) (a : Read Class) (p : Parsed (List ℕ)) → SaysClass folded a (Ok p) → (words : List ℕ) (r : Result (Parsed Token) Refusal) → ((c : Class) → HoldsClass folded p.value c → SaysItem s folded known (sound (byte_in folded c) p.next) words r) → SaysItem s folded known (classed folded a) words r
+class-sound s folded known a p h words r says = rw h.1 (says h.0 h.2)
 
 -- what a group's number makes of an item
 abbrev pub referring : Bool → Read ℕ → Read Item
@@ -70,8 +71,8 @@ referring folded a = and_then a (λ n next. sound (reference folded n) next)
 abbrev pub calling : Bool → Names → Read Name → Read Item
 calling folded known a = and_then a (λ n next. sound (reference folded (group_called n known)) next)
 
-pub calling-sound : (s : List ℕ) (folded : Bool) (known : Names) (a : Read Name) (p : Parsed NameAt) → SaysName s a (Ok p) → ItemIn s folded known (calling folded known a) (Called p.value) p.next
-calling-sound s folded known a p h = (rw h.0, h.1)
+pub calling-sound : (s : List ℕ) (folded : Bool) (known : Names) (words : List ℕ) (a : Read Name) (p : Parsed NameAt) → SaysName s a (Ok p) → ItemIn s folded known (calling folded known a) words (Called p.value) p.next
+calling-sound s folded known words a p h = (rw h.0, h.1)
 
 -- Escapes ------------------------------------------------------------------------------------
 
@@ -138,8 +139,8 @@ module _ (s : List ℕ) (folded : Bool) (known : Names) (opened at b : ℕ) (p :
 -- Items ----------------------------------------------------------------------------------------
 
 -- an item is folded by the flag
-pub as-atom : (s : List ℕ) (known : Names) (folded : Bool) (flags : ℕ) → folded ≡ ignore_case flags → {a b : Read Item} (r : Result (Parsed Token) Refusal) → a ≡ b → SaysItem s folded known a r → SaysItem s (ignore_case flags) known b r
-as-atom s known folded flags f r e h = rw (f, e) at h
+pub as-atom : (s : List ℕ) (known : Names) (folded : Bool) (flags : ℕ) → folded ≡ ignore_case flags → {a b : Read Item} (words : List ℕ) (r : Result (Parsed Token) Refusal) → a ≡ b → SaysItem s folded known a words r → SaysItem s (ignore_case flags) known b words r
+as-atom s known folded flags f words r e h = rw (f, e) at h
 
 module _ (s : List ℕ) (flags : ℕ) (known : Names) (opened at b : ℕ) (p : b ≡ byte s at) (folded : Bool) (f : folded ≡ ignore_case flags) where
   pub atom-escape : b ≡ 92 → escape s folded known opened at ≡ atom s flags known opened at

@@ -15,13 +15,13 @@ use Rattle.lexer.specs.declared.Token.TheVariants.{Byte, Assert, Reference, Call
 
 -- Items of the rule s, which are folded or are not. `known` are the names of the whole rule's groups.
 module _ (s : List ℕ) (folded : Bool) (known : Names) where
-  -- the reading a of an item is what a token and the position behind it say: a byte item's class stands in the words
-  abbrev pub ItemIn : Read Item → Token → ℕ → Type 0
-  ItemIn a (Byte words) next = (c : Class) × (a ≡ sound (byte_in folded c) next) × HoldsClass folded words c
-  ItemIn a (Assert k) next = a ≡ sound (assert k) next
-  ItemIn a (Reference n) next = a ≡ sound (reference folded n) next
-  ItemIn a (Called n) next = (a ≡ sound (reference folded (group_called (slice n.from (n.from + n.len) s) known)) next) × NameWithin s n.from n.len next
+  -- the reading a of an item is what words, a token and the position behind it say: a byte item's class stands in the words
+  abbrev pub ItemIn : Read Item → List ℕ → Token → ℕ → Type 0
+  ItemIn a words Byte next = (c : Class) × (a ≡ sound (byte_in folded c) next) × HoldsClass folded words c
+  ItemIn a words (Assert k) next = a ≡ sound (assert k) next
+  ItemIn a words (Reference n) next = a ≡ sound (reference folded n) next
+  ItemIn a words (Called n) next = (a ≡ sound (reference folded (group_called (slice n.from (n.from + n.len) s) known)) next) × NameWithin s n.from n.len next
 
-  abbrev pub SaysItem : Read Item → Result (Parsed Token) Refusal → Type 0
-  SaysItem a (Ok p) = ItemIn a p.value p.next
-  SaysItem a (Err r) = a ≡ refused r.place r.reason
+  abbrev pub SaysItem : Read Item → List ℕ → Result (Parsed Token) Refusal → Type 0
+  SaysItem a words (Ok p) = ItemIn a words p.value p.next
+  SaysItem a words (Err r) = a ≡ refused r.place r.reason

@@ -1,5 +1,6 @@
 // Items that are no group. `at` is the position of an item's first byte. The words of a byte item hold its class, folded under the flag `i`; where
-// that makes no difference, as for `.`, the promise is for both.
+// that makes no difference, as for `.`, the promise is for both. They are written where the caller wants them: in a case of a token they would be put
+// together byte by byte wherever it is handed on.
 ghost use Rattle.std.specs.Prelude.{◌≡◌, List, Bool, ℕ, ◌+◌, ◌≤◌, ◌<◌, length, if◌then◌else◌};
 ghost use Rattle.syntax.specs.Limits.{group_limit};
 ghost use Rattle.syntax.specs.Read.{byte, Read, sound, and_then, read_of};
@@ -26,7 +27,7 @@ use syntax::{Assertion, Flags, Parsed, Reading};
 // Items with no class of their own -----------------------------------------------
 
 fn assertion(which: Assertion, next: usize) -> Reading<Token>
-    ensures { (s : List ℕ) (folded : Bool) (known : Names) → SaysItem s folded known (sound (assert which) next) result }
+    ensures { (s : List ℕ) (folded : Bool) (known : Names) (words : List ℕ) → SaysItem s folded known (sound (assert which) next) words result }
 {
     Ok(Parsed {
         value: Token::Assert(which),
@@ -36,7 +37,7 @@ fn assertion(which: Assertion, next: usize) -> Reading<Token>
 
 // `^` or `$`: what it asserts at lines, under `m`, or else at the text's ends.
 fn edge(flags: Flags, line: Assertion, text: Assertion, next: usize) -> Reading<Token>
-    ensures { (s : List ℕ) (folded : Bool) (known : Names) → SaysItem s folded known (sound (assert (if multiline flags.0 then line else text)) next) result }
+    ensures { (s : List ℕ) (folded : Bool) (known : Names) (words : List ℕ) → SaysItem s folded known (sound (assert (if multiline flags.0 then line else text)) next) words result }
 {
     if flags.is_multiline() {
         return assertion(line, next);
@@ -45,7 +46,7 @@ fn edge(flags: Flags, line: Assertion, text: Assertion, next: usize) -> Reading<
 }
 
 fn group_item(group: Reading<u32>) -> Reading<Token>
-    ensures { (s : List ℕ) (folded : Bool) (known : Names) → SaysItem s folded known (and_then (read_of (λ n. n) group) (λ n next. sound (reference folded n) next)) result }
+    ensures { (s : List ℕ) (folded : Bool) (known : Names) (words : List ℕ) → SaysItem s folded known (and_then (read_of (λ n. n) group) (λ n next. sound (reference folded n) next)) words result }
 {
     let number = group?;
     Ok(Parsed {
@@ -56,7 +57,7 @@ fn group_item(group: Reading<u32>) -> Reading<Token>
 
 // A reference by name. Which group has it is known when the whole rule has been read.
 fn called_item(name: Reading<Name>) -> Reading<Token>
-    ensures { (s : List ℕ) (folded : Bool) (known : Names) (a : Read (List ℕ)) → SaysName s a name → SaysItem s folded known (and_then a (λ n next. sound (reference folded (group_called n known)) next)) result }
+    ensures { (s : List ℕ) (folded : Bool) (known : Names) (words : List ℕ) (a : Read (List ℕ)) → SaysName s a name → SaysItem s folded known (and_then a (λ n next. sound (reference folded (group_called n known)) next)) words result }
 {
     let called = name?;
     Ok(Parsed {
@@ -91,38 +92,35 @@ fn dot(flags: Flags) -> [u32; 8]
     not_newline()
 }
 
-// The item of the bytes that words hold.
-fn byte_item(words: [u32; 8], next: usize) -> Reading<Token>
-    ensures { (s : List ℕ) (folded : Bool) (known : Names) (c : Class) → HoldsClass folded words c → SaysItem s folded known (sound (byte_in folded c) next) result }
+// The item of a class, which is left in the words.
+fn byte_item(class: [u32; 8], next: usize, words: &mut [u32]) -> Reading<Token>
+    requires { length words.old ≡ 8 }
+    ensures { (s : List ℕ) (folded : Bool) (known : Names) (c : Class) → HoldsClass folded class c → SaysItem s folded known (sound (byte_in folded c) next) words.new result }
 {
+    words.copy_from_slice(&class);
     Ok(Parsed {
-        value: Token::Byte(words),
+        value: Token::Byte,
         next,
     })
 }
 
 // A byte or a set outside a class, folded or not.
-fn member_item(m: Reading<Member>, folded: bool) -> Reading<Token>
-    ensures { (s : List ℕ) (known : Names) → SaysItem s folded known (and_then (read_of member_of m) (λ x next. sound (byte_in folded (only x)) next)) result }
+fn member_item(m: Reading<Member>, folded: bool, words: &mut [u32]) -> Reading<Token>
+    requires { length words.old ≡ 8 }
+    ensures { (s : List ℕ) (known : Names) → SaysItem s folded known (and_then (read_of member_of m) (λ x next. sound (byte_in folded (only x)) next)) words.new result }
 {
     let member = m?;
-    let words = with_member(empty(), member.value, folded);
-    Ok(Parsed {
-        value: Token::Byte(words),
-        next: member.next,
-    })
+    let class = with_member(empty(), member.value, folded);
+    byte_item(class, member.next, words)
 }
 
 // The class at a position, which the depot profile narrows.
-fn class_item(rule: &[u8], flags: Flags, at: usize) -> Reading<Token>
-    requires { at < length rule.now }
-    ensures { (known : Names) → SaysItem rule.now (ignore_case flags.0) known (and_then (class rule.now (depot flags.0) at) (λ x next. sound (byte_in (ignore_case flags.0) x) next)) result }
+fn class_item(rule: &[u8], flags: Flags, at: usize, words: &mut [u32]) -> Reading<Token>
+    requires { (at < length rule.now) × (length words.old ≡ 8) }
+    ensures { (known : Names) → SaysItem rule.now (ignore_case flags.0) known (and_then (class rule.now (depot flags.0) at) (λ x next. sound (byte_in (ignore_case flags.0) x) next)) words.new result }
 {
     let class = class_at(rule, at, flags.ignores_case(), flags.in_depot())?;
-    Ok(Parsed {
-        value: Token::Byte(class.value),
-        next: class.next,
-    })
+    byte_item(class.value, class.next, words)
 }
 
 // By the first byte ---------------------------------------------------------------------
@@ -130,7 +128,7 @@ fn class_item(rule: &[u8], flags: Flags, at: usize) -> Reading<Token>
 // `\g`: a name in braces, or a number.
 fn group_at(rule: &[u8], opened: u32, at: usize) -> Reading<Token>
     requires { (opened ≤ group_limit) × (at + 2 ≤ length rule.now) × (byte rule.now (at + 1) ≡ 103) }
-    ensures { (folded : Bool) (known : Names) → SaysItem rule.now folded known (escape rule.now folded known opened at) result }
+    ensures { (folded : Bool) (known : Names) (words : List ℕ) → SaysItem rule.now folded known (escape rule.now folded known opened at) words result }
 {
     if calls_by_name(rule, at) {
         return called_item(name_at(rule, b'}', at, at + 3));
@@ -139,47 +137,47 @@ fn group_at(rule: &[u8], opened: u32, at: usize) -> Reading<Token>
 }
 
 // An escape outside a class, folded or not, where so many groups have been opened.
-fn escape_at(rule: &[u8], folded: bool, opened: u32, at: usize) -> Reading<Token>
-    requires { (opened ≤ group_limit) × (at < length rule.now) }
-    ensures { (known : Names) → SaysItem rule.now folded known (escape rule.now folded known opened at) result }
+fn escape_at(rule: &[u8], folded: bool, opened: u32, at: usize, words: &mut [u32]) -> Reading<Token>
+    requires { (opened ≤ group_limit) × (at < length rule.now) × (length words.old ≡ 8) }
+    ensures { (known : Names) → SaysItem rule.now folded known (escape rule.now folded known opened at) words.new result }
 {
     let next = at + 2;
     let Some(b) = rule.get(at + 1) else {
-        return member_item(common_at(rule, at), folded);
+        return member_item(common_at(rule, at), folded, words);
     };
     match *b {
-        b'N' => byte_item(not_newline(), next),
+        b'N' => byte_item(not_newline(), next, words),
         b'A' => assertion(Assertion::TextStart, next),
         b'z' => assertion(Assertion::TextEnd, next),
         b'Z' => assertion(Assertion::LastLineEnd, next),
         b'b' => assertion(Assertion::WordBoundary, next),
         b'B' => assertion(Assertion::NoWordBoundary, next),
-        b'0' => member_item(octal_at(rule, at), folded),
+        b'0' => member_item(octal_at(rule, at), folded, words),
         b'1'..=b'9' => group_item(forward_at(rule, at, at + 1)),
         b'k' => called_item(called_at(rule, at)),
         b'g' => group_at(rule, opened, at),
-        _ => member_item(common_at(rule, at), folded),
+        _ => member_item(common_at(rule, at), folded, words),
     }
 }
 
-// The item at a position, where so many groups have been opened.
-pub fn item_at(rule: &[u8], flags: u32, opened: u32, at: usize) -> Reading<Token>
-    requires { (opened ≤ group_limit) × (at < length rule.now) }
-    ensures { (known : Names) → SaysItem rule.now (ignore_case flags) known (atom rule.now flags known opened at) result }
+// The item at a position, where so many groups have been opened. A byte item's class is left in the words.
+pub fn item_at(rule: &[u8], flags: u32, opened: u32, at: usize, words: &mut [u32]) -> Reading<Token>
+    requires { (opened ≤ group_limit) × (at < length rule.now) × (length words.old ≡ 8) }
+    ensures { (known : Names) → SaysItem rule.now (ignore_case flags) known (atom rule.now flags known opened at) words.new result }
 {
     let flags = Flags(flags);
     let folded = flags.ignores_case();
     let next = at + 1;
     let b = rule[at];
     match b {
-        b'\\' => escape_at(rule, folded, opened, at),
-        b'[' => class_item(rule, flags, at),
-        b'.' => byte_item(dot(flags), next),
+        b'\\' => escape_at(rule, folded, opened, at, words),
+        b'[' => class_item(rule, flags, at, words),
+        b'.' => byte_item(dot(flags), next, words),
         b'^' => edge(flags, Assertion::LineStart, Assertion::TextStart, next),
         b'$' => edge(flags, Assertion::LineEnd, Assertion::LastLineEnd, next),
         _ => {
-            let words = with_member(empty(), Member::Single(b), folded);
-            byte_item(words, next)
+            let class = with_member(empty(), Member::Single(b), folded);
+            byte_item(class, next, words)
         }
     }
 }

@@ -12,8 +12,8 @@ pub use items::item_at;
 // An item that is no group.
 #[derive(Clone, Copy, Debug, PartialEq, Eq)]
 pub enum Token {
-    // a byte item, by the words that hold its class
-    Byte([u32; 8]),
+    // a byte item; the words that hold its class are written beside it
+    Byte,
     Assert(Assertion),
     // to the group of a number, 0 for one that no rule has
     Reference(u32),

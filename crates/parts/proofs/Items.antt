@@ -2,13 +2,15 @@
 use Rattle.std.specs.Prelude.{◌⊎◌, Result, Ok, Err}
 use mathlib.Core.Path.{◌≡◌, refl, ap, sym, subst, ◌∙◌}
 use mathlib.Core.Bool.{Bool, true, false}
-use mathlib.Core.List.{List, [], ◌∷◌}
+use mathlib.Core.List.{List, [], ◌∷◌, ◌++◌}
 use mathlib.Core.Logic.{inl, inr}
 use Prim.Native.Nat.{ℕ, ◌+◌, ◌-◌, ◌≤◌, ◌<◌}
 use native.Mathlib.Omega.{arith}
 use borrow.Author.Tests.{ne_eqb}
-use lib.ListN.{length, get_or}
-use lib.Seq.{slice}
+use lib.ListN.{length, get_or, take, drop, length-drop}
+use lib.Seq.{slice, length-take-le, drop-append_seam}
+use Rattle.std.proofs.lemmas.List.{get_or_append_left, get_or-take}
+use borrow.Rule.Slice.PartMut.{mid_of, post_of, put_mid, same_len_mid}
 use Rattle.syntax.specs.declared.Assertion.{Assertion}
 use Rattle.syntax.specs.declared.Greed.{Greed}
 use Rattle.syntax.specs.declared.Most.{Most}
@@ -34,9 +36,10 @@ use Rattle.parts.specs.declared.Cursor.{Cursor}
 use Rattle.parts.specs.declared.Step.{Step}
 use Rattle.parts.specs.declared.Before.{Before}
 use Rattle.parts.specs.declared.Before.TheVariants.{Nothing, Repeatable, Repeated}
-use Rattle.writer.specs.Wrote.{Wrote}
+use Rattle.linker.proofs.Regions.{chain_same}
+use Rattle.writer.specs.Wrote.{Below, Wrote}
 use Rattle.parts.specs.Says.{behind_node, Ready, MovedTurn, Told, kind_of, SaysTurn, SoFar, Items, plain_item, PlainItems, Others, Repeats}
-use Rattle.parts.proofs.Standing.{byte-part, assert-part, reference-part, named-part, break-part, so_far_more, so-far-chain, chain_more, repeat-chain, possessive-chain}
+use Rattle.parts.proofs.Standing.{byte-part, assert-part, reference-part, named-part, break-part, has_same, below-same, so_far_more, so-far-chain, chain_more, repeat-chain, possessive-chain}
 
 -- Repeats -------------------------------------------------------------------------
 
@@ -112,14 +115,14 @@ given-at a P x n e g = subst (λ (y : Read _). Given y P) e g
 then-sound : {A B : Type 0} (a : Read A) (x : A) (n : ℕ) (k : A → ℕ → Read B) → a ≡ sound x n → and_then a k ≡ k x n
 then-sound a x n k e = ap (λ (y : Read _). and_then y k) e
 
-pub item-bad : (s : List ℕ) (old : List ℕ) (c : Cursor) (flags last : ℕ) (f : Refusal) → ((known : Names) → SaysItem s (ignore_case flags) known (atom s flags known c.opened c.at) (Err f)) → Items s flags old old c last (Err f)
-item-bad s old c flags last f says = record { moved = tt; frame = λ i k. refl; names = tt; claim = λ known told lo q h. rw (says known) }
+pub item-bad : (s : List ℕ) (old new : List ℕ) (c : Cursor) (flags last : ℕ) (f : Refusal) → Below c.used new old → ((known : Names) → atom s flags known c.opened c.at ≡ refused f.place f.reason) → Items s flags old new c last (Err f)
+item-bad s old new c flags last f b says = record { moved = tt; frame = b; names = tt; claim = λ known told lo q h. rw (says known) }
 
-module _ (s : List ℕ) {old : List ℕ} {c : Cursor} (l : Parsed Token) (flags last : ℕ) (r : Ready (length s) old c) (in_rule : c.at < length s)
-    (says : (known : Names) → SaysItem s (ignore_case flags) known (atom s flags known c.opened c.at) (Ok l)) where
+module _ (s : List ℕ) {old : List ℕ} {c : Cursor} (words : List ℕ) (l : Parsed Token) (flags last : ℕ) (r : Ready (length s) old c) (in_rule : c.at < length s)
+    (says : (known : Names) → SaysItem s (ignore_case flags) known (atom s flags known c.opened c.at) words (Ok l)) where
   -- what is said once the token is known
-  is-token : (t : Token) → l.value ≡ t → (known : Names) → ItemIn s (ignore_case flags) known (atom s flags known c.opened c.at) t l.next
-  is-token t e known = subst (λ (y : Token). ItemIn s (ignore_case flags) known (atom s flags known c.opened c.at) y l.next) e (says known)
+  is-token : (t : Token) → l.value ≡ t → (known : Names) → ItemIn s (ignore_case flags) known (atom s flags known c.opened c.at) words t l.next
+  is-token t e known = subst (λ (y : Token). ItemIn s (ignore_case flags) known (atom s flags known c.opened c.at) words y l.next) e (says known)
 
   -- an item ends behind its beginning and within the rule
   module _ (i : Item) (next : ℕ) (is : atom s flags [] c.opened c.at ≡ sound i next) where
@@ -129,9 +132,9 @@ module _ (s : List ℕ) {old : List ℕ} {c : Cursor} (l : Parsed Token) (flags 
     upto : next ≤ length s
     upto = given-at (atom s flags [] c.opened c.at) (Upto s) i next is (atom-in s flags [] c.opened c.at in_rule)
 
-  pub item-byte : {new : List ℕ} (words : List ℕ) → l.value ≡ Byte words → Wrote old new c.used 11 (0 ∷ last ∷ c.at ∷ words) → Items s flags old new c last (Ok (record { cursor = behind_node c l.next 11; node = c.used; kind = Repeatable }))
-  item-byte {new} words e w =
-      let z = is-token (Byte words) e [] in
+  pub item-byte : {new : List ℕ} → l.value ≡ Byte → Wrote old new c.used 11 (0 ∷ last ∷ c.at ∷ words) → Items s flags old new c last (Ok (record { cursor = behind_node c l.next 11; node = c.used; kind = Repeatable }))
+  item-byte {new} e w =
+      let z = is-token Byte e [] in
       let n = on (byte_in (ignore_case flags) z.0) l.next z.1 in
       let u = upto (byte_in (ignore_case flags) z.0) l.next z.1 in
       record {
@@ -139,7 +142,7 @@ module _ (s : List ℕ) {old : List ℕ} {c : Cursor} (l : Parsed Token) (flags 
         frame = w.below;
         names = refl;
         claim = λ known told lo q h.
-            let y = is-token (Byte words) e known in
+            let y = is-token Byte e known in
             let t = item c.at (byte_in (ignore_case flags) y.0) in (
               repeatable (whole q) t,
               refl,
@@ -206,6 +209,46 @@ module _ (s : List ℕ) {old : List ℕ} {c : Cursor} (l : Parsed Token) (flags 
               so_far_more s known old new lo c.used last c.used (c.used + 6) (whole q) t h w.below (named-part s known n.from n.len (ignore_case flags) w r.began (omega (arith, v))),
             );
       }
+
+-- The words of a class, k of them, written behind the three first numbers of a byte item at p, before it is known whether one stands there.
+module _ (old words : List ℕ) (p k : ℕ) (in_area : p + 3 + k ≤ length old) (many : length words ≡ length (mid_of (p + 3) k old)) where
+  pub beside-long : length (put_mid (p + 3) k old words) ≡ length old
+  beside-long = same_len_mid (p + 3) k old words many
+
+  pub beside-below : Below p (put_mid (p + 3) k old words) old
+  beside-below i h =
+      let t = length-take-le (p + 3) old (omega arith) in
+      get_or_append_left (take (p + 3) old) (words ++ post_of (p + 3) k old) 0 i (omega arith) ∙ get_or-take (p + 3) old i 0 (omega arith)
+
+  pub beside-words : (i : ℕ) → i < k → get_or (drop (p + 3) (put_mid (p + 3) k old words)) i 0 ≡ get_or words i 0
+  beside-words i h =
+      let t = length-take-le (p + 3) old (omega arith) in
+      let d = length-drop (p + 3) old in
+      let m = length-take-le k (drop (p + 3) old) (omega arith) in
+      let e = ap (λ (n : ℕ). drop n (put_mid (p + 3) k old words)) (sym t) ∙ drop-append_seam (take (p + 3) old) (words ++ post_of (p + 3) k old) in
+      ap (λ (l : List ℕ). get_or l i 0) e ∙ get_or_append_left words (post_of (p + 3) k old) 0 i (omega arith)
+
+-- what equal words say is the same
+item-same : (s : List ℕ) (folded : Bool) (known : Names) (a : Read Item) (v w : List ℕ) → ((i : ℕ) → i < 8 → get_or w i 0 ≡ get_or v i 0) → (t : Token) (next : ℕ) → ItemIn s folded known a v t next → ItemIn s folded known a w t next
+item-same s folded known a v w e Byte next h = (h.0, h.1, λ x u. has_same w v e x u ∙ h.2 x u)
+item-same s folded known a v w e (Assert k) next h = h
+item-same s folded known a v w e (Reference n) next h = h
+item-same s folded known a v w e (Called n) next h = h
+
+pub says-same : (s : List ℕ) (folded : Bool) (known : Names) (a : Read Item) (v w : List ℕ) → ((i : ℕ) → i < 8 → get_or w i 0 ≡ get_or v i 0) → (l : Parsed Token) → SaysItem s folded known a v (Ok l) → SaysItem s folded known a w (Ok l)
+says-same s folded known a v w e l h = item-same s folded known a v w e l.value l.next h
+
+pub ready-same : {size : ℕ} {old mid : List ℕ} {c : Cursor} → length mid ≡ length old → Ready size old c → Ready size mid c
+ready-same e r = record { within = r.within; began = r.began; paid = r.paid; room = omega (arith, r.room); narrow = r.narrow; few = r.few }
+
+-- an item that was read where nothing below it had changed
+pub items-behind : (s : List ℕ) {old mid new : List ℕ} (c : Cursor) (flags last : ℕ) (r : Result Step Refusal) → Below c.used mid old → Items s flags mid new c last r → Items s flags old new c last r
+items-behind s {old} {mid} {new} c flags last r b y = record {
+  moved = y.moved;
+  frame = λ i k. y.frame i k ∙ b i k;
+  names = y.names;
+  claim = λ known told lo q h. y.claim known told lo q (chain_same s known old mid (whole q) lo c.used last (below-same mid old c.used lo c.used (omega arith) b) h);
+}
 
 pub turn-as : (s : List ℕ) (known : Names) (told : Told) (a b : Read (Sequence × Names)) (area : List ℕ) (lo : ℕ) (r : Result Step Refusal) → a ≡ b → SaysTurn s known told b area lo r → SaysTurn s known told a area lo r
 turn-as s known told a b area lo r e x = subst (λ (y : Read (Sequence × Names)). SaysTurn s known told y area lo r) (sym e) x

@@ -53,7 +53,7 @@ after w h b ne = record { plain = λ x. ne (sym (head w (omega arith) b) ∙ x);
 -- Items ---------------------------------------------------------------------------
 
 -- equal words hold equal classes
-has_same : (v w : List ℕ) → ((i : ℕ) → i < 8 → get_or v i 0 ≡ get_or w i 0) → (x : ℕ) → x < 256 → has v x ≡ has w x
+pub has_same : (v w : List ℕ) → ((i : ℕ) → i < 8 → get_or v i 0 ≡ get_or w i 0) → (x : ℕ) → x < 256 → has v x ≡ has w x
 unfolding has
 has_same v w e x h = ap (λ (n : ℕ). bit n (x % 32)) (e (x / 32) (omega arith))
 

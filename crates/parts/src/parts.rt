@@ -11,7 +11,7 @@ use lexer::{Token, item_at};
 use syntax::node::{AHEAD, ASSERTION, BREAK, HELD, PLAIN};
 use syntax::{Form, Greed, Most, Parsed, Quantifier, Reason, Refusal};
 use writer::{
-    folded_word, put_byte, put_four, put_group, put_marked, put_named, put_not_ahead,
+    folded_word, put_byte_head, put_four, put_group, put_marked, put_named, put_not_ahead,
     put_reference, put_repeat, put_three,
 };
 
@@ -74,12 +74,14 @@ fn item(rule: &[u8], flags: u32, area: &mut [u32], so_far: Step) -> Result<Step,
     ensures { Items rule.now flags area.old area.new so_far.cursor so_far.node result }
 {
     let c = so_far.cursor;
-    let Parsed { value: token, next } = item_at(rule, flags, c.opened, c.at)?;
+    // where a byte item has its class; no other item is as long
+    let words = &mut area[c.used + 3..c.used + 11];
+    let Parsed { value: token, next } = item_at(rule, flags, c.opened, c.at, words)?;
     let before = so_far.node as u32;
     let place = c.at as u32;
     match token {
-        Token::Byte(words) => {
-            put_byte(area, c.used, before, place, words);
+        Token::Byte => {
+            put_byte_head(area, c.used, before, place);
             Ok(c.step(next, 11, Before::Repeatable))
         }
         Token::Assert(which) => {

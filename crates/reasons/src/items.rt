@@ -32,7 +32,8 @@ fn token_end(rule: &[u8], flags: u32, at: usize) -> usize
     requires { at < length rule.now }
     ensures { result ≡ behind_item rule.now flags at (atom rule.now flags [] 0 at) }
 {
-    match item_at(rule, flags, 0, at) {
+    let mut words = [0; 8];
+    match item_at(rule, flags, 0, at, &mut words) {
         Ok(item) => with_repeat(rule, flags, item.next),
         Err(_refusal) => at + 1,
     }

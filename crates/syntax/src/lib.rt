@@ -175,11 +175,11 @@ impl Refusal {
     }
 }
 
-// What was read of a rule, and the place behind it.
+// What was read of a rule, and the place behind it, which comes first as that of a refusal does: the two then lie alike in a `Reading`.
 #[derive(Clone, Copy, Debug, PartialEq, Eq)]
 pub struct Parsed<T> {
-    pub value: T,
     pub next: usize,
+    pub value: T,
 }
 
 // What reading a part of a rule gives.

@@ -1,7 +1,7 @@
 // Writes the nodes of a rule that is being read into a lent area, each behind those before it.
 #![tactic(auto)]
 
-ghost use Rattle.std.specs.Prelude.{◌≡◌, [], ◌∷◌, ◌+◌, ◌≤◌, ◌<◌, length};
+ghost use Rattle.std.specs.Prelude.{◌≡◌, [], ◌∷◌, ◌+◌, ◌≤◌, ◌<◌, drop, length};
 ghost use Rattle.syntax.specs.Limits.{group_limit, slot};
 ghost use Rattle.syntax.specs.Flags.{ignore_case};
 ghost use Rattle.syntax.specs.Checkable.{crowded_at};
@@ -35,13 +35,14 @@ pub fn put_four(area: &mut [u32], at: usize, x: u32, y: u32, z: u32, w: u32)
     area[at + 3] = w;
 }
 
-// Writes a byte item.
-pub fn put_byte(area: &mut [u32], at: usize, before: u32, place: u32, class: [u32; 8])
+// Writes a byte item in front of the words of its class, which stand there already.
+pub fn put_byte_head(area: &mut [u32], at: usize, before: u32, place: u32)
     requires { at + 11 ≤ length area.old }
-    ensures { Wrote area.old area.new at 11 (0 ∷ before ∷ place ∷ class) }
+    ensures { Wrote area.old area.new at 11 (0 ∷ before ∷ place ∷ drop (at + 3) area.old) }
 {
-    put_three(area, at, BYTE, before, place);
-    area[at + 3..at + 11].copy_from_slice(&class);
+    area[at] = BYTE;
+    area[at + 1] = before;
+    area[at + 2] = place;
 }
 
 // Writes a reference.

@@ -24,12 +24,12 @@ use Rattle.reasons.specs.Items.{behind_repeat, with_repeat, behind_item, opens_n
 
 module _ (s : List ℕ) (flags at : ℕ) where
   -- an item that was read as a token
-  pub end-read : (t : Token) (next : ℕ) → ItemIn s (ignore_case flags) [] (atom s flags [] 0 at) t next → with_repeat s flags next ≡ behind_item s flags at (atom s flags [] 0 at)
+  pub end-read : (words : List ℕ) (t : Token) (next : ℕ) → ItemIn s (ignore_case flags) [] (atom s flags [] 0 at) words t next → with_repeat s flags next ≡ behind_item s flags at (atom s flags [] 0 at)
   unfolding behind_item
-  end-read (Byte words) next h = rw h.1
-  end-read (Assert k) next h = rw h
-  end-read (Reference n) next h = rw h
-  end-read (Called n) next h = rw h.0
+  end-read words Byte next h = rw h.1
+  end-read words (Assert k) next h = rw h
+  end-read words (Reference n) next h = rw h
+  end-read words (Called n) next h = rw h.0
 
   -- one that is refused
   pub end-refused : (r : Refusal) → atom s flags [] 0 at ≡ refused r.place r.reason → suc at ≡ behind_item s flags at (atom s flags [] 0 at)

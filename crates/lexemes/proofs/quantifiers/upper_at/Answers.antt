@@ -7,10 +7,10 @@ pub returns-then-peek-eq125 : goal.returns-then-peek-eq125
 returns-then-peek-eq125 c = c.at_least.ensures ∙ upper-close _ _ _ _ c.peek.ensures.is c.if-peek-eq125.true
 
 pub returns-then-next-at : goal.returns-then-next-at
-returns-then-next-at c = upper-empty _ _ _ c.number_at-m.ensures _ _ c.peek.ensures.is c.if-peek-eq125.false c.if-next-at.true
+returns-then-next-at c = upper-empty _ _ _ c.number_at-next.ensures _ _ c.peek.ensures.is c.if-peek-eq125.false c.if-next-at.true
 
 pub returns-then-peek-eq125-2 : goal.returns-then-peek-eq125-2
-returns-then-peek-eq125-2 c = c.from_to.ensures ∙ upper-both _ _ _ c.number_at-m.ensures _ _ c.peek.ensures.is c.if-peek-eq125.false c.if-next-at.false _ c.peek-2.ensures.is c.if-peek-eq125-2.true
+returns-then-peek-eq125-2 c = c.from_to.ensures ∙ upper-both _ _ _ c.number_at-next.ensures _ _ c.peek.ensures.is c.if-peek-eq125.false c.if-next-at.false _ c.peek-2.ensures.is c.if-peek-eq125-2.true
 
 pub returns : goal.returns
-returns c = upper-other _ _ _ c.number_at-m.ensures _ _ c.peek.ensures.is c.if-peek-eq125.false c.if-next-at.false _ c.peek-2.ensures.is c.if-peek-eq125-2.false
+returns c = upper-other _ _ _ c.number_at-next.ensures _ _ c.peek.ensures.is c.if-peek-eq125.false c.if-next-at.false _ c.peek-2.ensures.is c.if-peek-eq125-2.false

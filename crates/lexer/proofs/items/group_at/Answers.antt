@@ -9,7 +9,7 @@ pub name_at-requires : goal.name_at-requires
 name_at-requires c = calls-in _ _ (sym c.calls_by_name.ensures ∙ c.if-calls_by_name.true)
 
 pub returns-then-calls_by_name : goal.returns-then-calls_by_name
-returns-then-calls_by_name c = λ folded known. same_item _ folded known c.called_item.result (escape-by-name _ folded known _ _ 103 (sym c.requires.2) refl (sym c.calls_by_name.ensures ∙ c.if-calls_by_name.true)) (c.called_item.ensures _ folded known _ (c.name_at.ensures "}" refl))
+returns-then-calls_by_name c = λ folded known words. same_item _ folded known words c.called_item.result (escape-by-name _ folded known _ _ 103 (sym c.requires.2) refl (sym c.calls_by_name.ensures ∙ c.if-calls_by_name.true)) (c.called_item.ensures _ folded known words _ (c.name_at.ensures "}" refl))
 
 pub returns : goal.returns
-returns c = λ folded known. same_item _ folded known c.group_item.result (escape-by-number _ folded known _ _ 103 (sym c.requires.2) refl (sym c.calls_by_name.ensures ∙ c.if-calls_by_name.false) (read_of (λ n. n) c.group_number_at.result) c.group_number_at.ensures) (c.group_item.ensures _ folded known)
+returns c = λ folded known words. same_item _ folded known words c.group_item.result (escape-by-number _ folded known _ _ 103 (sym c.requires.2) refl (sym c.calls_by_name.ensures ∙ c.if-calls_by_name.false) (read_of (λ n. n) c.group_number_at.result) c.group_number_at.ensures) (c.group_item.ensures _ folded known words)

@@ -10,4 +10,4 @@ pub returns-in_err-member : goal.returns-in_err-member
 returns-in_err-member c = λ s known. let p = err_from_is_err_and c.from_residual.result c.from_residual.ensures.1 in rw (p.1, p.2, c.in_err-member.was)
 
 pub returns : goal.returns
-returns c = λ s known. rw c.in_ok-member.was (only (member_of c.in_ok-member.member.value), refl, holds-only _ (member_of c.in_ok-member.member.value) _ _ c.empty.ensures c.with_member-words.ensures)
+returns c = λ s known. rw c.in_ok-member.was (c.byte_item.ensures s _ known (only (member_of c.in_ok-member.member.value)) (holds-only _ (member_of c.in_ok-member.member.value) _ _ c.empty.ensures c.with_member-class.ensures))
