@@ -148,6 +148,7 @@ fn number_reference(area: &mut [u32], p: usize, names: &NameTable<'_>)
 }
 
 // A reference by name: its number is found first, then it is linked by that.
+#[inline(never)]
 fn link_named(
     area: &mut [u32],
     p: usize,
@@ -163,7 +164,8 @@ fn link_named(
     p
 }
 
-// The part at p, which goes on at `next` and uses the registers from r on. It answers where the part is entered.
+// The part at p, which goes on at `next` and uses the registers from r on. It answers where the part is entered. Most parts are items:
+// what links the others is not taken into this function, since each item would pay for its frame on the stack.
 #[cycle(link_alternation_link_branches_link_chain_link_group_link_inside_link_part_link_plain_link_repeat)]
 fn link_part(
     area: &mut [u32],
@@ -176,11 +178,7 @@ fn link_part(
     requires { Stands (Part names.now.rule.now (known_in names.now) area.old) names.now.groups r area.old p × (next ≤ rule_area_need) }
     ensures { Links (Part names.now.rule.now (known_in names.now) area.old) names.now.groups r area.old area.new p next dangling.old result dangling.new }
 {
-    let kind = area[p];
-    if is_bracketed(kind as usize) {
-        return link_group(area, p, next, r, names, dangling);
-    }
-    match kind {
+    match area[p] {
         REPEAT => link_repeat(area, p, next, r, names, dangling),
         PLAIN => link_plain(area, p, next, r, names, dangling),
         REFERENCE => {
@@ -188,6 +186,7 @@ fn link_part(
             p
         }
         NAMED => link_named(area, p, next, names, dangling),
+        kind if is_bracketed(kind as usize) => link_group(area, p, next, r, names, dangling),
         _ => {
             put(area, p + 1, next);
             p
@@ -196,6 +195,7 @@ fn link_part(
 }
 
 // A capturing group, a held part or looking ahead: its inside goes on at its end, which stands at p; its opening stands behind that.
+#[inline(never)]
 #[cycle(link_alternation_link_branches_link_chain_link_group_link_inside_link_part_link_plain_link_repeat)]
 fn link_group(
     area: &mut [u32],
@@ -215,6 +215,7 @@ fn link_group(
 }
 
 // A repeat: its body goes on at its loop.
+#[inline(never)]
 #[cycle(link_alternation_link_branches_link_chain_link_group_link_inside_link_part_link_plain_link_repeat)]
 fn link_repeat(
     area: &mut [u32],
@@ -235,6 +236,7 @@ fn link_repeat(
 }
 
 // A group that does not capture: its node is passed over.
+#[inline(never)]
 #[cycle(link_alternation_link_branches_link_chain_link_group_link_inside_link_part_link_plain_link_repeat)]
 fn link_plain(
     area: &mut [u32],

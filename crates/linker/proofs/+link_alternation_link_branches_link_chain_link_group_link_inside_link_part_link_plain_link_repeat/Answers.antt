@@ -174,8 +174,8 @@ pub link_part-put-requires : goal.link_part-put-requires
 unfolding rule_area_need
 link_part-put-requires t c = let b = begins _ _ _ _ _ _ c.requires.0 in (omega arith, omega (arith, c.requires.1))
 
-pub link_part-returns-in_default : goal.link_part-returns-in_default
-link_part-returns-in_default t c = item-links _ _ _ _ _ _ _ _ _ (c.is_bracketed.ensures.1 c.if-is_bracketed.false) (λ e. omega arith) (λ e. omega arith) (λ e. omega arith) (λ e. omega arith) c.put.ensures
+pub link_part-returns-in_default-2 : goal.link_part-returns-in_default-2
+link_part-returns-in_default-2 t c = item-links _ _ _ _ _ _ _ _ _ (c.is_bracketed.ensures.1 c.if-is_bracketed.false) (λ e. omega arith) (λ e. omega arith) (λ e. omega arith) (λ e. omega arith) c.put.ensures
 
 pub link_plain-overflow_add-p : goal.link_plain-overflow_add-p
 link_plain-overflow_add-p t c = let g = plain_at _ _ _ _ _ _ c.requires.0 c.requires.2 in omega arith
