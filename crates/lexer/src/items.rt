@@ -8,7 +8,7 @@ ghost use Rattle.syntax.specs.Sets.{Class, only, not_newline, any_byte};
 ghost use Rattle.syntax.specs.Tree.{byte_in, assert, reference};
 ghost use Rattle.syntax.specs.Flags.{dot_all, multiline, ignore_case, depot};
 ghost use Rattle.syntax.specs.Names.{Names, group_called};
-ghost use Rattle.syntax.specs.Escapes.{escape};
+ghost use Rattle.syntax.specs.Escapes.{octal, common, escape};
 ghost use Rattle.syntax.specs.Classes.{class};
 ghost use Rattle.syntax.specs.Grammar.{atom};
 ghost use Rattle.lexemes.specs.Says.{SaysName};
@@ -104,14 +104,43 @@ fn byte_item(class: [u32; 8], next: usize, words: &mut [u32]) -> Reading<Token>
     })
 }
 
+// The item of a byte or a set alone, folded or not.
+fn only_item(m: Member, folded: bool, next: usize, words: &mut [u32]) -> Reading<Token>
+    requires { length words.old ≡ 8 }
+    ensures { (s : List ℕ) (known : Names) → SaysItem s folded known (sound (byte_in folded (only (member_of m))) next) words.new result }
+{
+    let class = with_member(empty(), m, folded);
+    byte_item(class, next, words)
+}
+
 // A byte or a set outside a class, folded or not.
 fn member_item(m: Reading<Member>, folded: bool, words: &mut [u32]) -> Reading<Token>
     requires { length words.old ≡ 8 }
     ensures { (s : List ℕ) (known : Names) → SaysItem s folded known (and_then (read_of member_of m) (λ x next. sound (byte_in folded (only x)) next)) words.new result }
 {
     let member = m?;
-    let class = with_member(empty(), member.value, folded);
-    byte_item(class, member.next, words)
+    only_item(member.value, folded, member.next, words)
+}
+
+// What a called reader answers takes room, which is cleared where the function begins that calls it. So this and the next stand apart from `escape_at`, and
+// `only_item` from `item_at`: there each item would pay for that room.
+
+// Up to three octal digits right behind the backslash, folded or not.
+fn octal_item(rule: &[u8], folded: bool, at: usize, words: &mut [u32]) -> Reading<Token>
+    requires { (at < length rule.now) × (length words.old ≡ 8) }
+    ensures { (s : List ℕ) (known : Names)
+        → SaysItem s folded known (and_then (octal rule.now at) (λ x next. sound (byte_in folded (only x)) next)) words.new result }
+{
+    member_item(octal_at(rule, at), folded, words)
+}
+
+// An escape that means the same in a class, folded or not.
+fn common_item(rule: &[u8], folded: bool, at: usize, words: &mut [u32]) -> Reading<Token>
+    requires { (at < length rule.now) × (length words.old ≡ 8) }
+    ensures { (s : List ℕ) (known : Names)
+        → SaysItem s folded known (and_then (common rule.now at) (λ x next. sound (byte_in folded (only x)) next)) words.new result }
+{
+    member_item(common_at(rule, at), folded, words)
 }
 
 // The class at a position, which the depot profile narrows.
@@ -143,7 +172,7 @@ fn escape_at(rule: &[u8], folded: bool, opened: u32, at: usize, words: &mut [u32
 {
     let next = at + 2;
     let Some(b) = rule.get(at + 1) else {
-        return member_item(common_at(rule, at), folded, words);
+        return common_item(rule, folded, at, words);
     };
     match *b {
         b'N' => byte_item(not_newline(), next, words),
@@ -152,11 +181,11 @@ fn escape_at(rule: &[u8], folded: bool, opened: u32, at: usize, words: &mut [u32
         b'Z' => assertion(Assertion::LastLineEnd, next),
         b'b' => assertion(Assertion::WordBoundary, next),
         b'B' => assertion(Assertion::NoWordBoundary, next),
-        b'0' => member_item(octal_at(rule, at), folded, words),
+        b'0' => octal_item(rule, folded, at, words),
         b'1'..=b'9' => group_item(forward_at(rule, at, at + 1)),
         b'k' => called_item(called_at(rule, at)),
         b'g' => group_at(rule, opened, at),
-        _ => member_item(common_at(rule, at), folded, words),
+        _ => common_item(rule, folded, at, words),
     }
 }
 
@@ -175,9 +204,6 @@ pub fn item_at(rule: &[u8], flags: u32, opened: u32, at: usize, words: &mut [u32
         b'.' => byte_item(dot(flags), next, words),
         b'^' => edge(flags, Assertion::LineStart, Assertion::TextStart, next),
         b'$' => edge(flags, Assertion::LineEnd, Assertion::LastLineEnd, next),
-        _ => {
-            let class = with_member(empty(), Member::Single(b), folded);
-            byte_item(class, next, words)
-        }
+        _ => only_item(Member::Single(b), folded, next, words),
     }
 }

@@ -212,21 +212,42 @@ module _ (s : List ℕ) {old : List ℕ} {c : Cursor} (words : List ℕ) (l : Pa
 
 -- The words of a class, k of them, written behind the three first numbers of a byte item at p, before it is known whether one stands there.
 module _ (old words : List ℕ) (p k : ℕ) (in_area : p + 3 + k ≤ length old) (many : length words ≡ length (mid_of (p + 3) k old)) where
-  pub beside-long : length (put_mid (p + 3) k old words) ≡ length old
+  beside-long : length (put_mid (p + 3) k old words) ≡ length old
   beside-long = same_len_mid (p + 3) k old words many
 
-  pub beside-below : Below p (put_mid (p + 3) k old words) old
+  beside-below : Below p (put_mid (p + 3) k old words) old
   beside-below i h =
       let t = length-take-le (p + 3) old (omega arith) in
       get_or_append_left (take (p + 3) old) (words ++ post_of (p + 3) k old) 0 i (omega arith) ∙ get_or-take (p + 3) old i 0 (omega arith)
 
-  pub beside-words : (i : ℕ) → i < k → get_or (drop (p + 3) (put_mid (p + 3) k old words)) i 0 ≡ get_or words i 0
+  beside-words : (i : ℕ) → i < k → get_or (drop (p + 3) (put_mid (p + 3) k old words)) i 0 ≡ get_or words i 0
   beside-words i h =
       let t = length-take-le (p + 3) old (omega arith) in
       let d = length-drop (p + 3) old in
       let m = length-take-le k (drop (p + 3) old) (omega arith) in
       let e = ap (λ (n : ℕ). drop n (put_mid (p + 3) k old words)) (sym t) ∙ drop-append_seam (take (p + 3) old) (words ++ post_of (p + 3) k old) in
       ap (λ (l : List ℕ). get_or l i 0) e ∙ get_or_append_left words (post_of (p + 3) k old) 0 i (omega arith)
+
+ready-same : {size : ℕ} {old mid : List ℕ} {c : Cursor} → length mid ≡ length old → Ready size old c → Ready size mid c
+ready-same e r = record { within = r.within; began = r.began; paid = r.paid; room = omega (arith, r.room); narrow = r.narrow; few = r.few }
+
+-- the area with them, at the cursor
+pub record Beside (size : ℕ) (old mid words : List ℕ) (c : Cursor) : Type 0 where
+  pub same : Below c.used mid old
+  pub ready : Ready size mid c
+  pub left : (i : ℕ) → i < 8 → get_or (drop (c.used + 3) mid) i 0 ≡ get_or words i 0
+
+pub beside : {size : ℕ} (old words : List ℕ) (c : Cursor) → Ready size old c → c.at < size
+    → length words ≡ length (mid_of (c.used + 3) (c.used + 11 - (c.used + 3)) old)
+    → Beside size old (put_mid (c.used + 3) (c.used + 11 - (c.used + 3)) old words) words c
+beside old words c r h many =
+    let k = c.used + 11 - (c.used + 3) in
+    let fits : c.used + 3 + k ≤ length old = omega (arith, r.paid, r.room, h) in
+    record {
+      same = beside-below old words c.used k fits many;
+      ready = ready-same (beside-long old words c.used k fits many) r;
+      left = λ i l. beside-words old words c.used k fits many i (omega (arith, l));
+    }
 
 -- what equal words say is the same
 item-same : (s : List ℕ) (folded : Bool) (known : Names) (a : Read Item) (v w : List ℕ) → ((i : ℕ) → i < 8 → get_or w i 0 ≡ get_or v i 0) → (t : Token) (next : ℕ) → ItemIn s folded known a v t next → ItemIn s folded known a w t next
@@ -237,9 +258,6 @@ item-same s folded known a v w e (Called n) next h = h
 
 pub says-same : (s : List ℕ) (folded : Bool) (known : Names) (a : Read Item) (v w : List ℕ) → ((i : ℕ) → i < 8 → get_or w i 0 ≡ get_or v i 0) → (l : Parsed Token) → SaysItem s folded known a v (Ok l) → SaysItem s folded known a w (Ok l)
 says-same s folded known a v w e l h = item-same s folded known a v w e l.value l.next h
-
-pub ready-same : {size : ℕ} {old mid : List ℕ} {c : Cursor} → length mid ≡ length old → Ready size old c → Ready size mid c
-ready-same e r = record { within = r.within; began = r.began; paid = r.paid; room = omega (arith, r.room); narrow = r.narrow; few = r.few }
 
 -- an item that was read where nothing below it had changed
 pub items-behind : (s : List ℕ) {old mid new : List ℕ} (c : Cursor) (flags last : ℕ) (r : Result Step Refusal) → Below c.used mid old → Items s flags mid new c last r → Items s flags old new c last r

@@ -6,13 +6,12 @@ use Rattle.lexemes.proofs.Bytes.{byte-read}
 use Rattle.syntax.specs.Laws.Fuel.{byte_past}
 use native.Mathlib.Omega.{arith}
 use Rattle.syntax.specs.Sets.{not_newline}
-use Rattle.escapes.specs.Says.{member_of}
 use Rattle.syntax.specs.Read.{read_of}
 use Rattle.lexer.proofs.ItemCases.{same_item, escape-newline, escape-text-start, escape-text-end, escape-last-line-end, escape-boundary, escape-no-boundary, escape-octal, escape-called, escape-number, escape_end, escape-common}
 use Rattle.lexer.proofs.items.escape_at.Goals as goal
 
 pub returns-in_default : goal.returns-in_default
-returns-in_default c = λ known. same_item _ _ known _ c.member_item.result (escape_end _ _ known _ _ _ (sym (byte_past _ _ (ltb-false _ _ (sym c.in_default.ensures.lookup.0)))) refl (read_of member_of c.common_at.result) c.common_at.ensures) (c.member_item.ensures _ known)
+returns-in_default c = λ known. same_item _ _ known _ c.common_item.result (escape_end _ _ known _ _ _ (sym (byte_past _ _ (ltb-false _ _ (sym c.in_default.ensures.lookup.0)))) refl _ refl) (c.common_item.ensures _ known)
 
 pub group_at-requires : goal.group_at-requires
 group_at-requires c = (c.requires.0, omega (arith, ltb-true _ _ (sym c.in-Some.ensures.lookup.0)), sym (byte-read _ _ _ c.in-Some.ensures.lookup.0 c.in-Some.ensures.lookup.1) ∙ c.in-103.is)
@@ -36,7 +35,7 @@ pub returns-in-66 : goal.returns-in-66
 returns-in-66 c = λ known. same_item _ _ known _ c.assertion-in-66.result (escape-no-boundary _ _ known _ _ _ (byte-read _ _ _ c.in-Some.ensures.lookup.0 c.in-Some.ensures.lookup.1) c.in-66.is) (c.assertion-in-66.ensures _ _ known _)
 
 pub returns-in-48 : goal.returns-in-48
-returns-in-48 c = λ known. same_item _ _ known _ c.member_item-in-48.result (escape-octal _ _ known _ _ _ (byte-read _ _ _ c.in-Some.ensures.lookup.0 c.in-Some.ensures.lookup.1) c.in-48.is (read_of member_of c.octal_at.result) c.octal_at.ensures) (c.member_item-in-48.ensures _ known)
+returns-in-48 c = λ known. same_item _ _ known _ c.octal_item.result (escape-octal _ _ known _ _ _ (byte-read _ _ _ c.in-Some.ensures.lookup.0 c.in-Some.ensures.lookup.1) c.in-48.is _ refl) (c.octal_item.ensures _ known)
 
 pub returns-in-107 : goal.returns-in-107
 returns-in-107 c = λ known. same_item _ _ known _ c.called_item.result (escape-called _ _ known _ _ _ (byte-read _ _ _ c.in-Some.ensures.lookup.0 c.in-Some.ensures.lookup.1) c.in-107.is) (c.called_item.ensures _ _ known _ _ c.called_at.ensures)
@@ -49,4 +48,4 @@ returns-in-49-to-57 c = λ known. same_item _ _ known _ c.group_item.result (esc
 
 pub returns-in_default-b : goal.returns-in_default-b
 returns-in_default-b c = λ known. let n = c.in_default-1.rest in
-    same_item _ _ known _ c.member_item-in_default-b.result (escape-common _ _ known _ _ _ (byte-read _ _ _ c.in-Some.ensures.lookup.0 c.in-Some.ensures.lookup.1) n.0.0.0.0.0.0.0.0.1 n.0.0.0.0.0.0.0.1 n.0.0.0.0.0.0.1 n.0.0.0.0.0.1 n.0.0.0.0.1 n.0.0.0.1 n.0.0.1 n.0.1 n.1 (⊎_elim (λ w. inl (omega arith)) (λ w. inr (omega arith)) c.in_default-b.branch-raw) (read_of member_of c.common_at-in_default-b.result) c.common_at-in_default-b.ensures) (c.member_item-in_default-b.ensures _ known)
+    same_item _ _ known _ c.common_item-in_default-b.result (escape-common _ _ known _ _ _ (byte-read _ _ _ c.in-Some.ensures.lookup.0 c.in-Some.ensures.lookup.1) n.0.0.0.0.0.0.0.0.1 n.0.0.0.0.0.0.0.1 n.0.0.0.0.0.0.1 n.0.0.0.0.0.1 n.0.0.0.0.1 n.0.0.0.1 n.0.0.1 n.0.1 n.1 (⊎_elim (λ w. inl (omega arith)) (λ w. inr (omega arith)) c.in_default-b.branch-raw) _ refl) (c.common_item-in_default-b.ensures _ known)

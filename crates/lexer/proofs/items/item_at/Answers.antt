@@ -1,9 +1,7 @@
 -- `item_at` meets its contract, by the byte that stands there.
 use mathlib.Core.Path.{refl}
-use lib.ListN.{get_or}
-use Rattle.syntax.specs.Sets.{single}
 use Rattle.lexemes.proofs.Bytes.{byte_at}
-use Rattle.lexer.proofs.ItemCases.{as-atom, atom-escape, atom-class, atom-dot, atom-caret, atom-dollar, atom-byte, holds-only}
+use Rattle.lexer.proofs.ItemCases.{as-atom, atom-escape, atom-class, atom-dot, atom-caret, atom-dollar, atom-byte}
 use Rattle.lexer.proofs.items.item_at.Goals as goal
 
 pub returns-in-92 : goal.returns-in-92
@@ -23,4 +21,4 @@ returns-in-36 c = λ known. as-atom _ known _ _ refl _ c.edge-in-36.result (atom
 
 pub returns-in_default : goal.returns-in_default
 returns-in_default c = λ known. let n = c.in_default.in_default-own.rest in
-    as-atom _ known _ _ c.ignores_case-folded.ensures _ c.byte_item-in_default.result (atom-byte _ _ known _ _ _ (byte_at _ _ c.requires.1) _ c.ignores_case-folded.ensures n.0.0.0.0.1 n.0.0.0.1 n.0.0.1 n.0.1 n.1) (c.byte_item-in_default.ensures _ _ known _ (holds-only _ (single (get_or c.args.rule.now c.args.at 0)) _ _ c.empty.ensures c.with_member-class.ensures))
+    as-atom _ known _ _ c.ignores_case-folded.ensures _ c.only_item.result (atom-byte _ _ known _ _ _ (byte_at _ _ c.requires.1) _ c.ignores_case-folded.ensures n.0.0.0.0.1 n.0.0.0.1 n.0.0.1 n.0.1 n.1) (c.only_item.ensures _ known)
