@@ -122,8 +122,8 @@ fn member_item(m: Reading<Member>, folded: bool, words: &mut [u32]) -> Reading<T
     only_item(member.value, folded, member.next, words)
 }
 
-// What a called reader answers takes room, which is cleared where the function begins that calls it. So this and the next stand apart from `escape_at`, and
-// `only_item` from `item_at`: there each item would pay for that room.
+// What a called function answers takes room, which is cleared where the function begins that calls it. So this and the next stand apart from `escape_at`,
+// and `only_item` from `item_at`: there each escape, and each item, would pay for that room too.
 
 // Up to three octal digits right behind the backslash, folded or not.
 fn octal_item(rule: &[u8], folded: bool, at: usize, words: &mut [u32]) -> Reading<Token>

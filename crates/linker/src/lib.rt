@@ -164,8 +164,8 @@ fn link_named(
     p
 }
 
-// The part at p, which goes on at `next` and uses the registers from r on. It answers where the part is entered. Most parts are items:
-// what links the others is not taken into this function, since each item would pay for its frame on the stack.
+// The part at p, which goes on at `next` and uses the registers from r on. It answers where the part is entered. What links
+// groups, repeats and references by name is not taken into this function, since each other item would pay for its frame on the stack.
 #[cycle(link_alternation_link_branches_link_chain_link_group_link_inside_link_part_link_plain_link_repeat)]
 fn link_part(
     area: &mut [u32],
