@@ -236,11 +236,14 @@ def killed(t):
     t.same("killed at each try, status", str(t.do("filter")[0]), "1")
     t.same("killed at each try, tries", t.tries(), [":"] * 3)
     t.same("killed at each try, what is seen", t.do("check")[1], t.commands["gap"] + "\n")
-    t.day(ALIKE)
-    t.kill("gateway", 2, 3)
-    status = t.do("filter", block="10K", added=re.search(r"`(--halt \S+)`", t.told).group(1))[0]
-    t.same("with --halt, status", [status], [value or 128 + number for block, _, value, number in t.rows() if block == 2])
-    t.same("with --halt, other blocks are not begun", str(len(t.rows()) < 15), "True")
+    # one block after another too, since with more all others may be done before the last try
+    halt = re.search(r"`(--halt \S+)`", t.told).group(1)
+    for name, added in (("with --halt", halt), ("with --halt, one job", "--jobs 1 " + halt)):
+        t.day(ALIKE)
+        t.kill("gateway", 2, 3)
+        status = t.do("filter", block="10K", added=added)[0]
+        t.same(name + ", status", [status], [value or 128 + number for block, _, value, number in t.rows() if block == 2])
+    t.same("with --halt, other blocks are not begun", [block for block, *_ in t.rows()], [1, 2])
 
 
 def rules(t):
