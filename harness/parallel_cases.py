@@ -236,13 +236,13 @@ def killed(t):
     t.same("killed at each try, status", str(t.do("filter")[0]), "1")
     t.same("killed at each try, tries", t.tries(), [":"] * 3)
     t.same("killed at each try, what is seen", t.do("check")[1], t.commands["gap"] + "\n")
-    # one block after another too, since with more all others may be done before the last try
+    # One job after another too, since with more all other blocks may be done before the last try; with more the first is killed, whose row waits for none.
     halt = re.search(r"`(--halt \S+)`", t.told).group(1)
-    for name, added in (("with --halt", halt), ("with --halt, one job", "--jobs 1 " + halt)):
+    for name, failed, added in (("with --halt", 1, halt), ("with --halt, one job", 2, "--jobs 1 " + halt)):
         t.day(ALIKE)
-        t.kill("gateway", 2, 3)
+        t.kill("gateway", failed, 3)
         status = t.do("filter", block="10K", added=added)[0]
-        t.same(name + ", status", [status], [value or 128 + number for block, _, value, number in t.rows() if block == 2])
+        t.same(name + ", status", [status], [value or 128 + number for block, _, value, number in t.rows() if block == failed])
     t.same("with --halt, other blocks are not begun", [block for block, *_ in t.rows()], [1, 2])
 
 
